@@ -124,6 +124,7 @@ WORDS = {
     "ordering_then": "the first, or the second if the first is `Equal`",
     "pos": "a number of `ℕ` as a number of `ℤ`",
     "remaining": "of a reader, the bytes that it has left, if they are known",
+    "sameb": "whether two values of the enum, whose cases hold nothing, are the same",
     "signed_decimal": "a number in decimal digits, after a `-` if it is below 0",
     "slice_get": "the element with this number, counted from 0, if there is one",
     "slice_index": "of a list of numbers the one at this index, counted from 0, or 0 after the end",
@@ -132,6 +133,7 @@ WORDS = {
     "sum": "the sum of the elements",
     "sum_by": "the sum of the numbers that are made of the elements",
     "take": "the first n elements, or all if there are fewer",
+    "the_type": "the enum of the values beside it",
     "then_cmp": "by the first order, and by the second where the first has `Equal`",
     "twos_complement": "the signed number that has this number of n bytes as its two's complement",
     "unwrap_or": "the value, or the given one if there is none",
@@ -261,7 +263,7 @@ def rows_of_members(rows):
 def imports(crate, file):
     """What the `use` lines of a file name: for each name a path and the name at its end, or no name for a module."""
     found = {}
-    for path, names, alias in re.findall(r"^\s*(?:ghost )?use (Rattle[\w.]+?)(?:\.\{(.*?)\}| as (\w+));?$",
+    for path, names, alias in re.findall(r"^\s*(?:ghost )?use ((?:Rattle|denote)[\w.]+?)(?:\.\{(.*?)\}| as (\w+));?$",
                                          source(crate, file), re.MULTILINE):
         found |= {name: (path, name) for name in names.split(", ")} if names else {alias: (path, None)}
     for path, names in re.findall(r"^use ([\w:]+)::(\w+|\{[^}]*\});$", source(crate, file), re.MULTILINE):
@@ -280,9 +282,11 @@ def types_of(crate):
 
 def follow(path, name):
     """What a name is at the end of a path, such as Rattle.capture_frame.specs.Units."""
-    _, crate, _, *rest = path.split(".")
-    if not (ROOT / "crates" / crate).exists():
+    head, crate, _, *rest = path.split(".")
+    if head != "Rattle" or not (ROOT / "crates" / crate).exists():
         return Word(crate, name)
+    if rest[0] == "contracts":
+        return Word("std", name)
     if rest[0] == "declared":
         file = next(at for at, part in enumerate(rest) if part[0].isupper())
         owner = name if rest[file] == "TheConstants" else rest[file]

@@ -1,5 +1,6 @@
 #include "begin.h"
 #include "met.h"
+#include "missed.h"
 #include "names.h"
 #include "side.h"
 #include "stacks.h"
@@ -52,5 +53,6 @@ void begin_tell_again(u64 number)
 	side_text(line);
 	names_tell_again(number);
 	met_tell_again();
+	missed_tell_again(number);
 	stacks_tell_again();
 }

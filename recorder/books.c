@@ -19,6 +19,15 @@ static const char *const names[] = { "state", "transactions", "stats" };	/* the 
 #define WHENS (sizeof whens / sizeof *whens)
 #define NAMES (sizeof names / sizeof *names)
 
+/* A copy that was made. */
+struct copy {
+	const char *when, *name;
+	u64 time, from, after, bytes;
+};
+
+static struct copy untold[NAMES];	/* of which the side list does not tell yet */
+static size_t untold_count;
+
 static void path_of(char *path, const char *out, const char *when, const char *name)
 {
 	snprintf(path, LONGEST_PATH, "%s.%s.%s", out, when, name);
@@ -86,31 +95,42 @@ static void copy_book(const char *out, const char *when, const char *name)
 {
 	char path[LONGEST_PATH];
 	struct file to;
-	u64 time = now(), from = kernel_last_number(), after = from;
+	struct copy copy = { .when = when, .name = name, .time = now(), .from = kernel_last_number() };
 	int book = open_book(name);
 	if (book < 0)
 		return;
+	copy.after = copy.from;
 	path_of(path, out, when, name);
 	int error = file_create(&to, path);
 	if (!error)
-		error = read_book(book, &to, &after);
+		error = read_book(book, &to, &copy.after);
 	if (!error)
 		error = file_flush(&to);
 	if (error)
 		file_remove(&to);
-	u64 bytes = to.bytes;
+	copy.bytes = to.bytes;
 	int end_error = file_close(&to);
 	close(book);
 	error = error ? error : end_error;
 	if (error)
 		complain("%s: %s; the driver's books are not copied", path, strerror(error));
 	else
-		side_line(time, "books %s %s from=%llu after=%llu bytes=%llu", when, name, (unsigned long long)from,
-			  (unsigned long long)after, (unsigned long long)bytes);
+		untold[untold_count++] = copy;
 }
 
 void books_copy(const char *out, const char *when)
 {
 	for (size_t i = 0; i < NAMES; i++)
 		copy_book(out, when, names[i]);
+}
+
+void books_tell(void)
+{
+	for (size_t i = 0; i < untold_count; i++) {
+		const struct copy *copy = untold + i;
+		side_line(copy->time, "books %s %s from=%llu after=%llu bytes=%llu", copy->when, copy->name,
+			  (unsigned long long)copy->from, (unsigned long long)copy->after,
+			  (unsigned long long)copy->bytes);
+	}
+	untold_count = 0;
 }

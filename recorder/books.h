@@ -6,6 +6,9 @@
 
 /* Returns the path of a copy that exists already, or NULL. */
 const char *books_in_the_way(const char *out);
-/* Copies the books, and says so in the side list. `when` is "begin" or "end". What can't be read is left out. */
+/* Copies the books. `when` is "begin" or "end". What can't be read is left out. */
 void books_copy(const char *out, const char *when);
+/* Says in the side list which copies were made since the last call. At the end it is called when all frames are
+ * written: with --files, one more file may be begun before that, and an older side list is removed. */
+void books_tell(void);
 #endif

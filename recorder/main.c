@@ -129,6 +129,7 @@ static void finish(struct ring *ring)
 	missed_tell();
 	window_end(kernel_last_number());
 	stacks_end();
+	books_tell();
 	side_line(stopped, "end recording after=%llu frames=%llu lost=%llu", (unsigned long long)window_last(),
 		  (unsigned long long)window_frames(), (unsigned long long)window_lost());
 }
@@ -232,6 +233,7 @@ int main(int count, char **words)
 	kernel_start();
 	begin_tell(options.no_attachments ? "none" : options.redact ? "redacted" : "whole");
 	books_copy(options.out, "begin");
+	books_tell();
 	side_flush();
 	program_go();
 	int error = record(&ring);

@@ -14,6 +14,8 @@ void missed_begin(void);
 /* Writes a line for each count that has grown since the last look. Called after the ring was taken, and before the
  * frames in it are written: so the line comes before each frame that was recorded after something was missed. */
 void missed_tell(void);
+/* Writes again, added up, what frames from this number on may lack. */
+void missed_tell_again(u64 number);
 /* How many since the beginning. */
 u64 missed_count(enum missed what);
 #endif

@@ -9,14 +9,14 @@ use Rattle.call_stacks.specs.declared.verdict.Verdict.{Verdict}
 use Rattle.call_stacks.specs.declared.verdict.Verdict.TheVariants.{Answered, Failed, Replied, Crossed, Open}
 use Rattle.audit_findings.specs.Calls.{is_unanswered}
 use Rattle.audit_findings.specs.Kept.{call_at_place}
-use Rattle.audit_findings.proofs.EventCountLaws.{count_made}
+use Rattle.summary_law.proofs.FilterLaws.{count_by-map}
 use Rattle.audit_findings.proofs.Kept.{kept_count}
 
 -- the calls with a verdict that lacks a reply are all kept, so counting the kept ones counts all of them
 pub kept_many : (test : Verdict → Bool) → ((verdict : Verdict) → test verdict ≡ true → lacks_reply verdict ≡ true) → (told : List (Opener EventRead))
     → how_many test (map call_at_place (with_verdict lacks_reply told)) ≡ how_many test told
 kept_many test lacks told =
-    count_made call_at_place (λ (o : Opener ℕ). test o.verdict) (with_verdict lacks_reply told)
+    count_by-map call_at_place (λ (o : Opener ℕ). test o.verdict) (with_verdict lacks_reply told)
     ∙ kept_count (λ (o : Opener EventRead). test o.verdict) (λ o. lacks_reply o.verdict) told (λ o there is. lacks o.verdict is)
 
 one_unanswered : (verdict : Verdict) → cond (is_crossed verdict) 1 0 + cond (is_open verdict) 1 0 ≡ cond (is_unanswered verdict) 1 0

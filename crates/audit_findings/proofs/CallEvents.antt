@@ -1,6 +1,7 @@
 -- What is read of an event for the calls of its thread names that event.
-use Rattle.std.proofs.Common.{◌≡◌, eqb, Bool, true, false, cond, List, Option, Some, None, refl, sym, ap, ◌∙◌}
+use Rattle.std.proofs.Common.{◌≡◌, eqb, List, Option, Some, None, refl, sym, ap, ◌∙◌}
 use Rattle.std.specs.Prelude.{◌&&◌, slice_get}
+use Rattle.std.proofs.lemmas.Option.{cond_some}
 use Rattle.event_core.specs.Events.{EventRead}
 use Rattle.call_stacks.specs.Calls.{Bracketed, is_oneway_mark, is_refused, open_count, opener_by, opener_read, refused_send, stray_read, unmatched_closers}
 use Rattle.call_stacks.specs.Matching.{is_closer, is_opener}
@@ -16,15 +17,6 @@ Reading Y = List (Bracketed EventRead) → Bracketed EventRead → List (Bracket
 abbrev pub send_read : Reading (RefusedSend EventRead)
 send_read before found later = refused_send found
 
--- what is read if a test passes
-pub told_if : {Y : Type 0} (passes : Bool) (x y : Y) → cond passes (Some x) None ≡ Some y → x ≡ y
-told_if true x y is = cc
-told_if false x y is = let no : ⊥ = cc in absurd no
-
-pub told_passes : {Y : Type 0} (passes : Bool) (x y : Y) → cond passes (Some x) None ≡ Some y → passes ≡ true
-told_passes true x y is = refl
-told_passes false x y is = let no : ⊥ = cc in absurd no
-
 opened_by : (event : EventRead) (answer : Option (Bracketed EventRead)) → (opener_by text_reads event answer).event ≡ event
 opened_by event None = refl
 opened_by event (Some answer) = refl
@@ -34,14 +26,14 @@ pub opener_event : (b l : List (Bracketed EventRead)) (found : Bracketed EventRe
     → o.event ≡ found.event
 opener_event b l found o is =
     let answer = slice_get (unmatched_closers l) 0 in
-    ap (λ (o : Opener EventRead). o.event) (sym (told_if (is_opener (side_of found.bracket)) (opener_by text_reads found.event answer) o is))
+    ap (λ (o : Opener EventRead). o.event) (sym (cond_some (is_opener (side_of found.bracket)) (opener_by text_reads found.event answer) o is).1)
     ∙ opened_by found.event answer
 
 pub stray_event : (b l : List (Bracketed EventRead)) (found : Bracketed EventRead) (e : EventRead) → stray_read b found l ≡ Some e → e ≡ found.event
-stray_event b l found e is = sym (told_if (is_closer (side_of found.bracket) && eqb (open_count b) 0) found.event e is)
+stray_event b l found e is = sym (cond_some (is_closer (side_of found.bracket) && eqb (open_count b) 0) found.event e is).1
 
 pub send_event : (b l : List (Bracketed EventRead)) (found : Bracketed EventRead) (s : RefusedSend EventRead) → send_read b found l ≡ Some s
     → s.event ≡ found.event
 send_event b l found s is =
     ap (λ (s : RefusedSend EventRead). s.event)
-    (sym (told_if (is_refused found.bracket) (record { event = found.event; oneway = is_oneway_mark found.before }) s is))
+    (sym (cond_some (is_refused found.bracket) (record { event = found.event; oneway = is_oneway_mark found.before }) s is).1)

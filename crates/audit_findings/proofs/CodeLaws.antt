@@ -30,8 +30,7 @@ use Rattle.audit_findings.specs.Codes.{code_row, code_rows}
 use Rattle.audit_findings.specs.RecordCounts.{times}
 use Rattle.audit_findings.proofs.KindWords.{kind_at, kind_at_place, kind_of_listed_word, not_true, one_place, one_word, place_of, word_is_listed}
 use Rattle.audit_findings.proofs.Kept.{in_back, in_front, in_kept, kept_count, kept_in}
-use Rattle.capture_frame.proofs.Pairs.{pairs_append, pairs_map}
-use Rattle.audit_findings.proofs.Rising.{pairs_unmap}
+use Rattle.capture_frame.proofs.Pairs.{pairs_append, pairs_map, pairs_unmap}
 
 -- a word of a list is counted there
 counted_at_least_once : (words : List ℕ) (word : ℕ) → Contains words word → 0 < count_by (λ w. eqb w word) words

@@ -1,26 +1,19 @@
 -- The counts of items of a process are counts of records over all events.
-use Rattle.std.proofs.Common.{◌≡◌, ℕ, ◌+◌, ℤ, pos, ◌-ℤ◌, Bool, true, false, cond, ◌&&◌, List, [], ◌∷◌, filter, filter_map, map, take, Option, None, refl, sym, ap, ap₂, subst, ◌∙◌, arith}
+use Rattle.std.proofs.Common.{◌≡◌, ℕ, ℤ, pos, ◌-ℤ◌, Bool, true, false, cond, ◌&&◌, List, [], ◌∷◌, filter, filter_map, map, take, Option, None, refl, sym, ap, ap₂, subst, ◌∙◌, arith}
 use Rattle.std.specs.List.{cons_option}
 use Rattle.std.specs.Option.{option_map_or}
 use Rattle.std.specs.Prelude.{◌≤ℤ◌, count_by}
 use Rattle.std.proofs.lemmas.Int.{ints}
 use Rattle.std.proofs.lemmas.List.{length-map, take-map}
-use Rattle.std.proofs.lemmas.List.Sums.{sum_by-cons}
 use Rattle.capture_frame.specs.Process.{same_process}
 use Rattle.capture_frame.specs.declared.process.Process.{Process}
 use Rattle.event_core.specs.Events.{EventRead, process_of}
 use Rattle.process_ledgers.specs.Processes.{items_of_process}
 use Rattle.summary_law.proofs.CountLaws.{is_counted, read_counts}
+use Rattle.summary_law.proofs.FilterLaws.{count_by-map}
 use Rattle.summary_law.specs.Count.{Change, IsCount, change_read, count_of, is_lower, is_raise, keeps, total}
 use Rattle.summary_law.specs.declared.count.Count.{Count}
 use Rattle.audit_findings.specs.EventCounts.{HasValue, difference_in}
-
--- how many of the things that are made of others pass a test
-pub count_made : {X Y : Type 0} (f : X → Y) (test : Y → Bool) (xs : List X) → count_by test (map f xs) ≡ count_by (λ x. test (f x)) xs
-count_made f test [] = refl
-count_made {X} {Y} f test (x ∷ xs) =
-    sum_by-cons (λ (y : Y). cond (test y) 1 0) (f x) (map f xs) ∙ ap (λ (n : ℕ). cond (test (f x)) 1 0 + n) (count_made f test xs)
-    ∙ sym (sum_by-cons (λ (x : X). cond (test (f x)) 1 0) x xs)
 
 -- what is read of the events that pass a test
 pub read_kept : {X Y : Type 0} (test : X → Bool) (read : X → Option Y) (xs : List X) → filter_map read (filter test xs) ≡ filter_map (λ x. cond (test x) (read x) None) xs
@@ -66,8 +59,8 @@ module _ {I : Type 0} (read : EventRead → Option I) (change : I → Change) (m
   total_is : (events : List EventRead) → total (changes events) ≡ difference_in process more less events
   total_is events =
       ap₂ (λ (a b : ℕ). pos a -ℤ pos b)
-      (count_made (change_read own change) is_raise events ∙ ap (λ (t : EventRead → Bool). count_by t events) (λ i e. own_raise e i))
-      (count_made (change_read own change) is_lower events ∙ ap (λ (t : EventRead → Bool). count_by t events) (λ i e. own_lower e i))
+      (count_by-map (change_read own change) is_raise events ∙ ap (λ (t : EventRead → Bool). count_by t events) (λ i e. own_raise e i))
+      (count_by-map (change_read own change) is_lower events ∙ ap (λ (t : EventRead → Bool). count_by t events) (λ i e. own_lower e i))
 
   prefix_is : (n : ℕ) (events : List EventRead) → total (take n (changes events)) ≡ difference_in process more less (take n events)
   prefix_is n events = ap total (take-map (change_read own change) n events) ∙ total_is (take n events)

@@ -16,9 +16,9 @@ use Rattle.capture_frame.specs.Envelope.{PlacedFrame}
 use Rattle.capture_frame.specs.declared.process.Process.{Process}
 use Rattle.event_core.specs.Events.{EventRead, event_of, events_of, events_of_frames, process_of}
 use Rattle.record_view.specs.Records.{records_of}
+use Rattle.event_core.specs.declared.pending.KeyEvent.{KeyEvent}
 use Rattle.event_core.specs.declared.pending.PendingChange.{PendingChange}
 use Rattle.event_core.specs.declared.pending.PendingChange.TheVariants.{Open, Close}
-use Rattle.event_core.specs.declared.pending.PendingItem.{PendingItem}
 use Rattle.pending_ledger.specs.Pending.{changes_of, closes, is_close, is_unclosed_item, was_open, is_stray_item}
 use Rattle.process_ledgers.specs.Items.{KeepsPlace}
 use Rattle.process_ledgers.specs.Processes.{process_of_placed, processes_of}
@@ -125,15 +125,15 @@ lists_sorted test frames rise lists are places moved sorted =
 
 -- ---- opens and closes
 
-module _ (read : EventRead → Option (PendingItem ℕ)) where
+module _ (read : EventRead → Option (ℕ × KeyEvent)) where
   abbrev reads : EventTest → List EventRead → EventRead → List EventRead → Option EventRead
   reads test = by_key same_process process_of (chosen test)
 
   abbrev Apart : Bool → Bool → Type 0
   Apart first second = (first ≡ false) ⊎ (second ≡ false)
 
-  change_apart : (b l : List (PendingItem ℕ)) (i : PendingItem ℕ) → Apart (is_unclosed_item (eq_by_cmp nat_cmp) b i l) (is_stray_item (eq_by_cmp nat_cmp) b i l)
-  change_apart b l i = one_way i.change (not (list_any (closes (eq_by_cmp nat_cmp) i.key) l)) (not (was_open (last_or None (changes_of (eq_by_cmp nat_cmp) i.key b))))
+  change_apart : (b l : List (ℕ × KeyEvent)) (i : ℕ × KeyEvent) → Apart (is_unclosed_item (eq_by_cmp nat_cmp) b i l) (is_stray_item (eq_by_cmp nat_cmp) b i l)
+  change_apart b l i = one_way i.1.change (not (list_any (closes (eq_by_cmp nat_cmp) i.0) l)) (not (was_open (last_or None (changes_of (eq_by_cmp nat_cmp) i.0 b))))
     where
       one_way : (change : PendingChange) (stays goes : Bool) → Apart (not (is_close change) && stays) (is_close change && goes)
       one_way Open stays goes = inr refl

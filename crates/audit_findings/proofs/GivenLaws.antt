@@ -1,6 +1,5 @@
 -- The events that a reader gives of a frame, following those of the frames before.
-use Rattle.std.proofs.Common.{◌≡◌, ◌<◌, Bool, true, false, cond, List, [], ◌∷◌, ◌++◌, map, Some, None, sym, ap, subst, ◌∙◌, append_assoc, arith, filter_map}
-use Rattle.std.specs.Option.{unwrap_or}
+use Rattle.std.proofs.Common.{◌≡◌, ◌<◌, List, [], ◌∷◌, ◌++◌, map, Some, sym, ap, subst, ◌∙◌, append_assoc, arith, filter_map}
 use Rattle.std.proofs.lemmas.List.{length-map, map-append}
 use Rattle.capture_frame.specs.Envelope.{PlacedFrame}
 use Rattle.capture_frame.specs.Process.{same_process}
@@ -14,6 +13,7 @@ use Rattle.process_ledgers.specs.Processes.{process_of_placed}
 use Rattle.summary_law.specs.InOrder.{SumsInOrder}
 use Rattle.summary_law.specs.declared.nothing.Nothing.{Nothing}
 use Rattle.std.specs.Prelude.{⊤}
+use Rattle.std.proofs.lemmas.Option.{cond_some}
 use Rattle.process_ledgers.specs.Concerns.{concerns, concerned}
 use Rattle.process_ledgers.specs.ProcessLedgers.{ArePlaced, SumsProcess, event_place}
 use Rattle.process_ledgers.specs.declared.process_ledgers.ProcessLedgers.{ProcessLedgers}
@@ -24,14 +24,12 @@ use Rattle.summary_law.specs.Fits.{PlacesRise}
 use Rattle.audit_findings.specs.Ledgers.{AreFewEvents, AreFewGiven}
 use Rattle.audit_findings.proofs.FewLaws.{few_halves}
 use Rattle.audit_findings.proofs.FrameLaws.{events-append, events_with}
-use Rattle.audit_findings.proofs.Rising.{pairs_unmap}
+use Rattle.capture_frame.proofs.Pairs.{pairs_unmap}
 
 concerned_there : (event : Event) (found : Process × Event) → concerned event ≡ Some found → found.1.place ≡ event.place
-concerned_there event found is = by_kind (concerns event.kind) is
-  where
-    by_kind : (b : Bool) → cond b (Some (process_of (event_text event), event)) None ≡ Some found → found.1.place ≡ event.place
-    by_kind true is = sym (ap (λ o. (unwrap_or o found).1.place) is)
-    by_kind false is = let no : ⊥ = cc in absurd no
+concerned_there event found is =
+    let same = (cond_some (concerns event.kind) (process_of (event_text event), event) found is).1 in
+    ap (λ (pair : Process × Event). pair.1.place) (sym same)
 
 -- the ledgers of all processes are the sums of these pairs; and pairs that can be summed so
 abbrev pub SumsAll : InOrder Process ProcessLedgers Event → List (Process × Event) → Type 0

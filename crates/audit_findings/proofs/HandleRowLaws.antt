@@ -1,5 +1,6 @@
 -- The rows of `handles` are those of the counts over all events.
 use Rattle.std.proofs.Common.{◌≡◌, ℕ, ◌+◌, ◌<◌, Bool, true, false, cond, eqb, List, map, refl, sym, ap₂, subst, ◌∙◌, arith}
+use Rattle.std.specs.Map.{keys_of}
 use Rattle.std.specs.Ordering.{nat_cmp}
 use Rattle.std.specs.Prelude.{count_by}
 use Rattle.std.proofs.lemmas.Bool.{eq-eqb, eqb-true}
@@ -9,10 +10,10 @@ use Rattle.std.proofs.lemmas.Map.Lookups.{exact_unsigned}
 use Rattle.capture_frame.specs.Envelope.{PlacedFrame}
 use Rattle.capture_frame.specs.declared.process.Process.{Process}
 use Rattle.event_core.specs.Events.{EventRead, events_of_frames}
-use Rattle.event_core.specs.declared.handle.HandleItem.{HandleItem}
+use Rattle.event_core.specs.Handles.{HandleItem}
 use Rattle.event_core.specs.declared.strength.Strength.{Strength}
 use Rattle.event_core.specs.declared.strength.Strength.TheVariants.{Strong, Weak}
-use Rattle.handle_ledger.specs.Handles.{handle_count, handle_of}
+use Rattle.handle_ledger.specs.Handles.{handle_count}
 use Rattle.handle_ledger.specs.Held.{Held, handles_of, held_count, held_row}
 use Rattle.handle_ledger.specs.declared.held_row.HeldRow.{HeldRow}
 use Rattle.process_ledgers.specs.Items.{handle_item_of}
@@ -24,7 +25,8 @@ use Rattle.audit_findings.specs.Handles.{handle_references, handles_in}
 use Rattle.audit_findings.specs.Held.{held_of_process, unweighed}
 use Rattle.audit_findings.specs.Places.{RiseInPlace}
 use Rattle.audit_findings.specs.RowsInTurn.{AreRowsInTurn}
-use Rattle.audit_findings.proofs.EventCountLaws.{count_made, items_value, value_once}
+use Rattle.summary_law.proofs.FilterLaws.{count_by-map}
+use Rattle.audit_findings.proofs.EventCountLaws.{items_value, value_once}
 use Rattle.audit_findings.proofs.HandleValues.{change, handle_lower, handle_named, handle_raise}
 use Rattle.audit_findings.proofs.HeldObjects.{both_strengths, held_is, strong_held, weak_held}
 use Rattle.audit_findings.proofs.KeyRows.{count_items, counted_in, in_counted, rows_exact, rows_rising}
@@ -47,11 +49,11 @@ module _ (events : List EventRead) (rise : RiseInPlace events) (process : Proces
   named handle =
       let test : ℕ → Bool = λ k. eqb k handle in
       let own = held_of_process events process in
-      let listed_and_held : count_by test (handles_of items held) ≡ count_by test (map handle_of items) + count_by test (map (λ (r : Held × ℕ). r.0.0) held)
-      = sum_by-append (λ (k : ℕ). cond (test k) 1 0) (map handle_of items) (map (λ (r : Held × ℕ). r.0.0) held) in
-      let listed : count_by test (map handle_of items) ≡ times_in process (names_handle changes_handle handle) events
-      = count_made handle_of test items
-      ∙ count_items handle_item_of (λ item. test (handle_of item)) (names_handle changes_handle handle) (λ e. handle_named handle e.kind e.payload) process events in
+      let listed_and_held : count_by test (handles_of items held) ≡ count_by test (keys_of items) + count_by test (map (λ (r : Held × ℕ). r.0.0) held)
+      = sum_by-append (λ (k : ℕ). cond (test k) 1 0) (keys_of items) (map (λ (r : Held × ℕ). r.0.0) held) in
+      let listed : count_by test (keys_of items) ≡ times_in process (names_handle changes_handle handle) events
+      = count_by-map (λ (item : HandleItem). item.0) test items
+      ∙ count_items handle_item_of (λ item. test item.0) (names_handle changes_handle handle) (λ e. handle_named handle e.kind e.payload) process events in
       listed_and_held
       ∙ ap₂ (λ (a b : ℕ). a + b) listed
       (both_strengths handle own ∙ ap₂ (λ (a b : ℕ). a + b) (sym (held_is handle false own)) (sym (held_is handle true own)))
@@ -69,10 +71,9 @@ module _ (events : List EventRead) (rise : RiseInPlace events) (process : Proces
     held_weak = weak_held events rise process handle;
   }
 
-  whole : (row : HeldRow) → IsHandleRow events process row
-      → In row.taken.handle (handles_of items held) × (held_row items held row.taken.handle ≡ row)
+  whole : (row : HeldRow) → IsHandleRow events process row → In row.handle (handles_of items held) × (held_row items held row.handle ≡ row)
   whole row is =
-      let handle = row.taken.handle in
+      let handle = row.handle in
       let strong = value_once (handle_value process handle Strong) events (handle_count items handle Strong) row.taken.strong (counts handle Strong) is.strong in
       let weak = value_once (handle_value process handle Weak) events (handle_count items handle Weak) row.taken.weak (counts handle Weak) is.weak in
       let held_strong : held_count held handle false ≡ row.held_strong = strong_held events rise process handle ∙ sym is.held_strong in
@@ -81,11 +82,11 @@ module _ (events : List EventRead) (rise : RiseInPlace events) (process : Proces
       = subst (λ (n : ℕ). 0 < n)
       (sym (named handle ∙ ap₂ (λ (a b : ℕ). times_in process (names_handle changes_handle handle) events + a + b) held_strong held_weak)) is.listed in (
         in_counted (λ k. eqb k handle) handle (λ k same. eqb-true k handle same) (handles_of items held) listed,
-        λ i. record { taken = record { handle = handle; strong = strong i; weak = weak i }; held_strong = held_strong i; held_weak = held_weak i },
+        λ i. record { handle = handle; taken = record { strong = strong i; weak = weak i }; held_strong = held_strong i; held_weak = held_weak i },
       )
 
 pub handle_rows_are : (frames : List PlacedFrame) → RiseInPlace (events_of_frames frames)
-    → AreRowsInTurn nat_cmp (λ (row : HeldRow). row.taken.handle) (IsHandleRow (events_of_frames frames)) (processes_of frames)
+    → AreRowsInTurn nat_cmp (λ (row : HeldRow). row.handle) (IsHandleRow (events_of_frames frames)) (processes_of frames)
     (handle_references frames).rows
 handle_rows_are frames rise =
     let events = events_of_frames frames in
@@ -95,8 +96,8 @@ handle_rows_are frames rise =
       own = handles_in events;
       rows_are = refl;
       rising = λ process.
-          rows_rising nat_cmp nat_cmp_total exact_unsigned (λ (row : HeldRow). row.taken.handle) (row_of process) (λ handle. refl) (handles process);
+          rows_rising nat_cmp nat_cmp_total exact_unsigned (λ (row : HeldRow). row.handle) (row_of process) (λ handle. refl) (handles process);
       exact = λ process.
-          rows_exact nat_cmp nat_cmp_total exact_unsigned (λ (row : HeldRow). row.taken.handle) (row_of process) (λ handle. refl) (handles process)
+          rows_exact nat_cmp nat_cmp_total exact_unsigned (λ (row : HeldRow). row.handle) (row_of process) (λ handle. refl) (handles process)
           (IsHandleRow events process) (sound events rise process) (whole events rise process);
     }

@@ -5,11 +5,10 @@ use Rattle.std.specs.Ordering.{eq_by_cmp, nat_cmp}
 use Rattle.binder_code.specs.declared.record_kind.Kind.{Kind}
 use Rattle.binder_code.specs.declared.record_kind.Kind.TheVariants.{BcAcquire, BcDecrefs, BcIncrefs, BcRelease}
 use Rattle.capture_frame.specs.Envelope.{number_at}
-use Rattle.event_core.specs.Handles.{handle_item}
-use Rattle.event_core.specs.declared.handle.HandleItem.{HandleItem}
+use Rattle.event_core.specs.Handles.{HandleItem, handle_item}
 use Rattle.event_core.specs.declared.strength.Strength.{Strength}
 use Rattle.event_core.specs.declared.strength.Strength.TheVariants.{Strong, Weak}
-use Rattle.handle_ledger.specs.Handles.{handle_change, handle_of}
+use Rattle.handle_ledger.specs.Handles.{handle_change}
 use Rattle.handle_ledger.specs.Rows.{change_at}
 use Rattle.summary_law.specs.Count.{Change, is_lower, is_raise, keeps, lowers, raises}
 use Rattle.audit_findings.specs.HandleRows.{changes_handle, gives_back, takes}
@@ -34,7 +33,7 @@ never_lower false change not = refl
 
 module _ (handle : ℕ) where
   abbrev pub change : Strength → HandleItem → Change
-  change strength item = change_at nat_cmp handle_of (handle_change strength) handle item
+  change strength item = change_at nat_cmp (handle_change strength) handle item
 
   abbrev same : List ℕ → Bool
   same payload = eq_by_cmp nat_cmp handle (number_at 4 0 payload)
@@ -65,7 +64,7 @@ module _ (handle : ℕ) where
 
   -- an event has an item of the handle if it names the handle
   pub handle_named : (kind : Kind) (payload : List ℕ)
-      → option_map_or (λ item. eqb (handle_of item) handle) (handle_item kind payload) false ≡ (changes_handle kind && eqb (number_at 4 0 payload) handle)
+      → option_map_or (λ (item : HandleItem). eqb item.0 handle) (handle_item kind payload) false ≡ (changes_handle kind && eqb (number_at 4 0 payload) handle)
   handle_named BcAcquire payload = refl
   handle_named BcRelease payload = refl
   handle_named BcIncrefs payload = refl

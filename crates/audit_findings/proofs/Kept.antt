@@ -1,5 +1,5 @@
 -- What is kept of a list, and what is in a list that is filtered, joined or rising.
-use Rattle.std.proofs.Common.{◌≡◌, ℕ, ◌+◌, inl, inr, Bool, true, false, cond, List, [], ◌∷◌, ◌++◌, map, Option, Some, None, refl, sym, ap, ◌∙◌, arith}
+use Rattle.std.proofs.Common.{◌≡◌, ℕ, ◌+◌, inl, inr, Bool, true, false, cond, List, [], ◌∷◌, ◌++◌, Option, Some, None, refl, sym, ap, ◌∙◌, arith}
 use Rattle.std.specs.Prelude.{count_by, filter}
 use Rattle.std.proofs.lemmas.List.Sums.{sum_by-cons}
 use Rattle.std.specs.List.{cons_option, filter_map}
@@ -22,35 +22,6 @@ kept_in test (y ∷ ys) x (inl is) passes = rw (ap test (sym is) ∙ passes) (in
 kept_in test (y ∷ ys) x (inr there) passes =
     let rest = kept_in test ys x there passes in
     elim (test y) as (λ b. In x (cond b (y ∷ filter test ys) (filter test ys))) [ true ↦ inr rest | false ↦ rest ]
-
--- to keep some of what is made of a list is to keep the elements that it is made of
-pub kept_map : {X Y : Type 0} (f : X → Y) (test : Y → Bool) (xs : List X) → filter test (map f xs) ≡ map f (filter (λ x. test (f x)) xs)
-kept_map f test [] = refl
-kept_map {X} {Y} f test (x ∷ xs) =
-    let rest = kept_map f test xs in
-    elim (test (f x)) as (λ b. cond b (f x ∷ filter test (map f xs)) (filter test (map f xs))
-    ≡ map f (cond b (x ∷ filter (λ x. test (f x)) xs) (filter (λ x. test (f x)) xs))) [
-      | true ↦ ap (λ (t : List Y). f x ∷ t) rest
-      | false ↦ rest
-    ]
-
--- the order of two tests does not matter
-pub kept_swap : {X : Type 0} (test other : X → Bool) (xs : List X) → filter test (filter other xs) ≡ filter other (filter test xs)
-kept_swap test other [] = refl
-kept_swap {X} test other (x ∷ xs) =
-    let first = filter other xs in
-    let second = filter test xs in
-    let rest = kept_swap test other xs in
-    elim (other x) as (λ b. (other x ≡ b) → filter test (cond b (x ∷ first) first) ≡ filter other (cond (test x) (x ∷ second) second)) [
-      | true ↦ λ is. elim (test x) as (λ c. cond c (x ∷ filter test first) (filter test first) ≡ filter other (cond c (x ∷ second) second)) [
-        | true ↦ ap (λ (t : List X). x ∷ t) rest ∙ sym (ap (λ (b : Bool). cond b (x ∷ filter other second) (filter other second)) is)
-        | false ↦ rest
-      ]
-      | false ↦ λ is. elim (test x) as (λ c. filter test first ≡ filter other (cond c (x ∷ second) second)) [
-        | true ↦ rest ∙ sym (ap (λ (b : Bool). cond b (x ∷ filter other second) (filter other second)) is)
-        | false ↦ rest
-      ]
-    ] refl
 
 -- if all that pass one test pass another, then among those that pass the other as many pass the one
 pub kept_count : {X : Type 0} (test other : X → Bool) (xs : List X) → ((x : X) → In x xs → test x ≡ true → other x ≡ true)

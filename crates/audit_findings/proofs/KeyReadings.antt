@@ -3,11 +3,11 @@ use Rattle.std.proofs.Common.{◌≡◌, Bool, true, false, cond, List, [], ◌�
 use Rattle.std.specs.Cmp.{IsEquivalence}
 use Rattle.std.specs.List.{cons_option}
 use Rattle.std.proofs.lemmas.List.Elements.{filter-append}
+use Rattle.std.proofs.lemmas.Option.{cond_some}
 use Rattle.pending_ledger.proofs.ListLaws.{read_split}
 use Rattle.summary_law.proofs.Members.{In}
 use Rattle.summary_law.proofs.ReadingLaws.{at-read, read-at}
 use Rattle.summary_law.specs.Readings.{by_key, read_all, with_key}
-use Rattle.audit_findings.proofs.CallEvents.{told_if}
 
 -- the element itself, if it passes a test
 abbrev kept_one : {X : Type 0} → (X → Bool) → X → Option X
@@ -46,7 +46,7 @@ module _ {K X Y : Type 0} {eq : K → K → Bool} (laws : IsEquivalence eq) (key
       let at = read-at read [] (own xs) y there in
       let test : X → Bool = λ z. eq (key (of y)) (key z) in
       let split = read_split (kept_one test) xs at.0 at.1 at.2 (sym (filter_made test xs) ∙ at.3) in
-      let same : split.here ≡ at.1 = told_if (test split.here) split.here at.1 split.gives in
+      let same : split.here ≡ at.1 = (cond_some (test split.here) split.here at.1 split.gives).1 in
       let named : of y ≡ split.here = names at.0 at.1 at.2 y at.4 ∙ sym same in
       let before : own split.before ≡ at.0 = filter_made test split.before ∙ split.front_is in
       let later : own split.after ≡ at.2 = filter_made test split.after ∙ split.back_is in

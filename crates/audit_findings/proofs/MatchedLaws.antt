@@ -1,6 +1,7 @@
 -- The findings of the calls of all threads, by matching.
 use Rattle.std.proofs.Common.{◌≡◌, Bool, true, false, cond, List, [], ◌∷◌, filter_map, fold, Option, Some, None, inl, inr, refl, sym, ap, subst, ◌∙◌}
 use Rattle.std.specs.List.{cons_option}
+use Rattle.std.proofs.lemmas.Option.{cond_some}
 use Rattle.capture_frame.proofs.ProcessLaws.{same_thread_equiv}
 use Rattle.capture_frame.specs.Process.{same_thread}
 use Rattle.event_core.specs.Events.{EventRead, thread_of}
@@ -19,7 +20,7 @@ use Rattle.audit_findings.specs.MatchedCalls.{AreMatchedCalls, IsCallOf, IsRefus
 use Rattle.audit_findings.specs.Places.{RiseInPlace}
 use Rattle.audit_findings.specs.TextReads.{text_reads}
 use Rattle.audit_findings.specs.Threads.{events_in_thread, in_threads}
-use Rattle.audit_findings.proofs.CallEvents.{Reading, opener_event, send_event, send_read, stray_event, told_if}
+use Rattle.audit_findings.proofs.CallEvents.{Reading, opener_event, send_event, send_read, stray_event}
 use Rattle.audit_findings.proofs.Kept.{read_from}
 use Rattle.audit_findings.proofs.KeyReadings.{own_read, read_of_own}
 use Rattle.audit_findings.proofs.Rising.{rising_kept}
@@ -94,7 +95,7 @@ module _ (events : List EventRead) (rise : RiseInPlace events) where
           → (found.bracket ≡ Refused) × (s.event ≡ found.event) × (s.oneway ≡ is_oneway_mark found.before)
       by_test true passes is =
           let made : RefusedSend EventRead = record { event = found.event; oneway = is_oneway_mark found.before } in
-          let same : s ≡ made = sym (told_if true made s is) in
+          let same : s ≡ made = sym (cond_some true made s is).1 in
           (refused_only found.bracket passes, ap (λ (t : RefusedSend EventRead). t.event) same, ap (λ (t : RefusedSend EventRead). t.oneway) same)
       by_test false fails is = let no : ⊥ = cc in absurd no
 

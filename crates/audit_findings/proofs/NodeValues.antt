@@ -7,12 +7,12 @@ use Rattle.std.specs.declared.cmp.Ordering.TheVariants.{Equal, Greater, Less}
 use Rattle.binder_code.specs.declared.record_kind.Kind.{Kind}
 use Rattle.binder_code.specs.declared.record_kind.Kind.TheVariants.{BcAcquireDone, BcIncrefsDone, BrAcquire, BrDecrefs, BrIncrefs, BrRelease}
 use Rattle.capture_frame.specs.Envelope.{number_at}
-use Rattle.event_core.specs.Nodes.{node_item, node_key}
-use Rattle.event_core.specs.declared.node.NodeItem.{NodeItem}
+use Rattle.event_core.specs.Nodes.{NodeItem, node_item, node_key}
+use Rattle.event_core.specs.declared.node.NodeChange.{NodeChange}
 use Rattle.event_core.specs.declared.node.NodeKey.{NodeKey}
 use Rattle.event_core.specs.declared.strength.Strength.{Strength}
 use Rattle.event_core.specs.declared.strength.Strength.TheVariants.{Strong, Weak}
-use Rattle.handle_ledger.specs.Nodes.{node_change, node_cmp, node_due_change, node_of}
+use Rattle.handle_ledger.specs.Nodes.{node_change, node_cmp, node_due_change}
 use Rattle.handle_ledger.specs.Rows.{change_at}
 use Rattle.summary_law.specs.Count.{Change, is_lower, is_raise, keeps, lowers, raises}
 use Rattle.audit_findings.specs.NodeRows.{acknowledges, asks, changes_node, lets_go}
@@ -31,8 +31,8 @@ same_node key other =
     ∙ ap₂ (λ (a b : Bool). a && b) (same_key key.ptr other.ptr) (same_key key.cookie other.cookie)
 
 module _ (key : NodeKey) where
-  abbrev pub change : (Strength → NodeItem → Change) → Strength → NodeItem → Change
-  change does strength item = change_at node_cmp node_of (does strength) key item
+  abbrev pub change : (Strength → Strength × NodeChange → Change) → Strength → NodeItem → Change
+  change does strength item = change_at node_cmp (does strength) key item
 
   abbrev same : List ℕ → Bool
   same payload = eq_by_cmp node_cmp key (node_key payload)
@@ -109,7 +109,7 @@ module _ (key : NodeKey) where
 
   -- an event has an item of the node if it names the node
   pub node_named : (kind : Kind) (payload : List ℕ)
-      → option_map_or (λ (item : NodeItem). eq_by_cmp node_cmp key (node_of item)) (node_item kind payload) false ≡ (changes_node kind && named payload)
+      → option_map_or (λ (item : NodeItem). eq_by_cmp node_cmp key item.0) (node_item kind payload) false ≡ (changes_node kind && named payload)
   node_named BrAcquire payload = is_named payload
   node_named BrRelease payload = is_named payload
   node_named BcAcquireDone payload = is_named payload

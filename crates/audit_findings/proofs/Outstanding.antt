@@ -6,6 +6,7 @@ use Rattle.std.specs.Option.{option_map_or}
 use Rattle.std.specs.Ordering.{eq_by_cmp, nat_cmp}
 use Rattle.std.proofs.lemmas.Bool.{and_parts, and_right, cases_Bool, eq-eqb, lt-ltb, ltb-true}
 use Rattle.std.proofs.lemmas.List.Folds.{list_any-append}
+use Rattle.std.proofs.lemmas.Option.{cond_some}
 use Rattle.binder_code.specs.declared.record_kind.Kind.{Kind}
 use Rattle.binder_code.specs.declared.record_kind.Kind.TheVariants.{BcFreeBuffer, BrReply, BrTransaction, BrTransactionSecCtx}
 use Rattle.capture_frame.specs.Envelope.{number_at}
@@ -23,7 +24,6 @@ use Rattle.transaction_view.specs.Transaction.{buffer}
 use Rattle.audit_findings.specs.Buffers.{is_leaked}
 use Rattle.audit_findings.specs.HandleRows.{delivers, frees, frees_after, is_outstanding}
 use Rattle.audit_findings.specs.Places.{RiseInPlace, passing_in}
-use Rattle.audit_findings.proofs.CallEvents.{told_passes}
 use Rattle.audit_findings.proofs.CodeLaws.{same_key}
 use Rattle.audit_findings.proofs.EventLists.{place_of_event}
 use Rattle.audit_findings.proofs.HandleRows.{among_at, is_among, listed_there}
@@ -179,7 +179,7 @@ module _ (events : List EventRead) (rise : RiseInPlace events) (process : Proces
           let at = read-at (chosen is_leaked) [] own other.0 other.1 in
           let itself : other.0 ≡ at.1 = chosen-is is_leaked at.0 at.1 at.2 other.0 at.4 in
           let split : own ≡ at.0 ++ e ∷ at.2 = at.3 ∙ ap (λ (x : EventRead). at.0 ++ x ∷ at.2) (sym itself ∙ same) in
-          let leaked : is_leaked at.0 at.1 at.2 ≡ true = told_passes (is_leaked at.0 at.1 at.2) at.1 other.0 at.4 in
+          let leaked : is_leaked at.0 at.1 at.2 ≡ true = (cond_some (is_leaked at.0 at.1 at.2) at.1 other.0 at.4).0 in
           let kept = in_kept in_process events e (subst (In e) (sym split) (in_middle at.0 e at.2)) in
           sym (leaked_there at.0 e at.2 split kept.1) ∙ ap (λ (x : EventRead). is_leaked at.0 x at.2) (sym same ∙ itself) ∙ leaked
 

@@ -1,9 +1,8 @@
 -- Lists whose places rise: what is read from them, what is kept of them, and such lists joined.
-use Rattle.std.proofs.Common.{◌≡◌, ℕ, ◌+◌, ◌<◌, Bool, List, [], ◌∷◌, ◌++◌, length, map, Option, Some, sym, subst, get_or, arith}
+use Rattle.std.proofs.Common.{◌≡◌, ℕ, ◌+◌, ◌<◌, Bool, List, [], ◌∷◌, ◌++◌, map, Option, Some, sym, subst, get_or, arith}
 use Rattle.std.specs.Prelude.{All, AllPairs, filter}
 use Rattle.std.specs.List.{flat_map, filter_map}
 use Rattle.std.specs.List.Sorted.{IsStrictlyIncreasing}
-use Rattle.std.proofs.lemmas.List.{get_or-map, length-map}
 use Rattle.std.proofs.lemmas.List.Concat.{flat_map-cons}
 use Rattle.std.proofs.lemmas.List.Elements.{All-append, All-cons, All-head, All-nil, All-tail}
 use Rattle.std.proofs.lemmas.List.Kept.{AllPairs-filter}
@@ -19,13 +18,6 @@ pairs_before R [] y ys all = All-nil (λ x. R x y)
 pairs_before R (x ∷ xs) y ys all =
     All-cons (λ a. R a y) x xs (All-head (R x) y ys (all_halves (R x) xs (y ∷ ys) (pairs_head R x (xs ++ y ∷ ys) all)).1)
     (pairs_before R xs y ys (pairs_tail R x (xs ++ y ∷ ys) all))
-
-pub pairs_unmap : {X Y : Type 0} (R : Y → Y → Type 0) (f : X → Y) (xs : List X) → AllPairs R (map f xs) → AllPairs (λ a b. R (f a) (f b)) xs
-pairs_unmap {X} {Y} R f xs all i j d below within =
-    let long = length-map xs f in
-    let inside : i < length xs = omega (arith, below, within) in
-    subst (λ (y : Y). R (f (get_or xs i d)) y) (get_or-map f xs j d (f d) within)
-    (subst (λ (x : Y). R x (get_or (map f xs) j (f d))) (get_or-map f xs i d (f d) inside) (all i j (f d) below (omega (arith, long, within))))
 
 -- what holds of each list holds in all of them
 pub all_flat : {X Y : Type 0} (P : Y → Type 0) (of : X → List Y) (xs : List X) → All (λ x. All P (of x)) xs → All P (flat_map of xs)

@@ -5,6 +5,7 @@ use Rattle.std.specs.List.{fold, filter_map, last_or, list_any}
 use Rattle.std.specs.Ordering.{eq_by_cmp, nat_cmp}
 use Rattle.std.specs.Option.{option_map, option_map_or}
 use Rattle.std.proofs.lemmas.List.Elements.{All-contains_itself, All-filter, All-map, All-weaker}
+use Rattle.std.proofs.lemmas.Option.{cond_some}
 use Rattle.binder_code.specs.declared.record_kind.Kind.{Kind}
 use Rattle.binder_code.specs.declared.record_kind.Kind.TheVariants.{BcTransaction, BcTransactionSg, BrTransaction, BrTransactionSecCtx, BrReply, BcReply, BcReplySg, BcFreeBuffer, BcRequestDeathNotification, BcClearDeathNotification, BcDeadBinderDone, BrDeadBinder, BrClearDeathNotificationDone, BrDeadReply, BrFailedReply, BrFrozenReply}
 use Rattle.capture_frame.specs.Envelope.{PlacedFrame}
@@ -18,9 +19,9 @@ use Rattle.event_core.specs.Events.{EventRead, events_of_frames, process_of, thr
 use Rattle.event_core.specs.Requests.{request_item}
 use Rattle.event_core.specs.declared.marks.Mark.{Mark}
 use Rattle.event_core.specs.declared.marks.Mark.TheVariants.{Oneway, SentReply}
+use Rattle.event_core.specs.declared.pending.KeyEvent.{KeyEvent}
 use Rattle.event_core.specs.declared.pending.PendingChange.{PendingChange}
 use Rattle.event_core.specs.declared.pending.PendingChange.TheVariants.{Open, Close}
-use Rattle.event_core.specs.declared.pending.PendingItem.{PendingItem}
 use Rattle.event_core.specs.declared.request.RequestItem.{RequestItem}
 use Rattle.call_stacks.specs.Calls.{Bracketed, as_bracketed, bracket_read, bracketed_of, bracketed_with, mark_after, opener_by, opener_read, stray_read, unmatched_closers, with_verdict}
 use Rattle.call_stacks.specs.Matching.{is_opener}
@@ -44,7 +45,7 @@ use Rattle.audit_findings.specs.Requests.{is_standing_request, standing_requests
 use Rattle.audit_findings.specs.TextReads.{text_reads}
 use Rattle.audit_findings.specs.Threads.{in_threads}
 use Rattle.audit_findings.specs.declared.objects.BadRow.{BadRow}
-use Rattle.audit_findings.proofs.CallEvents.{Reading, opener_event, send_event, send_read, stray_event, told_passes}
+use Rattle.audit_findings.proofs.CallEvents.{Reading, opener_event, send_event, send_read, stray_event}
 use Rattle.audit_findings.proofs.Kept.{read_from}
 
 -- one of these events, with a record of one of these kinds
@@ -75,7 +76,7 @@ listed_there kinds test each events =
     (λ b e l y is.
     let before = with_key same_process process_of (process_of e) b in
     let later = with_key same_process process_of (process_of e) l in
-    (chosen-is test before e later y is, each before e later (told_passes (test before e later) e y is)))
+    (chosen-is test before e later y is, each before e later (cond_some (test before e later) e y is).0))
     events
 
 -- if an event passes a test of its item, it has one, which passes
@@ -99,19 +100,19 @@ is_closed_by : (change : PendingChange) (rest : Bool) → (is_close change && re
 is_closed_by Open rest is = let none : ⊥ = cc in absurd none
 is_closed_by Close rest is = refl
 
-unclosed_opens : (read : EventRead → Option (PendingItem ℕ)) (b : List EventRead) (e : EventRead) (l : List EventRead) → is_unclosed read b e l ≡ true
-    → (item : PendingItem ℕ) × (read e ≡ Some item) × (item.change ≡ Open)
+unclosed_opens : (read : EventRead → Option (ℕ × KeyEvent)) (b : List EventRead) (e : EventRead) (l : List EventRead) → is_unclosed read b e l ≡ true
+    → (item : ℕ × KeyEvent) × (read e ≡ Some item) × (item.1.change ≡ Open)
 unclosed_opens read b e l passes =
     let found = item_passes read (is_unclosed_item (eq_by_cmp nat_cmp)) b e l passes in
-    let rest = not (list_any (closes (eq_by_cmp nat_cmp) found.0.key) (filter_map read l)) in
-    (found.0, found.1, is_opened found.0.change rest found.2)
+    let rest = not (list_any (closes (eq_by_cmp nat_cmp) found.0.0) (filter_map read l)) in
+    (found.0, found.1, is_opened found.0.1.change rest found.2)
 
-stray_closes : (read : EventRead → Option (PendingItem ℕ)) (b : List EventRead) (e : EventRead) (l : List EventRead) → is_stray_close read b e l ≡ true
-    → (item : PendingItem ℕ) × (read e ≡ Some item) × (item.change ≡ Close)
+stray_closes : (read : EventRead → Option (ℕ × KeyEvent)) (b : List EventRead) (e : EventRead) (l : List EventRead) → is_stray_close read b e l ≡ true
+    → (item : ℕ × KeyEvent) × (read e ≡ Some item) × (item.1.change ≡ Close)
 stray_closes read b e l passes =
     let found = item_passes read (is_stray_item (eq_by_cmp nat_cmp)) b e l passes in
-    let rest = not (was_open (last_or None (changes_of (eq_by_cmp nat_cmp) found.0.key (filter_map read b)))) in
-    (found.0, found.1, is_closed_by found.0.change rest found.2)
+    let rest = not (was_open (last_or None (changes_of (eq_by_cmp nat_cmp) found.0.0 (filter_map read b)))) in
+    (found.0, found.1, is_closed_by found.0.1.change rest found.2)
 
 -- ---- the kinds of each section
 
@@ -137,8 +138,8 @@ is_of_clear BcClearDeathNotification = true
 is_of_clear BrClearDeathNotificationDone = true
 is_of_clear _ = false
 
-delivered : (place : ℕ) (kind : Kind) (payload : List ℕ) (item : PendingItem ℕ) → option_map buffer_pending (buffer_item place kind payload) ≡ Some item
-    → item.change ≡ Open → has_transaction_data kind ≡ true
+delivered : (place : ℕ) (kind : Kind) (payload : List ℕ) (item : ℕ × KeyEvent) → option_map buffer_pending (buffer_item place kind payload) ≡ Some item
+    → item.1.change ≡ Open → has_transaction_data kind ≡ true
 delivered place BrTransaction payload item is opens = refl
 delivered place BrTransactionSecCtx payload item is opens = refl
 delivered place BrReply payload item is opens = refl
@@ -146,14 +147,14 @@ delivered place BcFreeBuffer payload item is opens = let none : ⊥ = cc in absu
 delivered place _ payload item is opens = let none : ⊥ = cc in absurd none
 
 -- an open is no close
-no_close : (made item : PendingItem ℕ) → Some made ≡ Some item → made.change ≡ Open → item.change ≡ Close → ⊥
+no_close : (made item : ℕ × KeyEvent) → Some made ≡ Some item → made.1.change ≡ Open → item.1.change ≡ Close → ⊥
 no_close made item is opens shut =
     let same : made ≡ item = cc in
-    let both : Open ≡ Close = sym opens ∙ ap (λ (i : PendingItem ℕ). i.change) same ∙ shut in
+    let both : Open ≡ Close = sym opens ∙ ap (λ (i : ℕ × KeyEvent). i.1.change) same ∙ shut in
     cc
 
-freed : (place : ℕ) (kind : Kind) (payload : List ℕ) (item : PendingItem ℕ) → option_map buffer_pending (buffer_item place kind payload) ≡ Some item
-    → item.change ≡ Close → is_free kind ≡ true
+freed : (place : ℕ) (kind : Kind) (payload : List ℕ) (item : ℕ × KeyEvent) → option_map buffer_pending (buffer_item place kind payload) ≡ Some item
+    → item.1.change ≡ Close → is_free kind ≡ true
 freed place BcFreeBuffer payload item is shut = refl
 freed place BrTransaction payload item is shut = absurd (no_close (buffer_pending (delivery place BrTransaction payload)) item is refl shut)
 freed place BrTransactionSecCtx payload item is shut =
@@ -161,12 +162,12 @@ freed place BrTransactionSecCtx payload item is shut =
 freed place BrReply payload item is shut = absurd (no_close (buffer_pending (delivery place BrReply payload)) item is refl shut)
 freed place _ payload item is shut = let none : ⊥ = cc in absurd none
 
-of_death : (place : ℕ) (kind : Kind) (payload : List ℕ) (item : PendingItem ℕ) → death_item place kind payload ≡ Some item → is_of_death kind ≡ true
+of_death : (place : ℕ) (kind : Kind) (payload : List ℕ) (item : ℕ × KeyEvent) → death_item place kind payload ≡ Some item → is_of_death kind ≡ true
 of_death place BrDeadBinder payload item is = refl
 of_death place BcDeadBinderDone payload item is = refl
 of_death place _ payload item is = let none : ⊥ = cc in absurd none
 
-of_clear : (place : ℕ) (kind : Kind) (payload : List ℕ) (item : PendingItem ℕ) → clear_item place kind payload ≡ Some item → is_of_clear kind ≡ true
+of_clear : (place : ℕ) (kind : Kind) (payload : List ℕ) (item : ℕ × KeyEvent) → clear_item place kind payload ≡ Some item → is_of_clear kind ≡ true
 of_clear place BcClearDeathNotification payload item is = refl
 of_clear place BrClearDeathNotificationDone payload item is = refl
 of_clear place _ payload item is = let none : ⊥ = cc in absurd none
@@ -198,7 +199,7 @@ requests_there frames =
     (events_of_frames frames)
 
 -- whichever of two tests an event of a section of opens and closes passes, it has an item
-both_there : (read : EventRead → Option (PendingItem ℕ)) (kinds : Kind → Bool) → ((e : EventRead) (item : PendingItem ℕ) → read e ≡ Some item → kinds e.kind ≡ true)
+both_there : (read : EventRead → Option (ℕ × KeyEvent)) (kinds : Kind → Bool) → ((e : EventRead) (item : ℕ × KeyEvent) → read e ≡ Some item → kinds e.kind ≡ true)
     → (events : List EventRead) → All (IsListed kinds events) (open_and_stray read events).rows
 both_there read kinds each events =
     let one = is_unclosed read in
@@ -274,7 +275,7 @@ lacking_there test frames =
     let all = threads_there has_transaction_data (opener_read text_reads) (λ o. o.event)
     (λ b l mark e o is.
     let opened = opener_by text_reads e (slice_get (unmatched_closers l) 0) in
-    let opens = told_passes (is_opener (side_of (bracket_read text_reads mark e))) opened o is in
+    let opens = (cond_some (is_opener (side_of (bracket_read text_reads mark e))) opened o is).0 in
     (opener_event b l (bracketed_by mark e) o is, opener_kind mark e.kind _ opens))
     events in
     All-filter (λ (o : Opener EventRead). lacks_reply o.verdict) There (filter test (openers events)) (All-filter test There (openers events) all)

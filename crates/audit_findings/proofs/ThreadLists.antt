@@ -12,6 +12,7 @@ use Rattle.std.proofs.lemmas.List.Elements.{All-head, All-tail, All-weaker}
 use Rattle.std.proofs.lemmas.List.Sorted.{sum_by-IsPermutation}
 use Rattle.std.proofs.lemmas.List.Sums.{count_by-le-length, sum_by-append, sum_by-cons}
 use Rattle.std.proofs.lemmas.Simd.{map-map}
+use Rattle.std.proofs.lemmas.Option.{cond_some, option_and_then_some}
 use Rattle.capture_frame.proofs.ProcessLaws.{same_thread_equiv}
 use Rattle.capture_frame.specs.Process.{same_thread}
 use Rattle.capture_frame.specs.declared.process.Thread.{Thread}
@@ -48,8 +49,9 @@ use Rattle.audit_findings.specs.ThreadLedger.{SumsThreads, fed_call, fed_calls, 
 use Rattle.audit_findings.specs.ThreadRows.{AreGatheredRows, AreSortedRows, IsCountIfSmall, KeepRows, kept_call, kept_send, made_in, makes, send_at_place, sends_in, served_in, strays_of}
 use Rattle.audit_findings.specs.Threads.{events_in_thread, in_threads}
 use Rattle.audit_findings.specs.declared.thread_rows.ThreadRows.{ThreadRows}
-use Rattle.audit_findings.proofs.CallEvents.{Reading, opener_event, send_event, send_read, stray_event, told_if}
-use Rattle.audit_findings.proofs.Kept.{kept_count, kept_in, kept_map, kept_swap}
+use Rattle.audit_findings.proofs.CallEvents.{Reading, opener_event, send_event, send_read, stray_event}
+use Rattle.summary_law.proofs.FilterLaws.{filter-map, filter_swap}
+use Rattle.audit_findings.proofs.Kept.{kept_count, kept_in}
 use Rattle.capture_frame.proofs.Pairs.{pairs_map}
 use Rattle.audit_findings.proofs.Rising.{rising_kept}
 use Rattle.audit_findings.proofs.ThreadFits.{filter_short}
@@ -110,14 +112,8 @@ kept_quiet test read quiet b l found none = ap (option_and_then (if_passes test)
 
 kept_keeps : {Y : Type 0} (test : Y → Bool) (read : Reading Y) (rank : Y → ℕ) → KeepsEvent read rank → KeepsEvent (kept test read) rank
 kept_keeps {Y} test read rank keeps before later found y is =
-    elim (read before found later) as (λ o. (read before found later ≡ o) → option_and_then (if_passes test) o ≡ Some y → rank y ≡ found.event.place) [
-      | None ↦ λ same is. let no : ⊥ = cc in absurd no
-      | Some z ↦ λ same is. passed (test z) z same is
-    ] refl is
-  where
-    passed : (passes : Bool) (z : Y) → read before found later ≡ Some z → cond passes (Some z) None ≡ Some y → rank y ≡ found.event.place
-    passed true z same is = let one : z ≡ y = cc in subst (λ (w : Y). rank w ≡ found.event.place) one (keeps before later found z same)
-    passed false z same is = let no : ⊥ = cc in absurd no
+    option_and_then_some (if_passes test) (read before found later) y is
+    (λ z there passes. subst (λ (w : Y). rank w ≡ found.event.place) (cond_some (test z) z y passes).1 (keeps before later found z there))
 
 -- ---- the events of each thread
 
@@ -311,7 +307,7 @@ lacking_read : (test : Opener EventRead → Bool) (own : List EventRead)
     → filter test (with_verdict lacks_reply (openers_of text_reads own)) ≡ read_all (as_bracketed text_reads (lacking test)) own
 lacking_read test own =
     let read = as_bracketed text_reads (opener_read text_reads) in
-    kept_swap test (λ (o : Opener EventRead). lacks_reply o.verdict) (openers_of text_reads own)
+    filter_swap test (λ (o : Opener EventRead). lacks_reply o.verdict) (openers_of text_reads own)
     ∙ ap (λ (os : List (Opener EventRead)). with_verdict lacks_reply (filter test os)) (openers_read own)
     ∙ ap (with_verdict lacks_reply) (read-kept test read [] own)
     ∙ read-kept (λ (o : Opener EventRead). lacks_reply o.verdict) (kept test read) [] own
@@ -328,7 +324,7 @@ module _ (events : List EventRead) (key : Thread) (found : CallFindings CallEven
       let told = told_opener text_call in
       let lack = with_verdict lacks_reply (openers_of text_reads own_events) in
       ap (λ (os : List (Opener CallEvent)). map kept_call (filter test os)) (retold text_reads event_reads text_call texts_alike own_events false found are).kept
-      ∙ ap (map kept_call) (kept_map told test lack) ∙ map-map kept_call told (filter (λ o. test (told o)) lack)
+      ∙ ap (map kept_call) (filter-map told test lack) ∙ map-map kept_call told (filter (λ o. test (told o)) lack)
       ∙ ap (λ (t : Opener EventRead → Bool). map call_at_place (filter t lack)) (λ i o. same o i)
       ∙ ap (map call_at_place) (lacking_read like own_events)
 
@@ -379,7 +375,7 @@ openers_are P each events o there =
     let later = with_key same_thread thread_of (thread_of at.1) at.2 in
     let mark = fold (mark_after text_reads) None before in
     let answer = slice_get (unmatched_closers (bracketed_with text_reads (bracket_read text_reads) (mark_after text_reads mark at.1) later)) 0 in
-    subst P (told_if (is_opener (side_of (bracket_read text_reads mark at.1))) (opener_by text_reads at.1 answer) o at.4) (each at.1 answer)
+    subst P (cond_some (is_opener (side_of (bracket_read text_reads mark at.1))) (opener_by text_reads at.1 answer) o at.4).1 (each at.1 answer)
 
 -- there are no more openers than events
 pub openers_short : (events : List EventRead) → length (openers events) ≤ length events

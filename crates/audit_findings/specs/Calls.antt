@@ -1,5 +1,5 @@
 -- The sections `calls`, `served`, `strays` and `refused`: what became of the calls of each thread (docs/REPORT.md).
-use Rattle.std.specs.Prelude.{not, Bool, true, false, List, filter, length, map, count_by, None}
+use Rattle.std.specs.Prelude.{◌||◌, not, Bool, true, false, List, filter, length, map, count_by, None}
 use Rattle.event_core.specs.Events.{EventRead}
 use Rattle.event_core.specs.declared.marks.Bracket.{Bracket}
 use Rattle.event_core.specs.declared.marks.Bracket.TheVariants.{Call}
@@ -8,7 +8,6 @@ use Rattle.call_stacks.specs.Verdicts.{is_answered, is_crossed, is_failed, is_op
 use Rattle.call_stacks.specs.declared.findings.RefusedSend.{RefusedSend}
 use Rattle.call_stacks.specs.declared.opener.Opener.{Opener}
 use Rattle.call_stacks.specs.declared.verdict.Verdict.{Verdict}
-use Rattle.call_stacks.specs.declared.verdict.Verdict.TheVariants.{Crossed, Open}
 use Rattle.audit_findings.specs.TextReads.{text_reads}
 use Rattle.audit_findings.specs.Threads.{in_threads}
 use Rattle.audit_findings.specs.declared.call_sections.CallSections.{CallSections}
@@ -36,9 +35,7 @@ is_served o = not (is_made o)
 
 -- whether the verdict counts as unanswered: crossed or open
 abbrev pub is_unanswered : Verdict → Bool
-is_unanswered Crossed = true
-is_unanswered Open = true
-is_unanswered _ = false
+is_unanswered verdict = is_crossed verdict || is_open verdict
 
 -- what `calls` says of the calls that threads make: how many there are, how many are answered, failed and unanswered,
 -- and the calls that lack their reply

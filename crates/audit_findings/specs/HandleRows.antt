@@ -74,9 +74,8 @@ held_objects events process sort handle =
 -- The row is one of the process: one of its events names the handle, or one of its outstanding deliveries holds it. The
 -- counts and lows are those of all events, and what is held is that of all attachments.
 pub record IsHandleRow (events : List EventRead) (process : Process) (row : HeldRow) : Type 0 where
-  pub listed : 0
-      < times_in process (names_handle changes_handle row.taken.handle) events + row.held_strong + row.held_weak
-  pub strong : HasValue (handle_value process row.taken.handle Strong) events row.taken.strong
-  pub weak : HasValue (handle_value process row.taken.handle Weak) events row.taken.weak
-  pub held_strong : row.held_strong ≡ held_objects events process Handle row.taken.handle
-  pub held_weak : row.held_weak ≡ held_objects events process WeakHandle row.taken.handle
+  pub listed : 0 < times_in process (names_handle changes_handle row.handle) events + row.held_strong + row.held_weak
+  pub strong : HasValue (handle_value process row.handle Strong) events row.taken.strong
+  pub weak : HasValue (handle_value process row.handle Weak) events row.taken.weak
+  pub held_strong : row.held_strong ≡ held_objects events process Handle row.handle
+  pub held_weak : row.held_weak ≡ held_objects events process WeakHandle row.handle

@@ -56,7 +56,7 @@ node_due process key strength events =
 -- of all events
 pub record IsNodeRow (events : List EventRead) (process : Process) (row : NodeRow) : Type 0 where
   pub listed : 0 < times_in process (names_node changes_node row.key) events
-  pub strong : HasValue (node_value process row.key Strong) events row.strong
-  pub weak : HasValue (node_value process row.key Weak) events row.weak
-  pub strong_due : row.strong_due ≡ node_due process row.key Strong events
-  pub weak_due : row.weak_due ≡ node_due process row.key Weak events
+  pub strong : HasValue (node_value process row.key Strong) events row.counts.strong
+  pub weak : HasValue (node_value process row.key Weak) events row.counts.weak
+  pub strong_due : row.counts.strong_due ≡ node_due process row.key Strong events
+  pub weak_due : row.counts.weak_due ≡ node_due process row.key Weak events

@@ -19,7 +19,8 @@ nodes_in events process = node_rows (items_of_process node_item_of process event
 -- whether a node is unbalanced: one of its four counts, strong, weak, strong due and weak due, is not 0
 abbrev pub is_unbalanced_node : NodeRow → Bool
 is_unbalanced_node row =
-    is_not_zero row.strong.sum || is_not_zero row.weak.sum || is_not_zero row.strong_due || is_not_zero row.weak_due
+    is_not_zero row.counts.strong.sum || is_not_zero row.counts.weak.sum || is_not_zero row.counts.strong_due
+    || is_not_zero row.counts.weak_due
 
 -- the section: the rows of each process in turn, and how many are unbalanced
 abbrev pub node_references : List PlacedFrame → References NodeRow

@@ -6,7 +6,7 @@ use Rattle.std.specs.Ordering.{eq_by_cmp, nat_cmp}
 use Rattle.capture_frame.specs.Process.{same_process}
 use Rattle.capture_frame.specs.declared.process.Process.{Process}
 use Rattle.event_core.specs.Events.{EventRead, process_of}
-use Rattle.event_core.specs.declared.pending.PendingItem.{PendingItem}
+use Rattle.event_core.specs.declared.pending.KeyEvent.{KeyEvent}
 use Rattle.pending_ledger.specs.Pending.{is_unclosed_item, is_stray_item}
 use Rattle.process_ledgers.specs.Processes.{events_in}
 use Rattle.summary_law.specs.Fits.{PlacesRise}
@@ -35,11 +35,11 @@ abbrev pub passing_events : EventTest → List EventRead → List EventRead
 passing_events test events = read_all (by_key same_process process_of (chosen test)) events
 
 -- whether the event is an open, and no later close has its key
-abbrev pub is_unclosed : (EventRead → Option (PendingItem ℕ)) → EventTest
+abbrev pub is_unclosed : (EventRead → Option (ℕ × KeyEvent)) → EventTest
 is_unclosed read = item_is read (is_unclosed_item (eq_by_cmp nat_cmp))
 
 -- whether the event is a stray close: no earlier open or close has its key, or the latest one that has it is a close
-abbrev pub is_stray_close : (EventRead → Option (PendingItem ℕ)) → EventTest
+abbrev pub is_stray_close : (EventRead → Option (ℕ × KeyEvent)) → EventTest
 is_stray_close read = item_is read (is_stray_item (eq_by_cmp nat_cmp))
 
 -- whether an event passes one test or the other
@@ -48,7 +48,7 @@ either test other before e later = test before e later || other before e later
 
 -- how many events are unclosed opens in their process, how many are stray closes there, and all of these events in
 -- order
-abbrev pub open_and_stray : (EventRead → Option (PendingItem ℕ)) → List EventRead → OpenAndStray EventRead
+abbrev pub open_and_stray : (EventRead → Option (ℕ × KeyEvent)) → List EventRead → OpenAndStray EventRead
 open_and_stray read events = record {
   unclosed = length (passing_events (is_unclosed read) events);
   strays = length (passing_events (is_stray_close read) events);

@@ -27,7 +27,7 @@ pub record AreRowsInTurn {K R : Type 0} (cmp : K → K → Ordering) (key : R �
 -- in a capture in the grammar, the rows of `handles` are those of each process in turn, handles rising
 abbrev pub HaveHandleRows : Type 0
 HaveHandleRows = (parts : List (List ℕ)) (frames : List PlacedFrame) → frames_of_parts parts ≡ Ok frames
-    → AreRowsInTurn nat_cmp (λ row. row.taken.handle) (IsHandleRow (events_of_frames frames))
+    → AreRowsInTurn nat_cmp (λ row. row.handle) (IsHandleRow (events_of_frames frames))
     (processes_of frames) (findings_of frames).processes.handles.rows
 
 -- the rows of `nodes` are those of each process in turn, by rising ptr and then by rising cookie

@@ -2,12 +2,10 @@
 
 use crate::paired::OpensAndCloses;
 use pending_ledger::Pending;
-use process_ledgers::ProcessLedgers;
+use process_ledgers::{BufferItems, ProcessLedgers};
 
 /// Deliveries, which open their buffer's address, and frees, which close it.
-pub(crate) struct BufferPairs;
-
-impl OpensAndCloses for BufferPairs {
+impl OpensAndCloses for BufferItems<'_> {
     ghost use Rattle.process_ledgers.specs.Items.{buffer_pending_of};
     ghost use Rattle.process_ledgers.proofs.ItemPlaces.{pending_keeps};
 

@@ -2,12 +2,10 @@
 
 use crate::paired::OpensAndCloses;
 use pending_ledger::Pending;
-use process_ledgers::ProcessLedgers;
+use process_ledgers::{ClearItems, ProcessLedgers};
 
 /// Clears, which open their cookie, and confirmations, which close it.
-pub(crate) struct ClearPairs;
-
-impl OpensAndCloses for ClearPairs {
+impl OpensAndCloses for ClearItems<'_> {
     ghost use Rattle.process_ledgers.specs.Items.{clear_item_of};
     ghost use Rattle.process_ledgers.proofs.ItemPlaces.{clear_keeps};
 

@@ -90,7 +90,7 @@ impl CodeCounts {
 fn place_of(kind: Kind) -> usize
     ensures { slice_index_or listed result Kind.Opaque ≡ kind }
 {
-    kind as usize
+    kind.place()
 }
 
 /// Counts a record of a listed kind in the row of its kind.

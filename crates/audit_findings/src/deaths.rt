@@ -2,12 +2,10 @@
 
 use crate::paired::OpensAndCloses;
 use pending_ledger::Pending;
-use process_ledgers::ProcessLedgers;
+use process_ledgers::{DeathItems, ProcessLedgers};
 
 /// Deaths, which open their cookie, and acknowledgements, which close it.
-pub(crate) struct DeathPairs;
-
-impl OpensAndCloses for DeathPairs {
+impl OpensAndCloses for DeathItems<'_> {
     ghost use Rattle.process_ledgers.specs.Items.{death_item_of};
     ghost use Rattle.process_ledgers.proofs.ItemPlaces.{death_keeps};
 

@@ -44,6 +44,10 @@ impl Balance for NodeRow {
     ghost unbalanced = { is_unbalanced_node };
 
     fn is_unbalanced(&self) -> bool {
-        self.strong.sum != 0 || self.weak.sum != 0 || self.strong_due != 0 || self.weak_due != 0
+        let counts = &self.counts;
+        counts.strong.sum != 0
+            || counts.weak.sum != 0
+            || counts.strong_due != 0
+            || counts.weak_due != 0
     }
 }

@@ -21,7 +21,7 @@ pub(crate) trait OpensAndCloses {
     ghost use Rattle.std.specs.Prelude.{ℕ, List, Option};
     ghost use Rattle.capture_frame.specs.declared.process.Process.{Process};
     ghost use Rattle.event_core.specs.Events.{EventRead};
-    ghost use Rattle.event_core.specs.declared.pending.PendingItem.{PendingItem};
+    ghost use Rattle.event_core.specs.declared.pending.KeyEvent.{KeyEvent};
     ghost use Rattle.pending_ledger.specs.Pending.{place_of};
     ghost use Rattle.pending_ledger.specs.Sums.{PendingSums};
     ghost use Rattle.process_ledgers.specs.EachProcess.{AreLedgersOf};
@@ -29,7 +29,7 @@ pub(crate) trait OpensAndCloses {
     ghost use Rattle.process_ledgers.specs.Processes.{items_of_process};
 
     /// The open or the close that an event is.
-    ghost read: { EventRead → Option (PendingItem ℕ) };
+    ghost read: { EventRead → Option (ℕ × KeyEvent) };
 
     /// It has the event's place.
     ghost keeps: { KeepsPlace place_of read };

@@ -3,7 +3,7 @@
 use Rattle.std.proofs.Common.{◌≡◌, inl, inr, ℕ, ◌+◌, ◌-◌, ◌<◌, ◌≤◌, ◌^◌, List, [], ◌∷◌, ◌++◌, length, drop, Option, Some, None, Result, Ok, Err, refl, sym, ap, ap₂, subst, ◌∙◌, length-drop, arith}
 use Rattle.std.specs.Prelude.{All, IfSome}
 use Rattle.std.specs.List.{sum_by}
-use Rattle.std.specs.Option.{option_map}
+use Rattle.std.specs.Option.{option_map, option_or}
 use Rattle.std.proofs.lemmas.List.Elements.{All-cons, All-nil, All-weaker}
 use Rattle.std.proofs.lemmas.List.Sums.{sum_by-append, sum_by-cons}
 use Rattle.capture_frame.specs.declared.fault.Fault.{Fault}
@@ -17,13 +17,13 @@ use Rattle.capture_frame.specs.Parts.{ParsedParts, joined_frames, parts_read, pa
 use Rattle.capture_frame.specs.ReadOn.{Parsed}
 use Rattle.capture_frame.specs.Tests.{fault_at}
 use Rattle.capture_frame.specs.Units.{placed, placed_at, units_of}
-use Rattle.transaction_view.specs.Grammar.{content_fault, first_content_fault, first_of, frames_of_parts, unless, whole_parser, wholes_of}
+use Rattle.transaction_view.specs.Grammar.{content_fault, first_content_fault, frames_of_parts, unless, whole_parser, wholes_of}
 use Rattle.audit_findings.specs.Frames.{AreGoodFrames}
 use Rattle.audit_join.specs.Jobs.{AreSound, AreCut, EndsNear}
 use Rattle.audit_join.specs.Parts.{after_part, in_part, IsInPart}
 use Rattle.audit_join.proofs.FaultLaws.{first_append, first_by, first_none, none_of}
 use Rattle.audit_join.proofs.PlaceLaws.{in_this, in_later}
-use Rattle.transaction_view.proofs.WholeLaws.{content_moves, whole_good, whole_bad}
+use Rattle.transaction_view.proofs.WholeLaws.{content_moves, either_moved, whole_good, whole_bad}
 use Rattle.capture_frame.proofs.FrameLaws.{frames_placed, frames_fit, frames_fill}
 use Rattle.capture_frame.proofs.HeaderLaws.{header_long}
 use Rattle.capture_frame.proofs.ReadOnLaws.{moved, placed-append, placed_apart}
@@ -59,18 +59,14 @@ row_sum place (t ∷ texts) =
 
 -- ---- the first fault of the content of frames
 
-first_moved : (n : ℕ) (a b : Option Fault) → first_of (option_map (moved n) a) (option_map (moved n) b) ≡ option_map (moved n) (first_of a b)
-first_moved n None b = refl
-first_moved n (Some x) b = refl
-
 -- frames that are n bytes further have their first fault n bytes further
 first_moves : (n place : ℕ) (texts : List FrameText)
     → first_content_fault (in_row (n + place) texts) ≡ option_map (moved n) (first_content_fault (in_row place texts))
 first_moves n place [] = refl
 first_moves n place (t ∷ texts) =
-    ap₂ first_of (content_moves n place t)
+    ap₂ option_or (content_moves n place t)
     (ap (λ (p : ℕ). first_content_fault (in_row p texts)) (omega arith) ∙ first_moves n (place + frame_width t) texts)
-    ∙ first_moved n (content_fault (placed_at place t)) (first_content_fault (in_row (place + frame_width t) texts))
+    ∙ either_moved n (content_fault (placed_at place t)) (first_content_fault (in_row (place + frame_width t) texts))
 
 -- the first fault is in the bytes of the frames
 first_held : (place : ℕ) (texts : List FrameText) (fault : Fault) → first_content_fault (in_row place texts) ≡ Some fault
@@ -180,7 +176,7 @@ bad_later : (base : ℕ) (part : List ℕ) (parts : List (List ℕ)) (cut whole 
     (others_of : Parsed FrameText → ParsedParts) → ArePartsOf part cut whole → cut.fault ≡ None
     → AreJudged (base + (length part - 16)) parts later (others_of cut)
     → (found : Fault) (here : Option Fault) → first_content_fault cut.units ≡ here
-    → first_of (option_map (moved base) here) (first_content_fault (in_row ((base + (length part - 16)) + 16) later.frames)) ≡ Some found
+    → option_or (option_map (moved base) here) (first_content_fault (in_row ((base + (length part - 16)) + 16) later.frames)) ≡ Some found
     → ((part_and_later (units_of whole.units) whole.fault (others_of whole)).fault ≡ Some (in_part (part ∷ parts) (fault_at found.kind (found.place - base))))
     × IsInPart (part ∷ parts) (found.place - base)
 bad_later base part parts cut whole later others_of are is others found (Some g) here there =
@@ -226,7 +222,7 @@ part_judged base part parts cut whole None later others_of are is others =
     placed-append frame_width (base + 16) texts later.frames ∙ ap (λ (n : ℕ). in_row (base + 16) texts ++ in_row n later.frames) (omega (arith, all)) in
     let first = ap first_content_fault split
     ∙ first_append (in_row (base + 16) texts) (in_row ((base + (length part - 16)) + 16) later.frames)
-    ∙ ap (λ (o : Option Fault). first_of o (first_content_fault (in_row ((base + (length part - 16)) + 16) later.frames))) (first_here base part cut whole are) in
+    ∙ ap (λ (o : Option Fault). option_or o (first_content_fault (in_row ((base + (length part - 16)) + 16) later.frames))) (first_here base part cut whole are) in
     record {
       fits = omega (arith, sum, fits, fits_too, long);
       good = λ none.

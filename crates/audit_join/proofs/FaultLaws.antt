@@ -3,29 +3,29 @@ use Rattle.std.proofs.Common.{◌≡◌, ℕ, suc, ◌+◌, List, [], ◌∷◌,
 use Rattle.std.proofs.lemmas.List.{take_more, take-append-drop}
 use Rattle.std.proofs.lemmas.Option.{get_or_from_slice_get, slice_get_within}
 use Rattle.std.specs.Prelude.{All, Contains, IfSome, IsSome, slice_get}
-use Rattle.std.specs.Option.{option_map}
+use Rattle.std.specs.Option.{option_map, option_or}
 use Rattle.std.proofs.lemmas.List.Elements.{All-cons, All-head, All-nil, All-tail}
 use Rattle.capture_frame.specs.declared.fault.Fault.{Fault}
 use Rattle.capture_frame.specs.declared.frame.Frame.{Frame}
 use Rattle.capture_frame.specs.Envelope.{PlacedFrame, placed_frame}
 use Rattle.capture_frame.specs.Lookup.{Holds, IsFrameAt}
 use Rattle.capture_frame.proofs.LookupLaws.{one_held, some_held}
-use Rattle.transaction_view.specs.Grammar.{content_fault, first_content_fault, first_of, IsGood}
+use Rattle.transaction_view.specs.Grammar.{content_fault, first_content_fault, IsGood}
 use Rattle.transaction_view.proofs.WholeLaws.{fault_held}
 use Rattle.audit_join.specs.Jobs.{AreSound, first_place}
 
-first_again : (a b c : Option Fault) → first_of a (first_of b c) ≡ first_of (first_of a b) c
+first_again : (a b c : Option Fault) → option_or a (option_or b c) ≡ option_or (option_or a b) c
 first_again None b c = refl
 first_again (Some x) b c = refl
 
 pub first_append : (frames more : List PlacedFrame)
-    → first_content_fault (frames ++ more) ≡ first_of (first_content_fault frames) (first_content_fault more)
+    → first_content_fault (frames ++ more) ≡ option_or (first_content_fault frames) (first_content_fault more)
 first_append [] more = refl
 first_append (f ∷ frames) more =
-    ap (first_of (content_fault f)) (first_append frames more)
+    ap (option_or (content_fault f)) (first_append frames more)
     ∙ first_again (content_fault f) (first_content_fault frames) (first_content_fault more)
 
-pub first_none : (a b : Option Fault) → first_of a b ≡ None → (a ≡ None) × (b ≡ None)
+pub first_none : (a b : Option Fault) → option_or a b ≡ None → (a ≡ None) × (b ≡ None)
 first_none None b none = (refl, none)
 first_none (Some x) b none = let wrong : Some x ≡ None = none in absurd (cc)
 
@@ -39,11 +39,11 @@ sound_of (f ∷ frames) none =
 pub none_of : (frames : List PlacedFrame) → AreSound frames → first_content_fault frames ≡ None
 none_of [] sound = refl
 none_of (f ∷ frames) sound =
-    ap₂ first_of (All-head IsGood f frames sound) (none_of frames (All-tail IsGood f frames sound))
+    ap₂ option_or (All-head IsGood f frames sound) (none_of frames (All-tail IsGood f frames sound))
 
 first_or_later : (P : ℕ → Type 0) (f : PlacedFrame) (frames : List PlacedFrame) (here : Option Fault) → content_fault f ≡ here
     → ((x : ℕ) → Holds x f → P x) → IfSome (first_place frames) P
-    → IfSome (option_map (λ (fault : Fault). fault.place) (first_of here (first_content_fault frames))) P
+    → IfSome (option_map (λ (fault : Fault). fault.place) (option_or here (first_content_fault frames))) P
 first_or_later P f frames None is one others = others
 first_or_later P f frames (Some fault) is one others =
     let held = fault_held f fault is in
@@ -65,7 +65,7 @@ pub record HasFirst (frames : List PlacedFrame) (fault : Fault) : Type 0 where
   pub fails : content_fault frame ≡ Some fault
 
 frame_or_later : (f : PlacedFrame) (frames : List PlacedFrame) (fault : Fault) (here : Option Fault) → content_fault f ≡ here
-    → (first_content_fault frames ≡ Some fault → HasFirst frames fault) → first_of here (first_content_fault frames) ≡ Some fault
+    → (first_content_fault frames ≡ Some fault → HasFirst frames fault) → option_or here (first_content_fault frames) ≡ Some fault
     → HasFirst (f ∷ frames) fault
 frame_or_later f frames fault None here others is =
     let later = others is in
@@ -105,7 +105,7 @@ pub none_more : (frames : List PlacedFrame) (i : ℕ) (found : PlacedFrame) → 
     → content_fault found ≡ None → first_content_fault (take (i + 1) frames) ≡ None
 none_more frames i found there none good =
     ap first_content_fault (first_more frames i found there) ∙ first_append (take i frames) (found ∷ [])
-    ∙ ap₂ first_of none (ap (λ (o : Option Fault). first_of o None) good)
+    ∙ ap₂ option_or none (ap (λ (o : Option Fault). option_or o None) good)
 
 -- the first frame with a fault
 pub first_at : (frames : List PlacedFrame) (i : ℕ) (found : PlacedFrame) (fault : Fault) → slice_get frames i ≡ Some found
@@ -113,7 +113,7 @@ pub first_at : (frames : List PlacedFrame) (i : ℕ) (found : PlacedFrame) (faul
 first_at frames i found fault there none bad =
     let others = drop (i + 1) frames in
     ap first_content_fault (one_after frames i found (first_more frames i found there)) ∙ first_append (take i frames) (found ∷ others)
-    ∙ ap₂ first_of none (ap (λ (o : Option Fault). first_of o (first_content_fault others)) bad)
+    ∙ ap₂ option_or none (ap (λ (o : Option Fault). option_or o (first_content_fault others)) bad)
 
 -- ---- the frame at the place of the first fault
 

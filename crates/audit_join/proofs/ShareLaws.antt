@@ -4,13 +4,13 @@ use Rattle.std.proofs.Common.{◌≡◌, ℕ, zero, suc, ◌<◌, ◌≤◌, Lis
 use Rattle.std.proofs.lemmas.List.{length-map}
 use Rattle.std.specs.Prelude.{All, AllPairs, IfSome, slice_get}
 use Rattle.std.specs.List.{sum_by}
-use Rattle.std.specs.Option.{option_map}
+use Rattle.std.specs.Option.{option_map, option_or}
 use Rattle.std.proofs.lemmas.List.Elements.{All-cons, All-head, All-tail, All-nil, All-weaker}
 use Rattle.std.proofs.lemmas.List.Sums.{sum_by-append}
 use Rattle.capture_frame.specs.declared.fault.Fault.{Fault}
 use Rattle.capture_frame.specs.Envelope.{PlacedFrame}
 use Rattle.capture_frame.specs.Lookup.{span_of, AreApart, Holds}
-use Rattle.transaction_view.specs.Grammar.{first_content_fault, first_of}
+use Rattle.transaction_view.specs.Grammar.{first_content_fault}
 use Rattle.summary_law.specs.Fits.{all_halves, pairs_halves}
 use Rattle.claim_board.specs.declared.job.Job.{Job}
 use Rattle.claim_board.specs.Board.{AreJobs, EndsBefore}
@@ -158,7 +158,7 @@ place_none (Some x) none = let wrong : Some x.place ≡ None = none in absurd (c
 
 after_sound : (piece others : List PlacedFrame) → first_content_fault piece ≡ None → first_content_fault (piece ++ others) ≡ first_content_fault others
 after_sound piece others none =
-    first_append piece others ∙ ap (λ (o : Option Fault). first_of o (first_content_fault others)) none
+    first_append piece others ∙ ap (λ (o : Option Fault). option_or o (first_content_fault others)) none
 
 -- if no job has a fault, no frame has one
 pub shared_sound : (pieces : List (List PlacedFrame)) → AreFaultless (map job_of pieces) → first_content_fault (all_frames pieces) ≡ None
@@ -218,7 +218,7 @@ in_front : (piece others : List PlacedFrame) (here : Option Fault) (x : ℕ) →
 in_front piece others None x here is = let wrong : None ≡ Some x = is in absurd (cc)
 in_front piece others (Some fault) x here is =
     ap (option_map (λ (found : Fault). found.place))
-    (first_append piece others ∙ ap (λ (o : Option Fault). first_of o (first_content_fault others)) here)
+    (first_append piece others ∙ ap (λ (o : Option Fault). option_or o (first_content_fault others)) here)
     ∙ is
 
 by_fault : (piece others : List PlacedFrame) (jobs : List Job) (x : ℕ) (fault : Option ℕ) → first_place piece ≡ fault

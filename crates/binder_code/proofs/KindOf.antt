@@ -1,10 +1,9 @@
 -- What `kind_of` answers, in terms of the table's lines.
-use Rattle.std.proofs.Common.{◌≡◌, ◌≢◌, ◌↔◌, ◌==◌, ◌&&◌, ℕ, Bool, true, false, Option, Some, None, Result, Ok, Err, if◌then◌else◌, IsSome, IfSome, IsSomeAnd, List, [], ◌∷◌, refl, sym, subst, cond, zero, suc, ◌<◌, length, get_or, arith, eqb-true, eq-eqb}
-use Rattle.std.specs.List.{find, list_any}
-use Rattle.std.specs.Option.{option_map_or}
-use Rattle.std.proofs.lemmas.List.Folds.{Any-from_list_any}
+use Rattle.std.proofs.Common.{◌≡◌, ◌≢◌, ◌↔◌, ◌==◌, ◌&&◌, ◌||◌, ℕ, Bool, true, false, Option, Some, None, Result, Ok, Err, if◌then◌else◌, IsSome, IfSome, IsSomeAnd, List, [], ◌∷◌, map, refl, sym, ap, subst, ◌∙◌, cond, eqb-true, eq-eqb}
+use Rattle.std.specs.Prelude.{option_map}
+use Rattle.std.specs.List.{find, list_any, AllByRecursion}
 use Rattle.binder_code.specs.Code.{number, letter, size, direction}
-use Rattle.binder_code.specs.Commands.{AreWords, Row, row_of, listed, letter_of, direction_of, IsOfProtocol, HasCode, ListsCode, ListsNumber, same_protocol, is_of, has_number, has_size, judged, kind_of}
+use Rattle.binder_code.specs.Commands.{Row, command_lines, return_lines, lines_of, row_of, letter_of, direction_of, IsOfProtocol, HasCode, ListsCode, ListsNumber, is_of, has_number, has_size, judged, kind_of}
 use Rattle.binder_code.specs.declared.protocol.Protocol.{Protocol}
 use Rattle.binder_code.specs.declared.protocol.Protocol.TheVariants.{Command, Return}
 use Rattle.binder_code.specs.declared.code.CodeFault.{CodeFault}
@@ -21,6 +20,37 @@ abbrev IsSized : Option Row → Protocol → ℕ → ℕ → Type 0
 IsSized line protocol n bytes =
     IsSomeAnd line (λ row. (row.protocol ≡ protocol) × (row.number ≡ n) × (row.size ≡ bytes))
 
+-- what is found of a number and a size
+abbrev kind_found : Protocol → ℕ → ℕ → Option Kind
+kind_found protocol n bytes = option_map (λ row. row.kind) (find (has_size n bytes) (lines_of protocol))
+
+-- ---- lists of which a fact is computed
+
+-- functions that make the same list make the same of each element
+pub maps_same : {X Y : Type 0} (f g : X → Y) (xs : List X) → map f xs ≡ map g xs → AllByRecursion (λ x. f x ≡ g x) xs
+maps_same f g [] same = tt
+maps_same f g (x ∷ xs) same = (cc, maps_same f g xs cc)
+
+-- what a search finds passes its test, and the fact is true of it
+pub found_with : {X : Type 0} (test : X → Bool) (Fact : X → Type 0) (xs : List X) → AllByRecursion Fact xs → (x : X) → find test xs ≡ Some x
+    → (test x ≡ true) × Fact x
+found_with test Fact [] all x found = cc
+found_with test Fact (y ∷ ys) all x found =
+    (elim (test y) as (λ v. test y ≡ v → cond v (Some y) (find test ys) ≡ Some x → (test x ≡ true) × Fact x) [
+      | true ↦ λ passed here. let same : y ≡ x = cc in subst (λ z. (test z ≡ true) × Fact z) same (passed, all.0)
+      | false ↦ λ failed later. found_with test Fact ys all.1 x later
+    ]) refl found
+
+-- an element that passes a test, and the fact of it
+any_with : {X : Type 0} (test : X → Bool) (Fact : X → Type 0) (xs : List X) → AllByRecursion Fact xs → list_any test xs ≡ true
+    → (x : X) × (test x ≡ true) × Fact x
+any_with test Fact [] all passed = cc
+any_with test Fact (y ∷ ys) all passed =
+    (elim (test y) as (λ v. test y ≡ v → (v || list_any test ys) ≡ true → (x : _) × (test x ≡ true) × Fact x) [
+      | true ↦ λ is here. (y, is, all.0)
+      | false ↦ λ is later. any_with test Fact ys all.1 later
+    ]) refl passed
+
 -- both sides of a test that passes
 and_parts : (a b : Bool) → (a && b) ≡ true → (a ≡ true) × (b ≡ true)
 and_parts true b passed = (refl, passed)
@@ -29,13 +59,6 @@ and_parts false b passed = cc
 and_both : (a b : Bool) → a ≡ true → b ≡ true → (a && b) ≡ true
 and_both true b left right = right
 and_both false b left right = cc
-
--- protocols that pass the test are the same
-same_protocol-true : (a b : Protocol) → same_protocol a b ≡ true → a ≡ b
-same_protocol-true Command Command passed = refl
-same_protocol-true Command Return passed = cc
-same_protocol-true Return Command passed = cc
-same_protocol-true Return Return passed = refl
 
 -- the test that a code is of the protocol, and the fact
 is_of-true : (protocol : Protocol) (code : ℕ) → is_of protocol code ≡ true → IsOfProtocol protocol code
@@ -52,44 +75,37 @@ is_of-from protocol code fits =
     (eq-eqb (letter code) (letter_of protocol) fits.right_letter)
     (eq-eqb (direction code) (direction_of protocol (size code)) fits.right_direction)
 
--- a line that passes the test of the protocol and the number
-numbered : (line : Option Row) (protocol : Protocol) (n : ℕ)
-    → option_map_or (λ row. same_protocol row.protocol protocol && (row.number == n)) line false ≡ true
-    → IsNumbered line protocol n
-numbered None protocol n passed = cc
-numbered (Some row) protocol n passed =
-    let parts = and_parts (same_protocol row.protocol protocol) (row.number == n) passed in
-    (same_protocol-true row.protocol protocol parts.0, eqb-true row.number n parts.1)
+-- ---- the tables, by computing
 
--- a line that passes the test of the size too
-sized : (line : Option Row) (protocol : Protocol) (n bytes : ℕ)
-    → IsNumbered line protocol n → option_map_or (λ row. row.size == bytes) line false ≡ true
-    → IsSized line protocol n bytes
-sized None protocol n bytes there passed = there
-sized (Some row) protocol n bytes there passed = (there.0, there.1, eqb-true row.size bytes passed)
+-- a line's protocol, and the line of its kind
+abbrev own : Row → Protocol × Option Row
+own row = (row.protocol, row_of row.kind)
 
-has_size-true : (protocol : Protocol) (n bytes : ℕ) (kind : Kind)
-    → has_size protocol n bytes kind ≡ true → IsSized (row_of kind) protocol n bytes
-has_size-true protocol n bytes kind passed =
-    let parts = and_parts (has_number protocol n kind) (option_map_or (λ row. row.size == bytes) (row_of kind) false) passed in
-    sized (row_of kind) protocol n bytes (numbered (row_of kind) protocol n parts.0) parts.1
+-- which they have to be
+abbrev own_due : Protocol → Row → Protocol × Option Row
+own_due protocol row = (protocol, Some row)
 
--- what a search finds passes its test
-pub find-true : {X : Type 0} (test : X → Bool) (xs : List X) (x : X) → find test xs ≡ Some x → test x ≡ true
-find-true test [] x found = cc
-find-true test (y ∷ ys) x found =
-    (elim (test y) as (λ v. test y ≡ v → cond v (Some y) (find test ys) ≡ Some x → test x ≡ true) [
-      | true ↦ λ passed here. let same : y ≡ x = cc in subst (λ z. test z ≡ true) same passed
-      | false ↦ λ failed later. find-true test ys x later
-    ]) refl found
+abbrev Own : Protocol → Row → Type 0
+Own protocol row = own row ≡ own_due protocol row
 
--- each line of the table is found by its protocol, number and size
-found_there : (kind : Kind) → IfSome (row_of kind) (λ row. find (has_size row.protocol row.number row.size) listed ≡ Some kind)
+lines_own : (protocol : Protocol) → AllByRecursion (Own protocol) (lines_of protocol)
+unfolding command_lines return_lines
+lines_own Command = maps_same own (own_due Command) command_lines refl
+lines_own Return = maps_same own (own_due Return) return_lines refl
+
+no_line : row_of Opaque ≡ None
+unfolding command_lines return_lines
+no_line = refl
+
+-- each line is found by its number and size
+found_there : (kind : Kind) → IfSome (row_of kind) (λ row. kind_found row.protocol row.number row.size ≡ Some kind)
+unfolding command_lines return_lines
 found_there Opaque = tt
 found_there _ = refl
 
 -- and its number is found in its protocol
-numbered_there : (kind : Kind) → IfSome (row_of kind) (λ row. list_any (has_number row.protocol row.number) listed ≡ true)
+numbered_there : (kind : Kind) → IfSome (row_of kind) (λ row. list_any (has_number row.number) (lines_of row.protocol) ≡ true)
+unfolding command_lines return_lines
 numbered_there Opaque = tt
 numbered_there _ = refl
 
@@ -110,21 +126,21 @@ at_number (Some row) Fact protocol n there same =
     subst (λ m. Fact protocol m) same.1 (subst (λ p. Fact p row.number) same.0 there)
 
 -- the kind whose line has these three is the one that is found
-find-has_size : (protocol : Protocol) (n bytes : ℕ) (kind : Kind)
-    → IsSized (row_of kind) protocol n bytes → find (has_size protocol n bytes) listed ≡ Some kind
-find-has_size protocol n bytes kind same =
-    at_line (row_of kind) (λ p m b. find (has_size p m b) listed ≡ Some kind) protocol n bytes (found_there kind) same
+kind_found-from : (protocol : Protocol) (n bytes : ℕ) (kind : Kind) → IsSized (row_of kind) protocol n bytes → kind_found protocol n bytes ≡ Some kind
+kind_found-from protocol n bytes kind same = at_line (row_of kind) (λ p m b. kind_found p m b ≡ Some kind) protocol n bytes (found_there kind) same
 
-list_any-has_number : (protocol : Protocol) (n : ℕ)
-    → ListsNumber protocol n → list_any (has_number protocol n) listed ≡ true
+list_any-has_number : (protocol : Protocol) (n : ℕ) → ListsNumber protocol n → list_any (has_number n) (lines_of protocol) ≡ true
 list_any-has_number protocol n lists =
-    at_number (row_of lists.0) (λ p m. list_any (has_number p m) listed ≡ true) protocol n (numbered_there lists.0) lists.1
+    at_number (row_of lists.0) (λ p m. list_any (has_number m) (lines_of p) ≡ true) protocol n (numbered_there lists.0) lists.1
 
-lists_number : (protocol : Protocol) (n : ℕ)
-    → list_any (has_number protocol n) listed ≡ true → ListsNumber protocol n
+lists_number : (protocol : Protocol) (n : ℕ) → list_any (has_number n) (lines_of protocol) ≡ true → ListsNumber protocol n
 lists_number protocol n passed =
-    let some = Any-from_list_any (has_number protocol n) listed passed in
-    (some.1, numbered (row_of some.1) protocol n some.4)
+    let some = any_with (has_number n) (Own protocol) (lines_of protocol) (lines_own protocol) passed in
+    let row = some.0 in (
+      row.kind,
+      subst (λ line. IsNumbered line protocol n) (sym (ap (λ o. o.1) some.2))
+          (ap (λ o. o.0) some.2, eqb-true row.number n some.1),
+    )
 
 -- `kind_of`, with its test, the kind found and whether the number is listed as variables
 answer : Bool → Option Kind → Bool → Result Kind CodeFault
@@ -192,7 +208,7 @@ answer-size false found counted Of Number Line is_of of_is lists counts line fin
 -- a kind with a line is not `Opaque`
 listed_not_opaque : (kind : Kind) → IsSome (row_of kind) → kind ≢ Opaque
 listed_not_opaque kind there same =
-    let no : IsSome (row_of Opaque) = subst (λ k. IsSome (row_of k)) same there in cc
+    let no : false ≡ true = subst (λ line. IsSome line) (ap (λ k. row_of k) same ∙ no_line) there in cc
 
 -- a line with a size is there, and has its number
 line_number : (line : Option Row) (protocol : Protocol) (n bytes : ℕ)
@@ -201,18 +217,26 @@ line_number None protocol n bytes same = absurd same
 line_number (Some row) protocol n bytes same = (refl, (same.0, same.1))
 
 -- the kind that is found has the code
-found_code : (protocol : Protocol) (code : ℕ) (kind : Kind)
-    → find (has_size protocol (number code) (size code)) listed ≡ Some kind → HasCode kind protocol code
-found_code protocol code kind found =
-    has_size-true protocol (number code) (size code) kind
-    (find-true (has_size protocol (number code) (size code)) listed kind found)
+found_code : (protocol : Protocol) (code : ℕ) (kind : Kind) → kind_found protocol (number code) (size code) ≡ Some kind → HasCode kind protocol code
+found_code protocol code kind =
+    elim (find (has_size (number code) (size code)) (lines_of protocol)) as
+    (λ o. find (has_size (number code) (size code)) (lines_of protocol) ≡ o → option_map (λ row. row.kind) o ≡ Some kind → HasCode kind protocol code) [
+      | None ↦ λ is none. cc
+      | Some row ↦ λ is found.
+          let with = found_with (has_size (number code) (size code)) (Own protocol) (lines_of protocol) (lines_own protocol) row is in
+          let parts = and_parts (has_number (number code) row) (row.size == size code) with.0 in
+          let same : row.kind ≡ kind = let some : Some row.kind ≡ Some kind = found in cc in
+          subst (λ k. HasCode k protocol code) same
+          (subst (λ line. IsSized line protocol (number code) (size code)) (sym (ap (λ o. o.1) with.1))
+          (ap (λ o. o.0) with.1, eqb-true row.number (number code) parts.0, eqb-true row.size (size code) parts.1))
+    ] refl
 
 -- `Direction` exactly where the code is not of the protocol
 pub kind_of-direction : (protocol : Protocol) (code : ℕ) → (kind_of protocol code ≡ Err Direction) ↔ ¬ IsOfProtocol protocol code
 unfolding answer
 kind_of-direction protocol code =
     answer-direction (is_of protocol code)
-    (find (has_size protocol (number code) (size code)) listed) (list_any (has_number protocol (number code)) listed)
+    (kind_found protocol (number code) (size code)) (list_any (has_number (number code)) (lines_of protocol))
     (IsOfProtocol protocol code) (is_of-true protocol code) (is_of-from protocol code)
 
 -- a listed kind exactly where its line has the protocol, the number and the size
@@ -221,10 +245,10 @@ pub kind_of-listed : (protocol : Protocol) (code : ℕ) (kind : Kind) → IsSome
 unfolding answer
 kind_of-listed protocol code kind known =
     answer-listed (is_of protocol code)
-    (find (has_size protocol (number code) (size code)) listed) (list_any (has_number protocol (number code)) listed)
+    (kind_found protocol (number code) (size code)) (list_any (has_number (number code)) (lines_of protocol))
     (IsOfProtocol protocol code) (HasCode kind protocol code) kind (listed_not_opaque kind known)
     (is_of-true protocol code) (is_of-from protocol code)
-    (found_code protocol code kind) (find-has_size protocol (number code) (size code) kind)
+    (found_code protocol code kind) (kind_found-from protocol (number code) (size code) kind)
 
 -- `Opaque` exactly where no line of the protocol has the number
 pub kind_of-opaque : (protocol : Protocol) (code : ℕ)
@@ -232,7 +256,7 @@ pub kind_of-opaque : (protocol : Protocol) (code : ℕ)
 unfolding answer
 kind_of-opaque protocol code =
     answer-opaque (is_of protocol code)
-    (find (has_size protocol (number code) (size code)) listed) (list_any (has_number protocol (number code)) listed)
+    (kind_found protocol (number code) (size code)) (list_any (has_number (number code)) (lines_of protocol))
     (IsOfProtocol protocol code) (ListsNumber protocol (number code))
     (is_of-true protocol code) (is_of-from protocol code)
     (lists_number protocol (number code)) (list_any-has_number protocol (number code))
@@ -247,15 +271,8 @@ pub kind_of-size : (protocol : Protocol) (code : ℕ)
 unfolding answer
 kind_of-size protocol code =
     answer-size (is_of protocol code)
-    (find (has_size protocol (number code) (size code)) listed) (list_any (has_number protocol (number code)) listed)
+    (kind_found protocol (number code) (size code)) (list_any (has_number (number code)) (lines_of protocol))
     (IsOfProtocol protocol code) (ListsNumber protocol (number code)) (λ kind. HasCode kind protocol code)
     (is_of-true protocol code) (is_of-from protocol code)
     (lists_number protocol (number code)) (list_any-has_number protocol (number code))
-    (found_code protocol code) (find-has_size protocol (number code) (size code))
-
--- the word with this number means its kind
-pub word_at : (protocol : Protocol) (lines : List (ℕ × Kind)) → AreWords protocol lines → (n : ℕ) (line : ℕ × Kind) → n < length lines
-    → line ≡ get_or lines n line → kind_of protocol line.0 ≡ Ok line.1
-word_at protocol [] are n line within is = absurd (omega (arith, within))
-word_at protocol (l ∷ lines) are zero line within is = subst (λ (x : ℕ × Kind). kind_of protocol x.0 ≡ Ok x.1) (sym is) are.0
-word_at protocol (l ∷ lines) are (suc n) line within is = word_at protocol lines are.1 n line (omega (arith, within)) is
+    (found_code protocol code) (kind_found-from protocol (number code) (size code))

@@ -3,7 +3,7 @@ use Rattle.std.proofs.Common.{◌≡◌, ℕ, ◌<◌, ◌≤◌, List, length, 
 use Rattle.std.specs.List.{list_all}
 use Rattle.std.proofs.lemmas.List.Sums.{AllPass-from_list_all}
 use Rattle.std.proofs.lemmas.Str.Ascii.{IsAscii-from_all}
-use Rattle.binder_code.specs.Commands.{name_of}
+use Rattle.binder_code.specs.Commands.{command_lines, return_lines, name_of}
 use Rattle.binder_code.specs.declared.record_kind.Kind.{Kind}
 use Rattle.binder_code.specs.declared.record_kind.Kind.TheVariants.{Opaque}
 
@@ -15,6 +15,7 @@ IsAscii-from_test text passed =
 
 -- the bytes of each name pass it
 name_of-passes : (kind : Kind) → list_all (λ byte. nat_lt byte 128) (name_of kind) ≡ true
+unfolding command_lines return_lines
 name_of-passes Opaque = refl
 name_of-passes _ = refl
 
@@ -23,6 +24,7 @@ IsAscii-name_of kind = IsAscii-from_test (name_of kind) (name_of-passes kind)
 
 -- the length of each name passes the test
 name_of-fits : (kind : Kind) → nat_lt (length (name_of kind)) 33 ≡ true
+unfolding command_lines return_lines
 name_of-fits Opaque = refl
 name_of-fits _ = refl
 

@@ -1,16 +1,17 @@
 -- The kind of a code word, by the word as a whole.
 use Rattle.std.proofs.Common.{◌≡◌, ◌≢◌, ◌==◌, ◌+◌, ◌*◌, ◌^◌, ◌⊎◌, inl, inr, ℕ, Bool, true, false, Option, Some, None, Result, Ok, Err, IsSome, IfSome, IsSomeAnd, refl, sym, ap, subst, ◌∙◌, arith, eqb-true, eq-eqb}
 use Rattle.std.specs.Prelude.{find}
-use Rattle.std.specs.Option.{option_map_or, unwrap_or}
+use Rattle.std.specs.List.{AllByRecursion}
+use Rattle.std.specs.Option.{option_map_or}
 use Rattle.std.specs.Result.{result_unwrap_or}
 use Rattle.binder_code.specs.Code.{number, letter, size, direction}
-use Rattle.binder_code.specs.Commands.{Row, row_of, listed, word_of, direction_of, letter_of, kind_of, protocol_of_word, IsOfProtocol, is_word_of, kind_of_word}
+use Rattle.binder_code.specs.Commands.{Row, command_lines, return_lines, lines, row_of, has_word, word_of, direction_of, letter_of, kind_of, protocol_of_word, IsOfProtocol, is_word_of, kind_of_word}
 use Rattle.binder_code.specs.CommandLaws.{kind_of-word}
 use Rattle.binder_code.specs.declared.code.CodeFault.{CodeFault}
 use Rattle.binder_code.specs.declared.protocol.Protocol.{Protocol}
 use Rattle.binder_code.specs.declared.record_kind.Kind.{Kind}
 use Rattle.binder_code.specs.declared.record_kind.Kind.TheVariants.{Opaque}
-use Rattle.binder_code.proofs.KindOf.{find-true, kind_of-listed}
+use Rattle.binder_code.proofs.KindOf.{maps_same, found_with, kind_of-listed}
 use Rattle.binder_code.proofs.WordLaws.{kind_of-by_word}
 
 -- the word means the kind, in the protocol that its letter names
@@ -32,13 +33,19 @@ from_fields row protocol word of same numbered sized =
     let whole = fields word in
     omega (arith, letters, directions, numbered, sized, whole)
 
-line_word : (line : Option Row) (protocol : Protocol) (word : ℕ) → IsOfProtocol protocol word
+line_word : (line : Option Row) (protocol : Protocol) (word : ℕ) → IfSome line (λ row. word_of row ≡ row.word) → IsOfProtocol protocol word
     → IsSomeAnd line (λ row. (row.protocol ≡ protocol) × (row.number ≡ number word) × (row.size ≡ size word))
-    → option_map_or (λ (row : Row). word == word_of row) line false ≡ true
-line_word None protocol word of parts = absurd parts
-line_word (Some row) protocol word of parts = eq-eqb word (word_of row) (from_fields row protocol word of parts.0 parts.1 parts.2)
+    → option_map_or (has_word word) line false ≡ true
+line_word None protocol word own of parts = absurd parts
+line_word (Some row) protocol word own of parts = eq-eqb word row.word (from_fields row protocol word of parts.0 parts.1 parts.2 ∙ own)
+
+computed : (kind : Kind) → IfSome (row_of kind) (λ row. word_of row ≡ row.word)
+unfolding command_lines return_lines
+computed Opaque = tt
+computed _ = refl
 
 has_line : (kind : Kind) → kind ≢ Opaque → IsSome (row_of kind)
+unfolding command_lines return_lines
 has_line Opaque other = absurd (other refl)
 has_line _ other = refl
 
@@ -46,13 +53,13 @@ has_line _ other = refl
 pub word_of_meant : (kind : Kind) (word : ℕ) → kind ≢ Opaque → Means word kind → is_word_of kind word ≡ true
 word_of_meant kind word other means =
     let both = (kind_of-listed (protocol_of_word word) word kind (has_line kind other)).0 means in
-    line_word (row_of kind) (protocol_of_word word) word both.0 both.1
+    line_word (row_of kind) (protocol_of_word word) word (computed kind) both.0 both.1
 
-line_meant : (line : Option Row) (kind : Kind) (word : ℕ) → IfSome line (λ row. kind_of row.protocol (word_of row) ≡ Ok kind)
-    → option_map_or (λ (row : Row). word == word_of row) line false ≡ true → Means word kind
+line_meant : (line : Option Row) (kind : Kind) (word : ℕ) → IfSome line (λ row. kind_of row.protocol row.word ≡ Ok kind)
+    → option_map_or (has_word word) line false ≡ true → Means word kind
 line_meant None kind word stated is = absurd cc
 line_meant (Some row) kind word stated is =
-    subst (λ (w : ℕ). Means w kind) (sym (eqb-true word (word_of row) is)) (kind_of-by_word row.protocol (word_of row) kind stated)
+    subst (λ (w : ℕ). Means w kind) (sym (eqb-true word row.word is)) (kind_of-by_word row.protocol row.word kind stated)
 
 -- and a kind's word means the kind
 pub meant_by_word : (kind : Kind) (word : ℕ) → is_word_of kind word ≡ true → Means word kind
@@ -65,22 +72,30 @@ opaque_or_not Opaque = inl refl
 opaque_or_not _ = inr (λ same. absurd cc)
 
 -- the word of each listed kind is that of the kind alone
-own_word : (kind : Kind) → IfSome (row_of kind) (λ row. kind_of_word (word_of row) ≡ kind)
+own_word : (kind : Kind) → IfSome (row_of kind) (λ row. kind_of_word row.word ≡ kind)
+unfolding command_lines return_lines
 own_word Opaque = tt
 own_word _ = refl
 
-line_kind : (line : Option Row) (kind : Kind) (word : ℕ) → IfSome line (λ row. kind_of_word (word_of row) ≡ kind)
-    → option_map_or (λ (row : Row). word == word_of row) line false ≡ true → kind_of_word word ≡ kind
+line_kind : (line : Option Row) (kind : Kind) (word : ℕ) → IfSome line (λ row. kind_of_word row.word ≡ kind)
+    → option_map_or (has_word word) line false ≡ true → kind_of_word word ≡ kind
 line_kind None kind word own is = let none : ⊥ = cc in absurd none
-line_kind (Some row) kind word own is = subst (λ (w : ℕ). kind_of_word w ≡ kind) (sym (eqb-true word (word_of row) is)) own
+line_kind (Some row) kind word own is = subst (λ (w : ℕ). kind_of_word w ≡ kind) (sym (eqb-true word row.word is)) own
+
+-- the word of each line means its kind
+lines_meant : AllByRecursion (λ row. kind_of (protocol_of_word row.word) row.word ≡ Ok row.kind) lines
+unfolding command_lines return_lines
+lines_meant = maps_same (λ row. kind_of (protocol_of_word row.word) row.word) (λ row. Ok row.kind) lines refl
 
 -- what the word means in the protocol that its letter names, or the kind of opaque records if it means nothing there
 pub kind_by_word : (word : ℕ) → result_unwrap_or (kind_of (protocol_of_word word) word) Opaque ≡ kind_of_word word
 kind_by_word word =
-    let test : Kind → Bool = λ kind. is_word_of kind word in
     let meaning = kind_of (protocol_of_word word) word in
-    elim (find test listed) as (λ o. (find test listed ≡ o) → result_unwrap_or meaning Opaque ≡ unwrap_or o Opaque) [
-      | Some kind ↦ λ is. ap (λ (r : Result Kind CodeFault). result_unwrap_or r Opaque) (meant_by_word kind word (find-true test listed kind is))
+    elim (find (has_word word) lines) as (λ o. (find (has_word word) lines ≡ o) → result_unwrap_or meaning Opaque ≡ option_map_or (λ row. row.kind) o Opaque) [
+      | Some row ↦ λ is.
+          let with = found_with (has_word word) (λ row. Means row.word row.kind) lines lines_meant row is in
+          let means = subst (λ (w : ℕ). Means w row.kind) (sym (eqb-true word row.word with.0)) with.1 in
+          ap (λ (r : Result Kind CodeFault). result_unwrap_or r Opaque) means
       | None ↦ λ is.
           elim meaning as (λ r. (meaning ≡ r) → result_unwrap_or r Opaque ≡ Opaque) [
             | Err fault ↦ λ means. refl
@@ -88,7 +103,7 @@ kind_by_word word =
               | inl same ↦ same
               | inr other ↦
                   let own = line_kind (row_of kind) kind word (own_word kind) (word_of_meant kind word other means) in
-                  sym own ∙ ap (λ (o : Option Kind). unwrap_or o Opaque) is
+                  sym own ∙ ap (λ (o : Option Row). option_map_or (λ row. row.kind) o Opaque) is
             ]
           ] refl
     ] refl

@@ -2,3 +2,4 @@ pub mod Code
 pub mod CommandLaws
 pub mod Commands
 pub mod Flags
+pub mod Lines

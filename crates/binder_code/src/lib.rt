@@ -13,4 +13,4 @@ pub use code::{Code, CodeFault};
 pub use flags::{TransactionFlags, unknown_bits};
 pub use judge::kind;
 pub use protocol::Protocol;
-pub use record_kind::Kind;
+pub use record_kind::{Kind, Line};

@@ -1,7 +1,7 @@
 -- The openers and the unmatched closers of bracketed events, as they are defined and as they are read from the end.
 use Rattle.std.proofs.Common.{◌≡◌, ℕ, zero, suc, ◌+◌, ◌-◌, ◌==◌, ◌&&◌, Bool, true, false, cond, Option, Some, None, refl, sym, ap, ap₂, subst, ◌∙◌, arith, ne_eqb}
 use Rattle.std.proofs.Common.{List, [], ◌∷◌, ◌++◌, map, drop}
-use Rattle.std.proofs.lemmas.List.{map-append}
+use Rattle.std.proofs.lemmas.List.{drop_all, map-append}
 use Rattle.std.proofs.lemmas.List.Sums.{fold-append}
 use Rattle.std.proofs.lemmas.Simd.{map-map}
 use Rattle.std.specs.List.{cons_option, fold}
@@ -33,30 +33,16 @@ module _ {E : Type 0} where
   -- the open calls take the first of the later unmatched closers, and the others are left
   left : (s : Side) (n : ℕ) (x : Bracketed E) (later after : List (Bracketed E)) → drop (open_after n s) later ≡ after
       → drop n (put s x later) ≡ cons_option (cond (is_closer s && (n == 0)) (Some x) None) after
-  left opener n x [] after same = drop-nil n ∙ sym (drop-nil (n + 1)) ∙ same
-    where
-      drop-nil : (n : ℕ) → drop {A = Bracketed E} n [] ≡ []
-      drop-nil zero = refl
-      drop-nil (suc n) = refl
-  left opener n x (y ∷ later) after same = ap (λ (k : ℕ). drop k (y ∷ later)) (add-one-is n) ∙ same
-    where
-      add-one-is : (n : ℕ) → suc n ≡ n + 1
-      add-one-is n = omega arith
+  left opener n x [] after same = drop_all n [] (omega arith) ∙ sym (drop_all (n + 1) [] (omega arith)) ∙ same
+  left opener n x (y ∷ later) after same = ap (λ (k : ℕ). drop k (y ∷ later)) (let one : suc n ≡ n + 1 = omega arith in one) ∙ same
   left closer zero x later after same = ap (λ (t : List (Bracketed E)). x ∷ t) same
   left closer (suc n) x later after same =
-      ap (λ (k : ℕ). drop k later) (less-one-is n) ∙ same
+      ap (λ (k : ℕ). drop k later) (let one : n ≡ suc n - 1 = omega arith in one) ∙ same
       ∙ ap (λ (b : Bool). cons_option (cond b (Some x) None) after) (sym (ne_eqb (suc n) 0 (λ zero_is. absurd (omega (arith, zero_is)))))
-    where
-      less-one-is : (n : ℕ) → n ≡ suc n - 1
-      less-one-is n = omega arith
   left neither n x later after same = same
 
   unmatched-left : (before items : List (Bracketed E)) → drop (open_count before) (strays own_side items) ≡ read_each (chosen is_unmatched) before items
-  unmatched-left before [] = nothing (open_count before)
-    where
-      nothing : (n : ℕ) → drop {A = Bracketed E} n [] ≡ []
-      nothing zero = refl
-      nothing (suc n) = refl
+  unmatched-left before [] = drop_all (open_count before) [] (omega arith)
   unmatched-left before (x ∷ items) =
       left (own_side x) (open_count before) x (strays own_side items) (read_each (chosen is_unmatched) (before ++ x ∷ []) items)
       (ap (λ (n : ℕ). drop n (strays own_side items)) (sym (count-more before x)) ∙ unmatched-left (before ++ x ∷ []) items)

@@ -5,6 +5,7 @@ use Rattle.std.proofs.lemmas.List.{append-nil, map-append}
 use Rattle.std.proofs.lemmas.List.Sums.{fold-append}
 use Rattle.std.proofs.lemmas.List.Elements.{All-contains}
 use Rattle.std.proofs.lemmas.List.Quantifiers.{all_pairs_push}
+use Rattle.std.proofs.lemmas.Option.{cond_some, same_Some}
 use Rattle.std.specs.List.{find}
 use Rattle.std.specs.List.Sorted.{IsPermutation, IsNonDecreasingBy}
 use Rattle.std.specs.Option.{option_or, option_to_list, option_and_then}
@@ -17,40 +18,37 @@ use Rattle.summary_law.specs.Summary.{Adds}
 use Rattle.call_stacks.specs.declared.findings.CallFindings.{CallFindings}
 use Rattle.call_stacks.specs.declared.findings.RefusedSend.{RefusedSend}
 use Rattle.call_stacks.specs.declared.calls.Calls.{Calls}
-use Rattle.call_stacks.specs.Calls.{Reads, bracketed_with, bracketed_of, bracketed_piece, opener_place, bracket_read, bracket_in_piece, mark_after, last_mark, is_error, is_refused, if_error_reply, undecided_of, refused_of, openers_of, strays_in, CallsSum, AreFindings, how_many, kept_of, open_call}
+use Rattle.call_stacks.specs.Calls.{Reads, bracketed_with, bracketed_of, bracketed_piece, opener_place, bracket_read, bracket_in_piece, mark_after, last_mark, is_error, is_refused, if_error_reply, undecided_of, refused_of, openers_of, strays_in, CallsSum, AreFindings, how_many, kept_of, open_call, with_verdict}
 use Rattle.call_stacks.specs.Content.{Content, content_of, sum_64, ClosesAll, appended}
 use Rattle.call_stacks.specs.Matching.{Side}
-use Rattle.call_stacks.specs.Verdicts.{side_of, is_answered, is_replied}
+use Rattle.call_stacks.specs.Verdicts.{side_of, is_answered, is_open, is_replied}
 use Rattle.call_stacks.proofs.MarkLaws.{error_bracket, none_refused}
 use Rattle.call_stacks.proofs.Bracketing.{pair, side, paired, same_bracketing, decided, error_openers, decided_pairs, decided_refused}
 use Rattle.call_stacks.proofs.Found.{openers-found, strays-found}
 use Rattle.call_stacks.proofs.Lists.{found, event_of, openers_found, openers_listed}
 use Rattle.summary_law.proofs.Members.{In, Rises, contained, rises_from_pairs}
-use Rattle.call_stacks.proofs.Model.{same_some, some_is_some, strays, openers, put, entry, strays-append, openers-append, strays-strays, AllClosers, strays_closers, strays_of_closers, openers_of_closers}
+use Rattle.call_stacks.proofs.Model.{strays, openers, put, entry, strays-append, openers-append, strays-strays, AllClosers, strays_closers, strays_of_closers, openers_of_closers}
 use Rattle.call_stacks.proofs.Kept.{kept_in_place}
 use Rattle.call_stacks.proofs.Steps.{all_found, HoldsCalls, holds_both, holds_same, Models, closes_all_models, as_closers}
 use Rattle.call_stacks.proofs.Sums.{Holds, holds, marked, paired-append, refused-append, none_of_one, closes_keeps, fold_mark, no_mark_undecided, undecided_kept, undecided_later, error_alone, exact_count}
 
 find_in : {X : Type 0} (test : X → Bool) (xs : List X) (x : X) → find test xs ≡ Some x → In x xs
-find_in test [] x e = absurd (some_is_some x (sym e))
+find_in test [] x e = absurd cc
 find_in test (y ∷ xs) x e =
     elim (test y) as (λ b. cond b (Some y) (find test xs) ≡ Some x → In x (y ∷ xs)) [
-      | true ↦ λ here. inl (sym (same_some y x here))
+      | true ↦ λ here. inl (sym (same_Some y x here))
       | false ↦ λ there. inr (find_in test xs x there)
     ] e
 
 module _ {E : Type 0} (reads : Reads E) where
   -- ---- the undecided error reply
 
-  from_error : (b : Bool) (x u : E) → cond b (Some x) None ≡ Some u → (b ≡ true) × (x ≡ u)
-  from_error true x u e = (refl, same_some x u e)
-  from_error false x u e = absurd (some_is_some u (sym e))
-
-  error_found : (o : Option E) (u : E) → option_and_then (if_error_reply reads) o ≡ Some u → is_error (bracket_read reads None u) ≡ true
-  error_found None u e = absurd (some_is_some u (sym e))
+  error_found : (o : Option E) (u : E) → option_and_then (if_error_reply reads) o ≡ Some u
+      → (o ≡ Some u) × (is_error (bracket_read reads None u) ≡ true)
+  error_found None u e = absurd cc
   error_found (Some x) u e =
-      let both = from_error (is_error (bracket_read reads None x)) x u e in
-      ap (λ (y : E). is_error (bracket_read reads None y)) (sym both.1) ∙ both.0
+      let both = cond_some (is_error (bracket_read reads None x)) x u e in
+      (ap Some both.1, ap (λ (y : E). is_error (bracket_read reads None y)) (sym both.1) ∙ both.0)
 
   -- if there is one, it is an error reply
   abbrev IsError : Option E → Type 0
@@ -95,7 +93,7 @@ module _ {E : Type 0} (reads : Reads E) where
     refused_are : refused_of (bracketed_with reads (bracket_in_piece reads) before later) ≡ undecided_refused before (undecided_of reads later) ++ refused_of (bracketed_piece reads later)
 
   is_error_of : (later : List E) → IsError (undecided_of reads later)
-  is_error_of later u e = error_found _ u e
+  is_error_of later u e = (error_found _ u e).1
 
   after_mark : (before : Option Mark) (later : List E) → AfterMark before later
   after_mark None later =
@@ -212,12 +210,8 @@ module _ {E : Type 0} (reads : Reads E) where
 
   -- ---- the first piece with the undecided error reply
 
-  error_is : (o : Option E) (u : E) → option_and_then (if_error_reply reads) o ≡ Some u → o ≡ Some u
-  error_is None u e = e
-  error_is (Some x) u e = ap Some (from_error (is_error (bracket_read reads None x)) x u e).1
-
   undecided_in : (events : List E) (u : E) → undecided_of reads events ≡ Some u → In u events
-  undecided_in events u e = find_in (marked reads) events u (error_is (find (marked reads) events) u e)
+  undecided_in events u e = find_in (marked reads) events u (error_found (find (marked reads) events) u e).0
 
   pub placed_undecided : (first second : List E) (u : E) → IsPlaced reads.place (first ++ second) → undecided_of reads second ≡ Some u
       → IsPlaced reads.place (first ++ u ∷ [])
@@ -296,6 +290,15 @@ module _ {E : Type 0} (reads : Reads E) (all_kept : Bool) where
 
   -- ---- the end
 
+  -- the calls of a whole thread are those of it as a piece
+  whole_openers : (events : List E) → all_found reads (paired reads (bracket_in_piece reads) None events) ≡ openers_of reads events
+  whole_openers events =
+      ap (map (found reads)) (sym (decided reads None events).openers_are) ∙ sym (openers-found reads (bracketed_of reads events))
+
+  pub left_open : (calls : Calls E) (events : List E) → Holds reads all_kept (content_of calls) events
+      → map open_call calls.unmatched.items ≡ with_verdict is_open (openers_of reads events)
+  left_open calls events held = held.models.calls.unmatched_are ∙ ap (with_verdict is_open) (whole_openers events)
+
   pub finished : (calls : Calls E) (findings : CallFindings E) (events : List E) → Holds reads all_kept (content_of calls) events
       → IsPermutation (calls.closed.items ++ map open_call calls.unmatched.items) findings.openers.items
       → IsNonDecreasingBy (opener_place reads) findings.openers.items
@@ -306,8 +309,7 @@ module _ {E : Type 0} (reads : Reads E) (all_kept : Bool) where
       let rises = rises_from_pairs reads.place events held.placed.1 in
       let settled = decided reads None events in
       let part = paired reads (bracket_in_piece reads) None events in
-      let openers_are : all_found reads part ≡ openers_of reads events
-      = ap (map (found reads)) (sym settled.openers_are) ∙ sym (openers-found reads (bracketed_of reads events)) in
+      let openers_are = whole_openers events in
       let listed = openers_listed reads (bracket_read reads) None events rises in
       let rising = rises_from_pairs (opener_place reads) (openers_found reads (bracketed_of reads events)) listed.rising in
       let strays_are : findings.strays.items ≡ strays_in (bracketed_of reads events)

@@ -1,78 +1,49 @@
 -- What is kept of calls, one after another and in the order of their places.
-use Rattle.std.proofs.Common.{◌≡◌, ℕ, Bool, true, false, cond, not, refl, sym, ap, subst, ◌∙◌, inl, inr, List, [], ◌∷◌, ◌++◌, append_assoc}
+use Rattle.std.proofs.Common.{◌≡◌, ℕ, ◌<◌, Bool, true, false, ◌&&◌, refl, sym, ap₂, subst, List, ◌++◌}
 use Rattle.std.proofs.lemmas.List.Elements.{filter-append}
-use Rattle.std.proofs.lemmas.List.Sorted.{IsPermutation-append, IsPermutation-append_right, IsPermutation-cons, IsPermutation-middle, IsPermutation-refl, IsPermutation-sym, IsPermutation-trans}
+use Rattle.std.proofs.lemmas.List.Kept.{AllPairs-filter}
+use Rattle.std.proofs.lemmas.List.Sorted.{IsPermutation-append, IsPermutation-filter_both, IsPermutation-refl, IsPermutation-trans}
+use Rattle.std.proofs.Math.Bool.{not-not}
 use Rattle.std.specs.List.{filter}
 use Rattle.std.specs.List.Sorted.{IsPermutation, IsNonDecreasingBy}
 use Rattle.call_stacks.specs.declared.opener.Opener.{Opener}
 use Rattle.call_stacks.specs.declared.verdict.Verdict.{Verdict}
-use Rattle.call_stacks.specs.declared.verdict.Verdict.TheVariants.{Answered, Failed, Replied, Crossed, Open}
+use Rattle.call_stacks.specs.declared.verdict.Verdict.TheVariants.{Open}
 use Rattle.call_stacks.specs.Calls.{with_verdict, kept_of}
 use Rattle.call_stacks.specs.Verdicts.{is_open, is_closed, lacks_reply}
-use Rattle.summary_law.proofs.Members.{In, Rises, in_place}
-
--- ---- lists whose places rise
-
-kept_in : {X : Type 0} (test : X → Bool) (xs : List X) (x : X) → In x (filter test xs) → In x xs
-kept_in test [] x here = absurd here
-kept_in test (y ∷ xs) x here =
-    elim (test y) as (λ b. In x (cond b (y ∷ filter test xs) (filter test xs)) → In x (y ∷ xs)) [
-      | true ↦ λ there. elim there [ inl same ↦ inl same | inr later ↦ inr (kept_in test xs x later) ]
-      | false ↦ λ later. inr (kept_in test xs x later)
-    ] here
+use Rattle.summary_law.proofs.FilterLaws.{filter_swap, filter_twice}
+use Rattle.summary_law.proofs.Members.{Rises, in_place, pairs_from_rises, rises_from_pairs}
 
 rises-filter : {X : Type 0} (rank : X → ℕ) (test : X → Bool) (xs : List X) → Rises rank xs → Rises rank (filter test xs)
-rises-filter rank test [] rises = tt
-rises-filter rank test (x ∷ xs) rises =
-    let rest = rises-filter rank test xs rises.1 in
-    elim (test x) as (λ b. Rises rank (cond b (x ∷ filter test xs) (filter test xs))) [
-      | true ↦ (λ y there. rises.0 y (kept_in test xs y there), rest)
-      | false ↦ rest
-    ]
+rises-filter rank test xs rises =
+    rises_from_pairs rank (filter test xs) (AllPairs-filter (λ x y. rank x < rank y) test xs (pairs_from_rises rank xs rises))
 
-open_lacks : (verdict : Verdict) → is_open verdict ≡ true → lacks_reply verdict ≡ true
-open_lacks Answered is = absurd cc
-open_lacks Failed is = refl
-open_lacks Replied is = absurd cc
-open_lacks Crossed is = refl
-open_lacks Open is = refl
+-- an open call lacks its reply
+open_lacks : (verdict : Verdict) → is_open verdict ≡ (lacks_reply verdict && is_open verdict)
+open_lacks Open = refl
+open_lacks _ = refl
 
 module _ {E : Type 0} where
   pub kept-append : (all_kept : Bool) (first second : List (Opener E)) → kept_of all_kept (first ++ second) ≡ kept_of all_kept first ++ kept_of all_kept second
   kept-append true first second = refl
   kept-append false first second = filter-append (λ (o : Opener E). lacks_reply o.verdict) first second
 
-  -- an open call is kept
-  open_kept : (all_kept : Bool) (call : Opener E) → is_open call.verdict ≡ true → kept_of all_kept (call ∷ []) ≡ call ∷ []
-  open_kept true call is = refl
-  open_kept false call is = ap (λ (b : Bool). cond b (call ∷ []) []) (open_lacks call.verdict is)
+  abbrev is_closed_call : Opener E → Bool
+  is_closed_call call = is_closed call.verdict
+
+  abbrev is_open_call : Opener E → Bool
+  is_open_call call = is_open call.verdict
 
   -- the calls that are kept are the closed ones that are kept and the open ones
   parted : (all_kept : Bool) (calls : List (Opener E))
       → IsPermutation (kept_of all_kept calls) (kept_of all_kept (with_verdict is_closed calls) ++ with_verdict is_open calls)
-  parted true [] = IsPermutation-refl []
-  parted false [] = IsPermutation-refl []
-  parted all_kept (call ∷ calls) =
-      let one = kept_of all_kept (call ∷ []) in
-      let rest = kept_of all_kept calls in
-      let closed = with_verdict is_closed calls in
-      let left = with_verdict is_open calls in
-      let split : kept_of all_kept (call ∷ calls) ≡ one ++ rest = kept-append all_kept (call ∷ []) calls in
-      let both = parted all_kept calls in
-      subst (λ (l : List (Opener E)). IsPermutation l (kept_of all_kept (with_verdict is_closed (call ∷ calls)) ++ with_verdict is_open (call ∷ calls))) (sym split)
-      (elim (is_open call.verdict) as (λ b. (is_open call.verdict ≡ b)
-      → IsPermutation (one ++ rest) (kept_of all_kept (cond (not b) (call ∷ closed) closed) ++ cond b (call ∷ left) left)) [
-        | true ↦ λ is.
-            subst (λ (l : List (Opener E)). IsPermutation (l ++ rest) (kept_of all_kept closed ++ (call ∷ left))) (sym (open_kept all_kept call is))
-            (IsPermutation-trans (call ∷ rest) (call ∷ (kept_of all_kept closed ++ left)) (kept_of all_kept closed ++ (call ∷ left))
-            (IsPermutation-cons call rest (kept_of all_kept closed ++ left) both)
-            (IsPermutation-sym (kept_of all_kept closed ++ (call ∷ left)) (call ∷ (kept_of all_kept closed ++ left))
-            (IsPermutation-middle (kept_of all_kept closed) call left)))
-        | false ↦ λ is.
-            subst (IsPermutation (one ++ rest))
-            (sym (append_assoc one (kept_of all_kept closed) left) ∙ ap (λ (l : List (Opener E)). l ++ left) (sym (kept-append all_kept (call ∷ []) closed)))
-            (IsPermutation-append_right one rest (kept_of all_kept closed ++ left) both)
-      ] refl)
+  parted true calls = IsPermutation-filter_both is_closed_call is_open_call (λ call. sym (not-not (is_open call.verdict))) calls
+  parted false calls =
+      let lacks : Opener E → Bool = λ call. lacks_reply call.verdict in
+      subst (IsPermutation (filter lacks calls))
+      (ap₂ (λ (xs ys : List (Opener E)). xs ++ ys) (filter_swap is_closed_call lacks calls)
+      (filter_twice is_open_call lacks is_open_call (λ call. open_lacks call.verdict) calls))
+      (IsPermutation-filter_both is_closed_call is_open_call (λ call. sym (not-not (is_open call.verdict))) (filter lacks calls))
 
   kept_rises : (rank : Opener E → ℕ) (all_kept : Bool) (calls : List (Opener E)) → Rises rank calls → Rises rank (kept_of all_kept calls)
   kept_rises rank true calls rises = rises

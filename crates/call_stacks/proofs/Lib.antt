@@ -1,6 +1,5 @@
 pub mod Model
 pub mod Counting
-pub mod Numbered
 pub mod MarkLaws
 pub mod Bracketing
 pub mod Kept

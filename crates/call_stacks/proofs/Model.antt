@@ -3,6 +3,7 @@
 use Rattle.std.proofs.Common.{◌≡◌, Option, Some, None, refl, sym, ap, subst, ◌∙◌}
 use Rattle.std.proofs.Common.{List, [], ◌∷◌, ◌++◌, map, drop}
 use Rattle.std.specs.Prelude.{slice_get, option_map}
+use Rattle.std.proofs.lemmas.Option.{none-some}
 use Rattle.call_stacks.specs.Matching.{Side, opener, closer, neither}
 
 abbrev pub first_of : {A : Type 0} → List A → Option A
@@ -148,15 +149,6 @@ closes_none side (x ∷ items) c e all =
 pub first_is : {A : Type 0} (x y : A) (xs ys : List A) → (x ∷ xs) ≡ (y ∷ ys) → x ≡ y
 first_is x y xs ys e = cc
 
-pub same_some : {A : Type 0} (x y : A) → Some x ≡ Some y → x ≡ y
-same_some x y e = cc
-
-pub some_is_some : {A : Type 0} (x : A) → Some x ≡ None → ⊥
-some_is_some x e = cc
-
-pub nil_is_nil : {A : Type 0} (x : A) (xs : List A) → [] ≡ (x ∷ xs) → ⊥
-nil_is_nil x xs e = cc
-
 -- ---- one more closer after an opener that has none
 
 last_step : {A : Type 0} (s : Side) (y c : A) (later new : List A) (rest more front : List (A × Option A)) (x : A) (back : List (A × Option A))
@@ -171,7 +163,7 @@ last_step {A} opener y c [] new rest more [] x back e all none some =
     (ap (λ t. (y, first_of t) ∷ more) both.1 ∙ ap (λ t. (y, Some c) ∷ t) (both.0 ∙ same) ∙ ap (λ t. (t, Some c) ∷ back) here, ap (drop 1) both.1)
 last_step opener y c (z ∷ later) new rest more [] x back e all none some =
     let wrong : Some z ≡ None = ap (λ p. p.1) (first_is (y, Some z) (x, None) rest back e) in
-    absurd (some_is_some z wrong)
+    absurd (none-some z (sym wrong))
 last_step opener y c later new rest more (f ∷ front) x back e all none some =
     let both = some front (ap (drop 1) e) in
     let here : (y, first_of later) ≡ f = first_is (y, first_of later) f rest (front ++ (x, None) ∷ back) e in (
@@ -187,8 +179,8 @@ last_step neither y c later new rest more front x back e all none some = some fr
 pub closes_last : {A : Type 0} (side : A → Side) (items : List A) (c : A) (front : List (A × Option A)) (x : A) (back : List (A × Option A))
     → side c ≡ closer → openers side items ≡ front ++ (x, None) ∷ back → AllClosed back
     → (openers side (items ++ c ∷ []) ≡ front ++ (x, Some c) ∷ back) × (strays side (items ++ c ∷ []) ≡ strays side items)
-closes_last side [] c [] x back e is all = absurd (nil_is_nil (x, None) back is)
-closes_last side [] c (f ∷ front) x back e is all = absurd (nil_is_nil f (front ++ (x, None) ∷ back) is)
+closes_last side [] c [] x back e is all = absurd cc
+closes_last side [] c (f ∷ front) x back e is all = absurd cc
 closes_last side (y ∷ items) c front x back e is all =
     last_step (side y) y c (strays side items) (strays side (items ++ c ∷ [])) (openers side items) (openers side (items ++ c ∷ [])) front x back is all
     (λ rest. closes_none side items c e rest)

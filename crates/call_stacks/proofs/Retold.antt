@@ -1,8 +1,7 @@
 -- The calls of events that are given in another form: if the other form reads the same, they are the same.
-use Rattle.std.proofs.Common.{◌≡◌, ℕ, ◌+◌, Bool, true, false, cond, Option, Some, None, refl, sym, ap, ap₂, ◌∙◌}
+use Rattle.std.proofs.Common.{◌≡◌, ℕ, Bool, true, false, cond, Option, Some, None, refl, sym, ap, ap₂, ◌∙◌}
 use Rattle.std.proofs.Common.{List, [], ◌∷◌, map}
 use Rattle.std.proofs.lemmas.Simd.{map-map}
-use Rattle.std.proofs.lemmas.List.Sums.{sum_by-cons}
 use Rattle.std.specs.List.{cons_option}
 use Rattle.std.specs.Option.{option_or}
 use Rattle.event_core.specs.Brackets.{mark_of, bracket_of}
@@ -12,8 +11,9 @@ use Rattle.call_stacks.specs.declared.findings.CallFindings.{CallFindings}
 use Rattle.call_stacks.specs.declared.findings.RefusedSend.{RefusedSend}
 use Rattle.call_stacks.specs.declared.opener.Opener.{Opener}
 use Rattle.call_stacks.specs.Calls.{Reads, Bracketed, bracket_read, mark_after, bracketed_with, bracketed_of, openers_of, strays_in, verdict_read}
-use Rattle.call_stacks.specs.Calls.{is_refused, is_oneway_mark, refused_of, AreFindings, with_verdict, how_many, kept_of}
+use Rattle.call_stacks.specs.Calls.{is_refused, is_oneway_mark, refused_of, AreFindings, how_many, kept_of}
 use Rattle.call_stacks.specs.Matching.{Side}
+use Rattle.summary_law.proofs.FilterLaws.{count_by-map, filter-map}
 use Rattle.call_stacks.specs.Verdicts.{side_of, verdict_of, is_answered, is_replied, lacks_reply}
 use Rattle.call_stacks.specs.declared.verdict.Verdict.{Verdict}
 use Rattle.call_stacks.proofs.Found.{openers-found, strays-found}
@@ -107,28 +107,10 @@ refused_told {E} {F} tell (j ∷ items) =
 
 -- ---- calls by their verdicts
 
-with_told : {E F : Type 0} (tell : E → F) (test : Verdict → Bool) (calls : List (Opener E))
-    → with_verdict test (map (told_opener tell) calls) ≡ map (told_opener tell) (with_verdict test calls)
-with_told tell test [] = refl
-with_told {E} {F} tell test (call ∷ calls) =
-    let rest = with_told tell test calls in
-    elim (test call.verdict) as (λ b. cond b (told_opener tell call ∷ with_verdict test (map (told_opener tell) calls)) (with_verdict test (map (told_opener tell) calls))
-    ≡ map (told_opener tell) (cond b (call ∷ with_verdict test calls) (with_verdict test calls))) [
-      | true ↦ ap (λ (l : List (Opener F)). told_opener tell call ∷ l) rest
-      | false ↦ rest
-    ]
-
 kept_told : {E F : Type 0} (tell : E → F) (all_kept : Bool) (calls : List (Opener E))
     → kept_of all_kept (map (told_opener tell) calls) ≡ map (told_opener tell) (kept_of all_kept calls)
 kept_told tell true calls = refl
-kept_told tell false calls = with_told tell lacks_reply calls
-
-counted_told : {E F : Type 0} (tell : E → F) (test : Verdict → Bool) (calls : List (Opener E)) → how_many test (map (told_opener tell) calls) ≡ how_many test calls
-counted_told tell test [] = refl
-counted_told {E} {F} tell test (call ∷ calls) =
-    sum_by-cons (λ (o : Opener F). cond (test o.verdict) 1 0) (told_opener tell call) (map (told_opener tell) calls)
-    ∙ ap (λ (n : ℕ). cond (test call.verdict) 1 0 + n) (counted_told tell test calls)
-    ∙ sym (sum_by-cons (λ (o : Opener E). cond (test o.verdict) 1 0) call calls)
+kept_told tell false calls = filter-map (told_opener tell) (λ o. lacks_reply o.verdict) calls
 
 -- ---- the findings of events in another form, as those of the events themselves
 
@@ -158,8 +140,8 @@ module _ {E F : Type 0} (from : Reads E) (into : Reads F) (tell : E → F) (alik
     pub retold : Retold
     retold = record {
       kept = are.kept ∙ ap (kept_of all_kept) all_openers ∙ kept_told tell all_kept (openers_of from events);
-      answered = are.answered ∙ ap (how_many is_answered) all_openers ∙ counted_told tell is_answered (openers_of from events);
-      replied = are.replied ∙ ap (how_many is_replied) all_openers ∙ counted_told tell is_replied (openers_of from events);
+      answered = are.answered ∙ ap (how_many is_answered) all_openers ∙ count_by-map (told_opener tell) (λ o. is_answered o.verdict) (openers_of from events);
+      replied = are.replied ∙ ap (how_many is_replied) all_openers ∙ count_by-map (told_opener tell) (λ o. is_replied o.verdict) (openers_of from events);
       strays = are.strays ∙ all_strays;
       refused = are.refused ∙ ap refused_of (bracketed_told from into tell alike events) ∙ refused_told tell (bracketed_of from events);
     }

@@ -18,7 +18,7 @@ use Rattle.call_stacks.proofs.Bracketing.{side}
 use Rattle.call_stacks.proofs.Kept.{kept-append}
 use Rattle.call_stacks.proofs.Lists.{found, event_of}
 use Rattle.call_stacks.proofs.Model as model
-use Rattle.call_stacks.proofs.Model.{strays, openers, strays-append, openers-append, AllClosed, first_is, nil_is_nil}
+use Rattle.call_stacks.proofs.Model.{strays, openers, strays-append, openers-append, AllClosed, first_is}
 
 -- ---- calls by their verdicts
 
@@ -60,8 +60,8 @@ none_counted old n is = omega (arith, is)
 -- ---- the openers without a closer
 
 push_is_nil : {X Y : Type 0} (f : X → Y) (xs : List X) (x : X) → map f (xs ++ x ∷ []) ≡ [] → ⊥
-push_is_nil f [] x e = nil_is_nil (f x) [] (sym e)
-push_is_nil f (y ∷ xs) x e = nil_is_nil (f y) (map f (xs ++ x ∷ [])) (sym e)
+push_is_nil f [] x e = cc
+push_is_nil f (y ∷ xs) x e = cc
 
 module _ {E : Type 0} where
   -- these events, all as closers
@@ -95,7 +95,7 @@ module _ {E : Type 0} (reads : Reads E) where
 
   all_closed : (items : List ((E × Side) × Option (E × Side))) → open_found items ≡ [] → AllClosed items
   all_closed [] e = tt
-  all_closed ((x, None) ∷ later) e = nil_is_nil (found reads (x, None)) (open_found later) (sym e)
+  all_closed ((x, None) ∷ later) e = cc
   all_closed ((x, Some c) ∷ later) e = all_closed later (sym (closed_found x c later) ∙ e)
 
   none_open : (items : List ((E × Side) × Option (E × Side))) → AllClosed items → open_found items ≡ []

@@ -24,7 +24,7 @@ use Rattle.call_stacks.proofs.MarkLaws.{error_marks}
 use Rattle.call_stacks.proofs.Bracketing.{pair, side, paired, bracketed-append, not_sent}
 use Rattle.call_stacks.proofs.Found.{openers-found, strays-found}
 use Rattle.call_stacks.proofs.Lists.{found}
-use Rattle.call_stacks.proofs.Model.{some_is_some, openers, strays, entry}
+use Rattle.call_stacks.proofs.Model.{openers, strays, entry}
 use Rattle.call_stacks.proofs.Steps.{all_found, Models, models_same, passes_models, enters_models}
 
 entry_short : {A : Type 0} (s : Side) (x : A) (later : List A) (rest : List (A × Option A)) (n : ℕ) → length rest ≤ n → length (entry s x later rest) ≤ suc n
@@ -51,7 +51,7 @@ module _ {E : Type 0} (reads : Reads E) where
   marked event = is_some (mark_read reads event)
 
   stays_marked : (mark : Mark) (events : List E) → fold (mark_after reads) (Some mark) events ≡ None → ⊥
-  stays_marked mark [] e = some_is_some mark e
+  stays_marked mark [] e = cc
   stays_marked mark (x ∷ events) e =
       elim (mark_read reads x) as (λ o. fold (mark_after reads) (option_or o (Some mark)) events ≡ None → ⊥) [
         | None ↦ stays_marked mark events
@@ -67,7 +67,7 @@ module _ {E : Type 0} (reads : Reads E) where
       ] e
 
   mark_found : (mark : Mark) (events : List E) → last_mark reads events ≡ Some mark → (x : E) × (find marked events ≡ Some x)
-  mark_found mark [] e = absurd (some_is_some mark (sym e))
+  mark_found mark [] e = absurd cc
   mark_found mark (x ∷ events) e =
       elim (mark_read reads x) as (λ o. fold (mark_after reads) (option_or o None) events ≡ Some mark
       → (y : E) × (cond (is_some o) (Some x) (find marked events) ≡ Some y)) [

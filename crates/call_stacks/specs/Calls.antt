@@ -250,3 +250,9 @@ pub record CallsSum {E : Type 0} (reads : Reads E) (all_kept : Bool) (calls : Ca
 abbrev pub GivesFindings : {E : Type 0} → Reads E → Bool → Calls E → CallFindings E → Type 0
 GivesFindings {E} reads all_kept calls findings =
     (events : List E) → CallsSum reads all_kept calls events → AreFindings reads all_kept events findings
+
+-- for whatever events the value sums, taken as a whole thread, these open the calls that nothing closes, in their order
+abbrev pub GivesOpen : {E : Type 0} → Reads E → Bool → Calls E → List E → Type 0
+GivesOpen {E} reads all_kept calls openers =
+    (events : List E) → CallsSum reads all_kept calls events
+    → map open_call openers ≡ with_verdict is_open (openers_of reads events)

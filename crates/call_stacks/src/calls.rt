@@ -3,7 +3,8 @@
 ghost use Rattle.std.specs.Prelude.{◌≡◌, ◌++◌, map, IfOk, OnOk};
 ghost use Rattle.std.specs.List.Sorted.{IsPermutation, IsNonDecreasingBy};
 ghost use Rattle.summary_law.specs.Fits.{IsPlaced, placed_halves};
-ghost use Rattle.call_stacks.specs.Calls.{CallsSum, GivesFindings, open_call, opener_place};
+ghost use Rattle.summary_law.specs.Summary.{Adds};
+ghost use Rattle.call_stacks.specs.Calls.{CallsSum, GivesFindings, GivesOpen, open_call, opener_place};
 ghost use Rattle.call_stacks.specs.Content.{content_of, begun, counted, taken, refused_too, appended};
 ghost use Rattle.call_stacks.specs.Content.{Enters, Closes, ClosesAll};
 
@@ -68,6 +69,30 @@ impl<E: CallRecord> Calls<E> {
             strays,
             refused,
         })
+    }
+
+    /// The events that open the calls of a whole thread that nothing closes, in rising place.
+    pub fn open_calls(&self) -> &[E]
+        ensures { GivesOpen E.reads E.all_kept self.now result.now }
+    {
+        self.unmatched.as_slice()
+    }
+
+    /// Takes in the next event of the thread. Nothing is asked of the events here, but only those
+    /// that are few enough, and whose places rise, have a sum.
+    #[inline(always)]
+    pub fn follow(&mut self, event: E) -> Result<(), AllocError>
+        ensures { OnOk result (Adds (CallsSum E.reads E.all_kept) (IsPlaced E.reads.place)
+            self.old event self.new) }
+    {
+        let bracket = event.bracket(self.last);
+        if self.last.is_none() && bracket == Bracket::Error {
+            self.undecided = Some(event);
+        } else {
+            self.enter(event, bracket)?;
+        }
+        self.last = event.mark().or(self.last);
+        Ok(())
     }
 
     /// Takes in an event with its bracket.
@@ -223,14 +248,7 @@ impl<E: CallRecord> Summary for Calls<E> {
 
     #[inline(always)]
     fn add(&mut self, item: E) -> Result<(), AllocError> {
-        let bracket = item.bracket(self.last);
-        if self.last.is_none() && bracket == Bracket::Error {
-            self.undecided = Some(item);
-        } else {
-            self.enter(item, bracket)?;
-        }
-        self.last = item.mark().or(self.last);
-        Ok(())
+        self.follow(item)
     }
 
     fn join(self, later: Calls<E>) -> Result<Calls<E>, AllocError> {

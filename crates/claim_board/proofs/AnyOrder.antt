@@ -4,7 +4,7 @@ use native.Mathlib.Decide.{dec_le}
 use Rattle.std.specs.List.{All, slice_get}
 use Rattle.std.proofs.lemmas.Bool.{ltb-true, ltb-false}
 use Rattle.std.proofs.lemmas.List.{length-replicate}
-use Rattle.std.proofs.lemmas.Option.{slice_get-get_or, slice_get_within, get_or_from_slice_get}
+use Rattle.std.proofs.lemmas.Option.{slice_get-get_or, slice_get_within, get_or_from_slice_get, none-some, same_Some}
 use Rattle.std.proofs.lemmas.List.Elements.{All-head, All-tail, All-get_or, All-from_get_or}
 use Rattle.claim_board.specs.declared.job.Job.{Job}
 use Rattle.claim_board.specs.declared.job.JobState.{JobState}
@@ -63,18 +63,9 @@ pub record IsReached (jobs : List Job) (workers steps : ℕ) (t : BoardState) : 
   pub right : (i : ℕ) (s : JobState) → slice_get t.states i ≡ Some s → IsRight t.jobs t.stopped t.least i s
   pub least : (y : ℕ) → t.least ≡ Some y → HasFault t.jobs y
 
-is_some_of : (x y : ℕ) → Some x ≡ Some y → x ≡ y
-is_some_of x y e = cc
-
-job_is : (a b : Job) → Some a ≡ Some b → a ≡ b
-job_is a b e = cc
-
-no_some : (x : ℕ) → None ≡ Some x → ⊥
-no_some x e = cc
-
 pub sound_get : (jobs : List Job) (i : ℕ) (job : Job) → AreJobs jobs → slice_get jobs i ≡ Some job → IfSome job.fault (λ x. job.start ≤ x)
 sound_get [] i job a e = absurd (cc)
-sound_get (j ∷ js) zero job a e = subst (λ (q : Job). IfSome q.fault (λ x. q.start ≤ x)) (job_is j job e) a.0
+sound_get (j ∷ js) zero job a e = subst (λ (q : Job). IfSome q.fault (λ x. q.start ≤ x)) (same_Some j job e) a.0
 sound_get (j ∷ js) (suc i) job a e = sound_get js i job a.2 e
 
 opening_reached : (jobs : List Job) (workers : ℕ) → IsReached jobs workers 0 (opening_of jobs workers)
@@ -88,7 +79,7 @@ opening_reached jobs workers = record {
   fresh = λ i le lt. get_replicate (length jobs) Untouched i lt;
   touched = λ i lt. absurd (omega arith);
   right = λ i s e. subst (λ (p : JobState). IsRight jobs (replicate workers false) None i p) (got_replicate (length jobs) Untouched i s e) tt;
-  least = λ y e. absurd (no_some y e);
+  least = λ y e. absurd (none-some y e);
 }
 
 module _ (jobs : List Job) (workers steps : ℕ) (s : BoardState) (old : IsReached jobs workers steps s) where
@@ -187,8 +178,8 @@ module _ (jobs : List Job) (workers steps : ℕ) (s : BoardState) (old : IsReach
       (omega arith) old.next (apart_from i (Held w) held (λ e. cc)) (λ j less ne. less) (λ j p h. h) l.2 old.least
 
   lesser_le : (least : Option ℕ) (x y : ℕ) → least ≡ Some y → lesser_of least x ≤ y
-  lesser_le None x y e = absurd (no_some y e)
-  lesser_le (Some z) x y e = let q = is_some_of z y e in omega arith
+  lesser_le None x y e = absurd (none-some y e)
+  lesser_le (Some z) x y e = let q = same_Some z y e in omega arith
 
   lesser_least : (least : Option ℕ) (x : ℕ) → lesser_of least x ≤ x
   lesser_least None x = omega arith
@@ -210,8 +201,8 @@ module _ (jobs : List Job) (workers steps : ℕ) (s : BoardState) (old : IsReach
 
   lesser_from : (x : ℕ) → HasFault s.jobs x → (least : Option ℕ) → ((y : ℕ) → least ≡ Some y → HasFault s.jobs y)
       → (y : ℕ) → Some (lesser_of least x) ≡ Some y → HasFault s.jobs y
-  lesser_from x a None b y e = subst (λ n. HasFault s.jobs n) (is_some_of x y e) a
-  lesser_from x a (Some z) b y e = one_of x z y a (b z refl) (is_some_of (min z x) y e) (dec_le z x)
+  lesser_from x a None b y e = subst (λ n. HasFault s.jobs n) (same_Some x y e) a
+  lesser_from x a (Some z) b y e = one_of x z y a (b z refl) (same_Some (min z x) y e) (dec_le z x)
 
   lower_reached : (w i : ℕ) (job : Job) (x : ℕ) → slice_get s.jobs i ≡ Some job → job.fault ≡ Some x → slice_get s.states i ≡ Some (Faulty w)
       → IsReached jobs workers (steps + 1) (record s { least = Some (lesser_of s.least x); states = set s.states i (Lowered w) })
@@ -299,7 +290,7 @@ module _ (jobs : List Job) (workers steps : ℕ) (t : BoardState) (r : IsReached
       let is : get_or t.jobs f.0 blank_job ≡ f.1 = get_or_from_slice_get t.jobs f.0 f.1 blank_job f.2 in
       let not : (get_or t.jobs f.0 blank_job).fault ≡ None =
       All-get_or (λ (job : Job). job.fault ≡ None) t.jobs f.0 blank_job (slice_get_within t.jobs f.0 f.1 f.2) none in
-      no_some y (sym not ∙ (ap (λ (job : Job). job.fault) is ∙ f.3))
+      none-some y (sym not ∙ (ap (λ (job : Job). job.fault) is ∙ f.3))
 
   least_none : AreFaultless t.jobs → (l : Option ℕ) → t.least ≡ l → t.least ≡ None
   least_none none None e = e
@@ -318,7 +309,7 @@ module _ (jobs : List Job) (workers steps : ℕ) (t : BoardState) (r : IsReached
   faultless_if e = All-from_get_or (λ (job : Job). job.fault ≡ None) t.jobs blank_job (λ i lt. let s = state_at i lt in ⊎_elim
       (λ (d : (w : ℕ) × (slice_get t.states i ≡ Some (Done w)) × (job : Job) × (slice_get t.jobs i ≡ Some job) × (job.fault ≡ None)).
       ap (λ (job : Job). job.fault) (get_or_from_slice_get t.jobs i d.2 blank_job d.3) ∙ d.4)
-      (λ (l : (y : ℕ) × (t.least ≡ Some y)). absurd (no_some l.0 (sym e ∙ l.1)))
+      (λ (l : (y : ℕ) × (t.least ≡ Some y)). absurd (none-some l.0 (sym e ∙ l.1)))
       (done_or i s.state s.is_at s.right s.touched))
 
   -- the least place is no higher than the fault of a job
@@ -328,17 +319,17 @@ module _ (jobs : List Job) (workers steps : ℕ) (t : BoardState) (r : IsReached
   least_le x y i job (Held w) a e at f h n = absurd (works_not w h)
   least_le x y i job (Faulty w) a e at f h n = absurd (works_not w h)
   least_le x y i job (Done w) a e at f h n =
-      let is = job_is h.1 job (sym h.2 ∙ at) in absurd (no_some y (sym h.3 ∙ (ap (λ (q : Job). q.fault) is ∙ f)))
+      let is = same_Some h.1 job (sym h.2 ∙ at) in absurd (none-some y (sym h.3 ∙ (ap (λ (q : Job). q.fault) is ∙ f)))
   least_le x y i job (Skipped w) a e at f h n =
-      let is = ap (λ (q : Job). q.start) (job_is h.1 job (sym h.2 ∙ at)) in
-      let same = is_some_of h.3 x (sym h.4 ∙ e) in
+      let is = ap (λ (q : Job). q.start) (same_Some h.1 job (sym h.2 ∙ at)) in
+      let same = same_Some h.3 x (sym h.4 ∙ e) in
       let sound : job.start ≤ y = subst (λ q. IfSome q (λ z. job.start ≤ z)) f (sound_get t.jobs i job a at) in
       let lt = h.5 in
       omega arith
   least_le x y i job (Lowered w) a e at f h n =
-      let is = ap (λ (q : Job). q.fault) (job_is h.1 job (sym h.2 ∙ at)) in
-      let same = is_some_of h.5 x (sym h.6 ∙ e) in
-      let fault = is_some_of h.3 y (sym h.4 ∙ (is ∙ f)) in
+      let is = ap (λ (q : Job). q.fault) (same_Some h.1 job (sym h.2 ∙ at)) in
+      let same = same_Some h.5 x (sym h.6 ∙ e) in
+      let fault = same_Some h.3 y (sym h.4 ∙ (is ∙ f)) in
       let le = h.7 in
       omega arith
 

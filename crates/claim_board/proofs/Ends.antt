@@ -4,8 +4,8 @@ use mathlib.Core.Option.{some}
 use mathlib.Core.Logic.{dite}
 use native.Mathlib.Decide.{ℕ_discrete, dec_le}
 use lib.ListN.{get_elem?}
-use Rattle.std.specs.List.{All, slice_get}
-use Rattle.std.proofs.lemmas.Option.{get_or_from_slice_get, slice_get-get_or}
+use Rattle.std.specs.List.{All}
+use Rattle.std.proofs.lemmas.Option.{get_or_from_slice_get, none-some, same_Some, slice_get-get_or, slice_get_within}
 use Rattle.std.proofs.lemmas.List.Elements.{All-head, All-tail, All-nil, All-cons, All-set, All-get_or, All-from_get_or}
 use Rattle.claim_board.specs.declared.job.Job.{Job}
 use Rattle.claim_board.specs.declared.job.JobState.{JobState}
@@ -13,11 +13,11 @@ use Rattle.claim_board.specs.declared.job.JobState.TheVariants.{Untouched, Held,
 use Rattle.claim_board.specs.declared.view.ClaimedJob.{ClaimedJob}
 use Rattle.claim_board.specs.declared.view.SeatWorker.{SeatWorker}
 use Rattle.claim_board.specs.declared.view.View.{View}
-use Rattle.claim_board.specs.Board.{AreJobs}
 use Rattle.claim_board.specs.Orders.{AreFaultless, IsLeastFault}
 use Rattle.claim_board.specs.Running.{no_place, bit, open_weight, name_weight, blank_job, job_at, place_weight, lowered_weight, job_weight, open_count, name_count, lowered_count, crew_weight, one_at, stopped_count, stopped_count_of, weight_below, total, spent_view, IsGoodAt, IsGood, IsView, IsKept}
 use Rattle.claim_board.specs.Work.{with_done, done_jobs, AreResults, HaveStopped}
 use Rattle.claim_board.specs.Results.{times, IsWhole}
+use Rattle.claim_board.proofs.AnyOrder.{sound_get}
 use Rattle.claim_board.proofs.Totals.{total-set, total-append, each-at, bit-same, bit_le, job_weight-ones, stopped_count-le, weight_below-ones, weight_below-none, open_count-le, claimed_below}
 
 abbrev ones : ℕ → ℕ
@@ -109,33 +109,14 @@ lowered_fault jobs x i (Done w) p = absurd (omega arith)
 lowered_fault jobs x i (Skipped w) p = absurd (omega arith)
 lowered_fault jobs x i (Lowered w) p = placed_at (job_at jobs i).fault x p
 
-pub sound_at : (jobs : List Job) (i : ℕ) → AreJobs jobs → i < length jobs → IfSome (job_at jobs i).fault (λ x. (job_at jobs i).start ≤ x)
-sound_at [] i a lt = absurd (omega arith)
-sound_at (j ∷ js) zero a lt = a.0
-sound_at (j ∷ js) (suc i) a lt = sound_at js i a.2 (omega arith)
-
-pub some_is : (x y : ℕ) → Some x ≡ Some y → x ≡ y
-some_is x y e = cc
-
-pub none_is : (x : ℕ) → Some x ≡ None → ⊥
-none_is x e = cc
-
 -- the state is Done
 abbrev IsDone : JobState → Type 0
-IsDone Untouched = ⊥
-IsDone (Held w) = ⊥
-IsDone (Faulty w) = ⊥
-IsDone (Done w) = Unit {0}
-IsDone (Skipped w) = ⊥
-IsDone (Lowered w) = ⊥
+IsDone s = (w : ℕ) × (s ≡ Done w)
 
 times_done : (i j : ℕ) (s : JobState) (l : List ℕ) → IsDone s → times i (with_done j s l) ≡ bit (j == i) + times i l
-times_done i j Untouched l d = absurd d
-times_done i j (Held w) l d = absurd d
-times_done i j (Faulty w) l d = absurd d
-times_done i j (Done w) l d = let a = total-append (one_at i) l (j ∷ []) in omega arith
-times_done i j (Skipped w) l d = absurd d
-times_done i j (Lowered w) l d = absurd d
+times_done i j s l d =
+    let a = total-append (one_at i) l (j ∷ []) in
+    ap (λ q. times i (with_done j q l)) d.1 ∙ omega arith
 
 done_times : (i : ℕ) (cs : List ClaimedJob) → All (λ c. IsDone c.state) cs → times i (done_jobs cs) ≡ job_weight (one_at i) cs
 done_times i [] a = refl
@@ -215,10 +196,10 @@ module _ (jobs : List Job) (workers next least : ℕ) (views : List View) (k : I
     places_at i lt = All-get_or (λ (a : Job). (a.start < no_place) × IfSome a.fault (λ x. x < no_place)) jobs i blank_job lt k.key.listed.places
 
     done_at : (i : ℕ) (s : JobState) → i < length jobs → IsGoodAt jobs least i s → ((u : ℕ) → open_weight u s ≡ 0) → IsDone s
-    done_at i Untouched lt g r = g
+    done_at i Untouched lt g r = absurd g
     done_at i (Held w) lt g r = let e = r w in let b = bit-same w in absurd (omega arith)
     done_at i (Faulty w) lt g r = let e = r w in let b = bit-same w in absurd (omega arith)
-    done_at i (Done w) lt g r = tt
+    done_at i (Done w) lt g r = (w, refl)
     done_at i (Skipped w) lt g r = let p = (places_at i lt).0 in absurd (omega arith)
     done_at i (Lowered w) lt g r =
         let p = (places_at i lt).1 in
@@ -229,18 +210,10 @@ module _ (jobs : List Job) (workers next least : ℕ) (views : List View) (k : I
     all_done : All (λ c. IsDone c.state) v.claimed
     all_done = λ i d lt. let c = get_or v.claimed i d in let f : Fine c = fine i d lt in done_at c.job c.state f.2 f.0 f.1
 
-    none_at : (i : ℕ) (s : JobState) → IsGoodAt jobs least i s → IsDone s → (job_at jobs i).fault ≡ None
-    none_at i Untouched g d = absurd d
-    none_at i (Held w) g d = absurd d
-    none_at i (Faulty w) g d = absurd d
-    none_at i (Done w) g d = g
-    none_at i (Skipped w) g d = absurd d
-    none_at i (Lowered w) g d = absurd d
-
     pub faultless : AreFaultless jobs
     faultless = All-from_get_or (λ a. a.fault ≡ None) jobs blank_job (λ i lt.
         let f = claimed_of i lt in
-        subst (λ n. (job_at jobs n).fault ≡ None) f.1 (none_at f.0.job f.0.state f.2.0 (done_at f.0.job f.0.state f.2.2 f.2.0 f.2.1)))
+        subst (λ n. (job_at jobs n).fault ≡ None) f.1 (subst (IsGoodAt jobs least f.0.job) (done_at f.0.job f.0.state f.2.2 f.2.0 f.2.1).1 f.2.0))
 
     pub whole : {X : Type 0} (gives : ℕ → X → Type 0) (list : List (ℕ × X)) → AreResults gives v.claimed list → IsWhole gives (length jobs) list
     whole gives list r =
@@ -266,11 +239,12 @@ module _ (jobs : List Job) (workers next least : ℕ) (views : List View) (k : I
     le_fault i Untouched y lt g r e = absurd g
     le_fault i (Held w) y lt g r e = let z = r w in let b = bit-same w in absurd (omega arith)
     le_fault i (Faulty w) y lt g r e = let z = r w in let b = bit-same w in absurd (omega arith)
-    le_fault i (Done w) y lt g r e = absurd (none_is y (sym e ∙ g))
+    le_fault i (Done w) y lt g r e = absurd (none-some y (sym g ∙ e))
     le_fault i (Skipped w) y lt g r e =
-        let s : (job_at jobs i).start ≤ y = subst (λ f. IfSome f (λ x. (job_at jobs i).start ≤ x)) e (sound_at jobs i k.key.listed.in_order lt) in
+        let s : (job_at jobs i).start ≤ y = subst (λ f. IfSome f (λ x. (job_at jobs i).start ≤ x)) e
+        (sound_get jobs i (job_at jobs i) k.key.listed.in_order (slice_get-get_or jobs i blank_job lt)) in
         omega arith
-    le_fault i (Lowered w) y lt g r e = let s = some_is g.0 y (sym g.1 ∙ e) in let l = g.2 in omega arith
+    le_fault i (Lowered w) y lt g r e = let s = same_Some g.0 y (sym g.1 ∙ e) in let l = g.2 in omega arith
 
     lowest : 0 < lowered_count jobs least v.claimed
     lowest = ⊎_elim (λ (e : least ≡ no_place). absurd (low e))
@@ -285,12 +259,7 @@ module _ (jobs : List Job) (workers next least : ℕ) (views : List View) (k : I
           found = (f.0.job, job_at jobs f.0.job, slice_get-get_or jobs f.0.job blank_job f.1.2, lowered_fault jobs least f.0.job f.0.state f.2);
           least = λ i job y there e.
               let is : job_at jobs i ≡ job = get_or_from_slice_get jobs i job blank_job there in
-              let lt : i < length jobs = in_range jobs i job there in
+              let lt = slice_get_within jobs i job there in
               let c = claimed_of i lt in
               le_fault i c.0.state y lt (subst (λ n. IsGoodAt jobs least n c.0.state) c.1 c.2.0) c.2.1 (ap (λ (j : Job). j.fault) is ∙ e);
         }
-      where
-        in_range : (l : List Job) (i : ℕ) (job : Job) → slice_get l i ≡ Some job → i < length l
-        in_range [] i job e = absurd (cc)
-        in_range (x ∷ xs) zero job e = omega arith
-        in_range (x ∷ xs) (suc i) job e = let r = in_range xs i job e in omega arith

@@ -3,7 +3,7 @@ use Rattle.std.proofs.Common.{◌≡◌, ◌≢◌, ℕ, ◌-◌, ◌/◌, ◌<�
 use Rattle.std.specs.Prelude.{IfOk}
 use Rattle.std.specs.declared.vec.Vec.{Vec}
 use mathlib.Core.List.{map-append}
-use Rattle.std.proofs.lemmas.List.{take-append-drop}
+use Rattle.std.proofs.lemmas.List.{length-map, take-append-drop}
 use Rattle.std.proofs.lemmas.List.Elements.{All-append, All-take, All-drop}
 use Rattle.atomic_table.specs.Seated.{TableId}
 use Rattle.atomic_table.specs.declared.shared.Seat.{Seat}
@@ -49,12 +49,10 @@ crew_joined v l r a b = record {
       ∙ (sym (map-append f (left_view v).crew (right_view v).crew) ∙ ap (map f) (take-append-drop (length v.crew / 2) v.crew))));
 }
 
-length_of : (ms : List SeatWorker) → length (map (λ (m : SeatWorker). m.worker) ms) ≡ length ms
-length_of [] = refl
-length_of (m ∷ ms) = let r = length_of ms in omega arith
-
 pub crew_stays : (v w : View) → IsSameCrew v w → length w.crew ≡ length v.crew
-crew_stays v w s = sym (length_of w.crew) ∙ (ap (λ l. length l) s.crew ∙ length_of v.crew)
+crew_stays v w s =
+    let f : SeatWorker → ℕ = λ m. m.worker in
+    sym (length-map w.crew f) ∙ (ap (λ l. length l) s.crew ∙ length-map v.crew f)
 
 module _ (v l0 r0 l r u : View) (cut : l0 ≡ left_view v) (other : r0 ≡ right_view v) (a : IsSameCrew l0 l) (b : IsSameCrew r0 r) where
   crew_again : u ≡ joined_view l r → IsSameCrew v u

@@ -1,12 +1,12 @@
 -- Each step on the two words keeps the running rule.
-use Rattle.std.proofs.Common.{◌≡◌, ℕ, suc, ◌+◌, ◌%◌, ◌^◌, ◌<◌, ◌≤◌, ◌⊎◌, ltb, min, Bool, true, false, cond, List, [], ◌∷◌, length, set, slice_index, sym, refl, ap, ◌∙◌, subst, inl, inr, ⊎_elim, arith, eq-eqb, Option, Some, None, IfSome}
+use Rattle.std.proofs.Common.{◌≡◌, ℕ, suc, ◌+◌, ◌%◌, ◌^◌, ◌<◌, ◌≤◌, ◌⊎◌, ltb, min, Bool, true, false, cond, List, [], ◌∷◌, length, set, sym, refl, ap, ◌∙◌, subst, inl, inr, ⊎_elim, arith, eq-eqb, Option, Some, None, IfSome}
 use mathlib.Core.Option.{none, some}
 use lib.ListN.{get_elem?}
 use Rattle.std.proofs.lemmas.Bool.{ltb-true, ltb-false}
 use native.Mathlib.Decide.{dec_le}
 use Rattle.std.specs.List.{All}
 use Rattle.std.proofs.lemmas.List.Elements.{All-head, All-tail, All-cons, All-set, All-weaker, All-get_or}
-use Rattle.atomic_table.specs.Table.{Act, keeps, Valid, step, Allows, homes_after, carried_after}
+use Rattle.atomic_table.specs.Table.{keeps, step, Allows}
 use Rattle.claim_board.specs.declared.job.Job.{Job}
 use Rattle.claim_board.specs.declared.job.JobState.{JobState}
 use Rattle.claim_board.specs.declared.job.JobState.TheVariants.{Untouched, Held, Faulty, Done, Skipped, Lowered}
@@ -73,17 +73,9 @@ module _ (jobs : List Job) (workers next least : ℕ) (views : List View) (k : I
       let n = k.claim_word in
       omega arith
 
-  -- the jobs of a view are below the claim word
-  pub under : (id : ℕ) (v : View) → get_elem? views id ≡ some v → All (λ c. c.job < next) v.claimed
-  under id v at = claimed_below next v.claimed (λ x le.
-      let t = total-at (λ u. job_weight (one_at x) u.claimed) views id v at in
-      let c = k.each_job_once (one_at x) in
-      let b = weight_below-none x (min next (length jobs)) (omega arith) in
-      omega arith)
-
-  -- the jobs of a view are jobs of the table
-  pub inside : (id : ℕ) (v : View) → get_elem? views id ≡ some v → All (λ c. c.job < length jobs) v.claimed
-  inside id v at = claimed_below (length jobs) v.claimed (λ x le.
+  -- the jobs of a view are below the claim word, and jobs of the table
+  pub below : (n id : ℕ) (v : View) → min next (length jobs) ≤ n → get_elem? views id ≡ some v → All (λ c. c.job < n) v.claimed
+  below n id v fits at = claimed_below n v.claimed (λ x le.
       let t = total-at (λ u. job_weight (one_at x) u.claimed) views id v at in
       let c = k.each_job_once (one_at x) in
       let b = weight_below-none x (min next (length jobs)) (omega arith) in
@@ -244,10 +236,7 @@ claim_allowed jobs workers slots id me w one free s held _ at _ =
     let few = k.key.listed.few in
     let most = k.key.at_most_64 in
     let wraps : (next + 1) % 18446744073709551616 ≡ next + 1 = omega arith in
-    let P : List ℕ → Type 0 = λ l. (u : View) × (a : Act (Unit {0})) × Valid s.homes me.1 a
-    × IsRuled jobs workers (record { words = set l 0 ((slice_index l 0 + 1) % 2 ^ 64); homes = homes_after s.homes me.1 a; views = set s.views id u })
-    × TellsClaim (step slots 0 1 0 none) me (slice_index l 0) (u, carried_after me.1 a) in
-    subst P (sym held.2) (
+    rw held.2 (
       view_after_claim me.0 next,
       keeps,
       tt,
@@ -255,7 +244,7 @@ claim_allowed jobs workers slots id me w one free s held _ at _ =
       (
         refl,
         refl,
-        under jobs workers next least s.views k id me.0 at,
+        below jobs workers next least s.views k next id me.0 (omega arith) at,
         subst (λ u. first_of u.crew < u.workers) (sym is) (works jobs workers next least s.views k id w me.0.claimed there),
       ),
     )
@@ -273,10 +262,7 @@ look_allowed jobs workers slots id me w i cs one top s held _ at _ =
     let kept : IsKept jobs workers next least (set s.views id (view_after_look me.0 least)) =
     subst (λ u. IsKept jobs workers next least (set s.views id (view_after_look u least))) (sym is)
     (looks_kept jobs workers next least s.views k id w i cs there) in
-    let P : List ℕ → Type 0 = λ l. (u : View) × (a : Act (Unit {0})) × Valid s.homes me.1 a
-    × IsRuled jobs workers (record { words = set l 1 (slice_index l 1); homes = homes_after s.homes me.1 a; views = set s.views id u })
-    × TellsLook (step slots 1 0 0 none) me (slice_index l 1) (u, carried_after me.1 a) in
-    subst P (sym held.2) (
+    rw held.2 (
       view_after_look me.0 least,
       keeps,
       tt,
@@ -285,7 +271,7 @@ look_allowed jobs workers slots id me w i cs one top s held _ at _ =
         refl,
         refl,
         subst (λ u. All (λ c. c.job < length u.jobs) u.claimed) (sym is)
-            (inside jobs workers next least s.views k id (solo jobs workers (claimed_job i (Held w) ∷ cs) w false) there),
+            (below jobs workers next least s.views k (length jobs) id (solo jobs workers (claimed_job i (Held w) ∷ cs) w false) (omega arith) there),
         subst (λ u. first_of u.crew < u.workers) (sym is) (works jobs workers next least s.views k id w (claimed_job i (Held w) ∷ cs) there),
       ),
     )
@@ -305,14 +291,11 @@ lower_allowed jobs workers slots id me w i place cs one top fault fits s held _ 
     let kept : IsKept jobs workers next (min least place) (set s.views id (view_after_lower me.0)) =
     subst (λ u. IsKept jobs workers next (min least place) (set s.views id (view_after_lower u))) (sym is)
     (lowers_kept jobs workers next least s.views k id w i place cs there fault' fits) in
-    let P : List ℕ → Type 0 = λ l. (u : View) × (a : Act (Unit {0})) × Valid s.homes me.1 a
-    × IsRuled jobs workers (record { words = set l 1 (min (slice_index l 1) place); homes = homes_after s.homes me.1 a; views = set s.views id u })
-    × TellsLower (step slots 1 place 0 none) me (slice_index l 1) (u, carried_after me.1 a) in
-    let within = inside jobs workers next least s.views k id (solo jobs workers (claimed_job i (Faulty w) ∷ cs) w false) there in
+    let within = below jobs workers next least s.views k (length jobs) id (solo jobs workers (claimed_job i (Faulty w) ∷ cs) w false) (omega arith) there in
     let lt : i < length jobs = All-head (λ (c : ClaimedJob). c.job < length jobs) (claimed_job i (Faulty w)) cs within in
     let placed = All-get_or (λ (a : Job). (a.start < no_place) × IfSome a.fault (λ x. x < no_place)) jobs i blank_job lt k.key.listed.places in
     let low : place < no_place = subst (λ f. IfSome f (λ x. x < no_place)) fault' placed.1 in
-    subst P (sym held.2) (
+    rw held.2 (
       view_after_lower me.0,
       keeps,
       tt,

@@ -9,33 +9,11 @@ use Rattle.std.proofs.lemmas.List.Elements.{All-set, All-append, All-push, All-n
 use Rattle.atomic_table.specs.Table.{Splits, Joins}
 use Rattle.atomic_table.proofs.Lists.{set_else}
 use Rattle.claim_board.specs.declared.job.Job.{Job}
-use Rattle.claim_board.specs.declared.view.ClaimedJob.{ClaimedJob}
 use Rattle.claim_board.specs.declared.view.SeatWorker.{SeatWorker}
 use Rattle.claim_board.specs.declared.view.View.{View}
 use Rattle.claim_board.specs.Running.{bit, open_weight, name_weight, lowered_weight, no_place, job_weight, open_count, name_count, lowered_count, crew_weight, one_at, stopped_count, stopped_count_of, total, spent_view, IsGood, IsView, IsKept, IsRuled}
 use Rattle.claim_board.specs.Steps.{left_view, right_view, joined_view}
-use Rattle.claim_board.proofs.Totals.{total-set, total-snoc, total-two, total-append, each-at, stopped_count_of-le, open_count-le, weight_below-one_at}
-
-job_weight-append : (h : ℕ → ℕ) (a b : List ClaimedJob) → job_weight h (a ++ b) ≡ job_weight h a + job_weight h b
-job_weight-append h = total-append (λ (c : ClaimedJob). h c.job)
-
-open_count-append : (w : ℕ) (a b : List ClaimedJob) → open_count w (a ++ b) ≡ open_count w a + open_count w b
-open_count-append w = total-append (λ (c : ClaimedJob). open_weight w c.state)
-
-name_count-append : (w : ℕ) (a b : List ClaimedJob) → name_count w (a ++ b) ≡ name_count w a + name_count w b
-name_count-append w = total-append (λ (c : ClaimedJob). name_weight w c.state)
-
-lowered_count-append : (jobs : List Job) (x : ℕ) (a b : List ClaimedJob) → lowered_count jobs x (a ++ b) ≡ lowered_count jobs x a + lowered_count jobs x b
-lowered_count-append jobs x = total-append (λ (c : ClaimedJob). lowered_weight jobs x c.job c.state)
-
-crew_weight-append : (h : ℕ → ℕ) (a b : List SeatWorker) → crew_weight h (a ++ b) ≡ crew_weight h a + crew_weight h b
-crew_weight-append h = total-append (λ (m : SeatWorker). h m.worker)
-
-stopped_count-append : (a b : List SeatWorker) → stopped_count (a ++ b) ≡ stopped_count a + stopped_count b
-stopped_count-append = total-append (λ (m : SeatWorker). bit m.stopped)
-
-stopped_count_of-append : (w : ℕ) (a b : List SeatWorker) → stopped_count_of w (a ++ b) ≡ stopped_count_of w a + stopped_count_of w b
-stopped_count_of-append w = total-append (λ (m : SeatWorker). one_at w m.worker * bit m.stopped)
+use Rattle.claim_board.proofs.Totals.{total-set, total-two, total-append, each-at, stopped_count_of-le, open_count-le, weight_below-one_at}
 
 module _ (jobs : List Job) (workers next least : ℕ) (views : List View) (k : IsKept jobs workers next least views) (id : ℕ) (v : View)
     (at : get_elem? views id ≡ some v) (some_crew : 0 < length v.crew) where
@@ -57,7 +35,7 @@ module _ (jobs : List Job) (workers next least : ℕ) (views : List View) (k : I
     }
 
     both_halts : (u : ℕ) → stopped_count_of u l + stopped_count_of u r ≡ stopped_count_of u v.crew
-    both_halts u = sym (stopped_count_of-append u l r) ∙ ap (λ m. stopped_count_of u m) cut
+    both_halts u = sym (total-append (λ m. one_at u m.worker * bit m.stopped) l r) ∙ ap (λ m. stopped_count_of u m) cut
 
     pub split_kept : IsKept jobs workers next least (set views id (record v { crew = l }) ++ (record v { crew = r }) ∷ [])
     split_kept =
@@ -71,27 +49,29 @@ module _ (jobs : List Job) (workers next least : ℕ) (views : List View) (k : I
           each_job_once = λ h.
               let z : job_weight h v.claimed ≡ 0 = ap (λ cs. job_weight h cs) empty in
               let s = total-set (λ u. job_weight h u.claimed) views id v left at in
-              let n = total-snoc (λ u. job_weight h u.claimed) (set views id left) right in
+              let n = total-append (λ u. job_weight h u.claimed) (set views id left) (right ∷ []) in
               let c = k.each_job_once h in
               omega arith;
           each_worker_once = λ h.
-              let m : crew_weight h l + crew_weight h r ≡ crew_weight h v.crew = sym (crew_weight-append h l r) ∙ ap (λ x. crew_weight h x) cut in
+              let m : crew_weight h l + crew_weight h r ≡ crew_weight h v.crew
+              = sym (total-append (λ m. h m.worker) l r) ∙ ap (λ x. crew_weight h x) cut in
               let s = total-set (λ u. crew_weight h u.crew) views id v left at in
-              let n = total-snoc (λ u. crew_weight h u.crew) (set views id left) right in
+              let n = total-append (λ u. crew_weight h u.crew) (set views id left) (right ∷ []) in
               let c = k.each_worker_once h in
               omega arith;
           claim_word =
               let z : length v.claimed ≡ 0 = ap (λ cs. length cs) empty in
-              let m : stopped_count l + stopped_count r ≡ stopped_count v.crew = sym (stopped_count-append l r) ∙ ap (λ x. stopped_count x) cut in
+              let m : stopped_count l + stopped_count r ≡ stopped_count v.crew
+              = sym (total-append (λ m. bit m.stopped) l r) ∙ ap (λ x. stopped_count x) cut in
               let s = total-set (λ u. length u.claimed + stopped_count u.crew) views id v left at in
-              let n = total-snoc (λ u. length u.claimed + stopped_count u.crew) (set views id left) right in
+              let n = total-append (λ u. length u.claimed + stopped_count u.crew) (set views id left) (right ∷ []) in
               let c = k.claim_word in
               omega arith;
           fault_word = ⊎_elim (λ (e : least ≡ no_place). inl e)
               (λ (p : 0 < total (λ u. lowered_count jobs least u.claimed) views). inr (
               let z : lowered_count jobs least v.claimed ≡ 0 = ap (λ cs. lowered_count jobs least cs) empty in
               let s = total-set (λ u. lowered_count jobs least u.claimed) views id v left at in
-              let n = total-snoc (λ u. lowered_count jobs least u.claimed) (set views id left) right in
+              let n = total-append (λ u. lowered_count jobs least u.claimed) (set views id left) (right ∷ []) in
               omega arith)) k.fault_word;
         }
 
@@ -109,7 +89,8 @@ module _ (jobs : List Job) (workers next least : ℕ) (views : List View) (k : I
     one_of : (u : ℕ) → open_count u (w.claimed ++ v.claimed) + stopped_count_of u (v.crew ++ w.crew) ≤ 1
     one_of u =
         let f = few u in let o = had.one u in let p = theirs.one u in
-        let b = open_count-append u w.claimed v.claimed in let h = stopped_count_of-append u v.crew w.crew in
+        let b = total-append (λ c. open_weight u c.state) w.claimed v.claimed in
+        let h = total-append (λ m. one_at u m.worker * bit m.stopped) v.crew w.crew in
         let hv = stopped_count_of-le u v.crew in let hw = stopped_count_of-le u w.crew in
         let bv = open_count-le u v.claimed in let bw = open_count-le u w.claimed in
         dite (ℕ_discrete (crew_weight (one_at u) v.crew) 0)
@@ -122,10 +103,10 @@ module _ (jobs : List Job) (workers next least : ℕ) (views : List View) (k : I
       claimed = All-append (IsGood jobs least) w.claimed v.claimed theirs.claimed had.claimed;
       one = one_of;
       own = λ u gone.
-          let m = crew_weight-append (one_at u) v.crew w.crew in
+          let m = total-append (λ m. one_at u m.worker) v.crew w.crew in
           let a = had.own u (omega arith) in
           let b = theirs.own u (omega arith) in
-          let n = name_count-append u w.claimed v.claimed in
+          let n = total-append (λ c. name_weight u c.state) w.claimed v.claimed in
           omega arith;
     }
 
@@ -141,15 +122,18 @@ module _ (jobs : List Job) (workers next least : ℕ) (views : List View) (k : I
       each = All-set (IsView jobs workers least) (set views id (joined_view v w)) other spent_view
           (record { copy = inl refl; claimed = All-nil (IsGood jobs least); one = λ u. omega arith; own = λ u gone. refl })
           (All-set (IsView jobs workers least) views id (joined_view v w) joined k.each);
-      each_job_once = λ h. same (λ u. job_weight h u.claimed) (let a = job_weight-append h w.claimed v.claimed in omega arith) refl ∙ k.each_job_once h;
-      each_worker_once = λ h. same (λ u. crew_weight h u.crew) (crew_weight-append h v.crew w.crew) refl ∙ k.each_worker_once h;
+      each_job_once = λ h.
+          let a = total-append (λ c. h c.job) w.claimed v.claimed in
+          same (λ u. job_weight h u.claimed) (omega arith) refl ∙ k.each_job_once h;
+      each_worker_once = λ h. same (λ u. crew_weight h u.crew) (total-append (λ m. h m.worker) v.crew w.crew) refl ∙ k.each_worker_once h;
       claim_word = k.claim_word ∙ sym (same (λ u. length u.claimed + stopped_count u.crew) (
           let a = length-append w.claimed v.claimed in
-          let b = stopped_count-append v.crew w.crew in
+          let b = total-append (λ m. bit m.stopped) v.crew w.crew in
           omega arith) (omega arith));
       fault_word = ⊎_elim (λ (e : least ≡ no_place). inl e)
           (λ (p : 0 < total (λ u. lowered_count jobs least u.claimed) views). inr (
-          let s = same (λ u. lowered_count jobs least u.claimed) (let a = lowered_count-append jobs least w.claimed v.claimed in omega arith) refl in
+          let a = total-append (λ c. lowered_weight jobs least c.job c.state) w.claimed v.claimed in
+          let s = same (λ u. lowered_count jobs least u.claimed) (omega arith) refl in
           omega arith)) k.fault_word;
     }
 

@@ -20,10 +20,6 @@ total-set f [] i v w e = absurd (some-ne-none v (sym e))
 total-set f (x ∷ xs) zero v w e = let is : f x ≡ f v = ap f (some-injective x v e) in omega arith
 total-set f (x ∷ xs) (suc i) v w e = let r = total-set f xs i v w e in omega arith
 
-pub total-snoc : (f : View → ℕ) (l : List View) (v : View) → total f (l ++ v ∷ []) ≡ total f l + f v
-total-snoc f [] v = omega arith
-total-snoc f (x ∷ xs) v = let r = total-snoc f xs v in omega arith
-
 pub total-plus : (f g : View → ℕ) (l : List View) → total (λ v. f v + g v) l ≡ total f l + total g l
 total-plus f g [] = refl
 total-plus f g (x ∷ xs) = let r = total-plus f g xs in omega arith

@@ -2,9 +2,10 @@
 use Rattle.std.proofs.Common.{◌≡◌, ℕ, zero, suc, ◌+◌, ◌<◌, ◌≤◌, ◌≢◌, ◌==◌, ltb, min, Bool, true, false, cond, List, [], ◌∷◌, map, length, set, sym, refl, ap, ◌∙◌, subst, arith, Option, Some, None, eq-eqb, ne_eqb}
 use mathlib.Core.Logic.{dite}
 use native.Mathlib.Decide.{ℕ_discrete}
-use Rattle.std.specs.List.{All, slice_get}
+use Rattle.std.specs.List.{All, range_with_len, slice_get}
 use Rattle.std.proofs.lemmas.Bool.{ltb-true, le-ltb}
-use Rattle.std.proofs.lemmas.Option.{slice_get-get_or}
+use Rattle.std.proofs.lemmas.Option.{same_Some, slice_get-get_or, slice_get_within}
+use Rattle.std.proofs.lemmas.List.FromFn.{get_or-map-range_with_len, length-map-range_with_len}
 use Rattle.std.proofs.lemmas.List.Elements.{All-head}
 use Rattle.claim_board.specs.declared.job.Job.{Job}
 use Rattle.claim_board.specs.declared.job.JobState.{JobState}
@@ -15,39 +16,36 @@ use Rattle.claim_board.specs.declared.view.SeatWorker.{SeatWorker}
 use Rattle.claim_board.specs.declared.view.View.{View}
 use Rattle.claim_board.specs.Board.{MayClaim, state_after_look, is_least_below, state_by_fault, lesser_of, IsStep}
 use Rattle.claim_board.specs.Running.{no_place, blank_job, job_at, claimed_job, seat_worker, open_weight, open_count}
-use Rattle.claim_board.specs.Steps.{view_after_claim, view_after_look, view_after_lower, state_after_load, first_of, worker_of, IsOne, numbers_from, state_in, has_stopped_in, least_of, board_of, step_by}
+use Rattle.claim_board.specs.Steps.{view_after_claim, view_after_look, view_after_lower, state_after_load, first_of, worker_of, IsOne, state_in, has_stopped_in, least_of, board_of, step_by}
 use Rattle.claim_board.proofs.Totals.{bit-same}
 use Rattle.claim_board.proofs.Keeps.{solo}
 
 module _ {A : Type 0} (f g : ℕ → A) where
-  map_same : (k n : ℕ) → ((x : ℕ) → k ≤ x → f x ≡ g x) → map f (numbers_from k n) ≡ map g (numbers_from k n)
+  map_same : (k n : ℕ) → ((x : ℕ) → k ≤ x → f x ≡ g x) → map f (range_with_len k n) ≡ map g (range_with_len k n)
   map_same k zero h = refl
-  map_same k (suc n) h = λ i. h k (omega arith) i ∷ map_same (suc k) n (λ x le. h x (omega arith)) i
+  map_same k (suc n) h = λ i. h k (omega arith) i ∷ map_same (k + 1) n (λ x le. h x (omega arith)) i
 
-  map_set : (k n j : ℕ) (a : A) → j < n → f (k + j) ≡ a → ((x : ℕ) → x ≢ k + j → f x ≡ g x) → map f (numbers_from k n) ≡ set (map g (numbers_from k n)) j a
+  map_set : (k n j : ℕ) (a : A) → j < n → f (k + j) ≡ a → ((x : ℕ) → x ≢ k + j → f x ≡ g x) → map f (range_with_len k n) ≡ set (map g (range_with_len k n)) j a
   map_set k zero j a lt here else_where = absurd (omega arith)
   map_set k (suc n) zero a lt here else_where =
       let e : f k ≡ a = ap f (omega arith) ∙ here in
-      λ i. e i ∷ map_same (suc k) n (λ x le. else_where x (omega arith)) i
+      λ i. e i ∷ map_same (k + 1) n (λ x le. else_where x (omega arith)) i
   map_set k (suc n) (suc j) a lt here else_where =
-      let same : suc k + j ≡ k + suc j = omega arith in
+      let same : k + 1 + j ≡ k + suc j = omega arith in
       let head : f k ≡ g k = else_where k (omega arith) in
-      let tail = map_set (suc k) n j a (omega arith) (ap f same ∙ here) (λ x ne. else_where x (λ q. ne (omega arith))) in
+      let tail = map_set (k + 1) n j a (omega arith) (ap f same ∙ here) (λ x ne. else_where x (λ q. ne (omega arith))) in
       λ i. head i ∷ tail i
 
-count_of : {A : Type 0} (f : ℕ → A) (k n : ℕ) → length (map f (numbers_from k n)) ≡ n
-count_of f k zero = refl
-count_of f k (suc n) = ap suc (count_of f (suc k) n)
+get_map : {A : Type 0} (f : ℕ → A) (k n j : ℕ) → j < n → slice_get (map f (range_with_len k n)) j ≡ Some (f (k + j))
+get_map f k n j lt =
+    slice_get-get_or (map f (range_with_len k n)) j (f k) (let long = length-map-range_with_len f k n in omega arith)
+    ∙ ap (λ x. Some x) (get_or-map-range_with_len f k n j (k + j) (f k) lt refl)
 
-get_map : {A : Type 0} (f : ℕ → A) (k n j : ℕ) → j < n → slice_get (map f (numbers_from k n)) j ≡ Some (f (k + j))
-get_map f k zero j lt = absurd (omega arith)
-get_map f k (suc n) zero lt = ap (λ x. Some (f x)) (omega arith)
-get_map f k (suc n) (suc j) lt = let e : suc k + j ≡ k + suc j = omega arith in get_map f (suc k) n j (omega arith) ∙ ap (λ x. Some (f x)) e
-
-got_map : {A : Type 0} (f : ℕ → A) (k n j : ℕ) (a : A) → slice_get (map f (numbers_from k n)) j ≡ Some a → a ≡ f (k + j)
-got_map f k zero j a e = absurd (cc)
-got_map f k (suc n) zero a e = let q : k ≡ k + 0 = omega arith in let h : f k ≡ a = cc in sym h ∙ ap f q
-got_map f k (suc n) (suc j) a e = let q : suc k + j ≡ k + suc j = omega arith in got_map f (suc k) n j a e ∙ ap f q
+got_map : {A : Type 0} (f : ℕ → A) (k n j : ℕ) (a : A) → slice_get (map f (range_with_len k n)) j ≡ Some a → a ≡ f (k + j)
+got_map f k n j a e =
+    let within = slice_get_within (map f (range_with_len k n)) j a e in
+    let long = length-map-range_with_len f k n in
+    same_Some a (f (k + j)) (sym e ∙ get_map f k n j (omega arith))
 
 if_same : {A : Type 0} (i : ℕ) (a b : A) → cond (i == i) a b ≡ a
 if_same i a b = ap (λ q. cond q a b) (eq-eqb i i refl)
@@ -69,14 +67,14 @@ pending_in w i (c ∷ cs) = dite (ℕ_discrete c.job i)
     omega arith)
 
 -- a worker of the table is a worker of the board
-is_worker : (workers : ℕ) (crew : List SeatWorker) (w : ℕ) → w < workers → w < length (map (has_stopped_in crew) (numbers_from 0 workers))
-is_worker workers crew w lt = let e = count_of (has_stopped_in crew) 0 workers in omega arith
+is_worker : (workers : ℕ) (crew : List SeatWorker) (w : ℕ) → w < workers → w < length (map (has_stopped_in crew) (range_with_len 0 workers))
+is_worker workers crew w lt = let e = length-map-range_with_len (has_stopped_in crew) 0 workers in omega arith
 
 module _ (jobs : List Job) (workers : ℕ) (cs : List ClaimedJob) (w next : ℕ) (least : Option ℕ) (works : w < workers) (free : open_count w cs ≡ 0) where
   abbrev v : View
   v = solo jobs workers cs w false
 
-  not_busy : (i : ℕ) (s : JobState) → open_weight w s ≡ 1 → slice_get (map (state_in cs) (numbers_from 0 (length jobs))) i ≢ Some s
+  not_busy : (i : ℕ) (s : JobState) → open_weight w s ≡ 1 → slice_get (map (state_in cs) (range_with_len 0 (length jobs))) i ≢ Some s
   not_busy i s p e =
       let h = got_map (state_in cs) 0 (length jobs) i s e in
       let q = pending_in w (0 + i) cs in
@@ -127,7 +125,7 @@ module _ (jobs : List Job) (workers : ℕ) (cs : List ClaimedJob) (w i next : �
       (let z : 0 + i ≡ i = omega arith in ap (λ x. cond (i == x) t (state_in cs x)) z ∙ if_same i t (state_in cs i))
       (λ x ne. if_other i x t (state_in cs x) (λ q. ne (omega arith)) ∙ sym (if_other i x s (state_in cs x) (λ q. ne (omega arith)))))
 
-  is_at : (s : JobState) → slice_get (map (state_in (claimed_job i s ∷ cs)) (numbers_from 0 (length jobs))) i ≡ Some s
+  is_at : (s : JobState) → slice_get (map (state_in (claimed_job i s ∷ cs)) (range_with_len 0 (length jobs))) i ≡ Some s
   is_at s = get_map (state_in (claimed_job i s ∷ cs)) 0 (length jobs) i in_range ∙ ap (λ q. Some q) (
       let z : 0 + i ≡ i = omega arith in
       ap (λ x. cond (i == x) s (state_in cs x)) z ∙ if_same i s (state_in cs i))

@@ -1,5 +1,6 @@
 -- What claim, look, lower, split and join do to a seat's view; and that claim, look and lower are steps of the board.
-use Rattle.std.specs.Prelude.{◌≡◌, ℕ, zero, suc, ◌+◌, ◌/◌, ◌<◌, ◌≤◌, ◌==◌, ltb, min, Bool, true, false, cond, List, [], ◌∷◌, ◌++◌, map, length, take, drop, Option, Some, None, MatchOption, All}
+use Rattle.std.specs.Prelude.{◌≡◌, ℕ, ◌+◌, ◌/◌, ◌<◌, ◌≤◌, ◌==◌, ltb, min, Bool, true, false, cond, List, [], ◌∷◌, ◌++◌, map, length, take, drop, Option, Some, None, MatchOption, All}
+use Rattle.std.specs.List.{range_with_len}
 use Rattle.atomic_table.specs.Table.{Me, Step as TableStep}
 use Rattle.atomic_table.specs.Seated.{TableId}
 use Rattle.atomic_table.specs.declared.shared.Seat.{Seat}
@@ -86,11 +87,6 @@ abbrev pub TellsLower : TableStep (Unit {0}) → Known → ℕ → Known → Typ
 TellsLower st me found after = (after.0 ≡ view_after_lower me.0) × (after.1 ≡ me.1)
     × All (λ c. c.job < length me.0.jobs) me.0.claimed × (worker_of me.0 < me.0.workers) × (st.first < no_place)
 
--- the n numbers from k on
-abbrev pub numbers_from : ℕ → ℕ → List ℕ
-numbers_from k zero = []
-numbers_from k (suc n) = k ∷ numbers_from (suc k) n
-
 -- the state of the job i by these claimed jobs, Untouched if it is not one of them
 abbrev pub state_in : List ClaimedJob → ℕ → JobState
 state_in [] i = Untouched
@@ -111,8 +107,8 @@ board_of v next least = record {
   jobs = v.jobs;
   next = next;
   least = least;
-  states = map (state_in v.claimed) (numbers_from 0 (length v.jobs));
-  stopped = map (has_stopped_in v.crew) (numbers_from 0 v.workers);
+  states = map (state_in v.claimed) (range_with_len 0 (length v.jobs));
+  stopped = map (has_stopped_in v.crew) (range_with_len 0 v.workers);
 }
 
 -- this act of the worker w, as a step of the board

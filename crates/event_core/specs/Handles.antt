@@ -6,7 +6,6 @@ use Rattle.binder_code.specs.declared.record_kind.Kind.TheVariants.{BcAcquire, B
 use Rattle.capture_frame.specs.Envelope.{number_at}
 use Rattle.event_core.specs.declared.handle.HandleChange.{HandleChange}
 use Rattle.event_core.specs.declared.handle.HandleChange.TheVariants.{Raise, Lower}
-use Rattle.event_core.specs.declared.handle.HandleItem.{HandleItem}
 use Rattle.event_core.specs.declared.strength.Strength.{Strength}
 use Rattle.event_core.specs.declared.strength.Strength.TheVariants.{Strong, Weak}
 
@@ -20,8 +19,10 @@ handle_effect BcIncrefs = Some (Weak, Raise)
 handle_effect BcDecrefs = Some (Weak, Lower)
 handle_effect _ = None
 
+-- a handle, and which of its counts a record changes, and how
+abbrev pub HandleItem : Type 0
+HandleItem = ℕ × (Strength × HandleChange)
+
 -- the change that a record makes to the handle in its payload; None for other kinds
 abbrev pub handle_item : Kind → List ℕ → Option HandleItem
-handle_item kind payload =
-    option_map (λ effect. record { handle = number_at 4 0 payload; strength = effect.0; change = effect.1 })
-    (handle_effect kind)
+handle_item kind payload = option_map (λ effect. (number_at 4 0 payload, effect)) (handle_effect kind)

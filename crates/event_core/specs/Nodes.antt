@@ -7,7 +7,6 @@ use Rattle.binder_code.specs.declared.record_kind.Kind.TheVariants.{BrAcquire, B
 use Rattle.capture_frame.specs.Envelope.{number_at}
 use Rattle.event_core.specs.declared.node.NodeChange.{NodeChange}
 use Rattle.event_core.specs.declared.node.NodeChange.TheVariants.{Raise, Lower, Done}
-use Rattle.event_core.specs.declared.node.NodeItem.{NodeItem}
 use Rattle.event_core.specs.declared.node.NodeKey.{NodeKey}
 use Rattle.event_core.specs.declared.strength.Strength.{Strength}
 use Rattle.event_core.specs.declared.strength.Strength.TheVariants.{Strong, Weak}
@@ -28,7 +27,10 @@ node_effect BrDecrefs = Some (Weak, Lower)
 node_effect BcIncrefsDone = Some (Weak, Done)
 node_effect _ = None
 
+-- a node, and which references to it a record changes, and how
+abbrev pub NodeItem : Type 0
+NodeItem = NodeKey × (Strength × NodeChange)
+
 -- the change that a record makes to the node in its payload; None for other kinds
 abbrev pub node_item : Kind → List ℕ → Option NodeItem
-node_item kind payload =
-    option_map (λ effect. record { node = node_key payload; strength = effect.0; change = effect.1 }) (node_effect kind)
+node_item kind payload = option_map (λ effect. (node_key payload, effect)) (node_effect kind)

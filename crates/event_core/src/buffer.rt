@@ -4,7 +4,7 @@ ghost use Rattle.std.specs.Prelude.{◌≡◌};
 ghost use Rattle.event_core.specs.Buffers.{buffer_item, buffer_pending};
 
 use crate::event::Event;
-use crate::pending::{PendingChange, PendingItem};
+use crate::pending::{KeyEvent, PendingChange};
 use binder_code::Kind;
 use capture_frame::u64_at;
 
@@ -29,22 +29,15 @@ pub enum BufferItem {
 }
 
 impl BufferItem {
-    /// The same, as an open or a close of its address.
-    pub fn pending(self) -> PendingItem<u64>
+    /// Its address, and the same as an open or a close of it.
+    pub fn pending(self) -> (u64, KeyEvent)
         ensures { result ≡ buffer_pending self }
     {
-        match self {
-            BufferItem::Delivery { place, address, .. } => PendingItem {
-                place,
-                key: address,
-                change: PendingChange::Open,
-            },
-            BufferItem::Free { place, address } => PendingItem {
-                place,
-                key: address,
-                change: PendingChange::Close,
-            },
-        }
+        let (address, place, change) = match self {
+            BufferItem::Delivery { place, address, .. } => (address, place, PendingChange::Open),
+            BufferItem::Free { place, address } => (address, place, PendingChange::Close),
+        };
+        (address, KeyEvent { place, change })
     }
 }
 

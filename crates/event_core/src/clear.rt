@@ -4,26 +4,23 @@ ghost use Rattle.std.specs.Prelude.{◌≡◌};
 ghost use Rattle.event_core.specs.Clears.{clear_item};
 
 use crate::event::Event;
-use crate::pending::{PendingChange, PendingItem};
+use crate::pending::{KeyEvent, PendingChange};
 use crate::request::RequestKey;
 use binder_code::Kind;
 use capture_frame::u64_at;
 
-/// A BC_CLEAR_DEATH_NOTIFICATION as an open of its cookie, or a BR_CLEAR_DEATH_NOTIFICATION_DONE as
-/// a close; None for every other event.
-pub fn clear_step(event: Event<'_>) -> Option<PendingItem<u64>>
+/// The cookie of a BC_CLEAR_DEATH_NOTIFICATION, which opens it, or of a
+/// BR_CLEAR_DEATH_NOTIFICATION_DONE, which closes it; None for every other event.
+pub fn clear_step(event: Event<'_>) -> Option<(u64, KeyEvent)>
     ensures { result ≡ clear_item event.entry.place event.entry.kind event.entry.payload.now }
 {
-    let (key, change) = match event.kind {
+    let place = event.place;
+    let (cookie, change) = match event.kind {
         Kind::BcClearDeathNotification => {
             (RequestKey::of(event.payload).cookie, PendingChange::Open)
         }
         Kind::BrClearDeathNotificationDone => (u64_at(event.payload, 0), PendingChange::Close),
         _ => return None,
     };
-    Some(PendingItem {
-        place: event.place,
-        key,
-        change,
-    })
+    Some((cookie, KeyEvent { place, change }))
 }

@@ -4,7 +4,7 @@ ghost use Rattle.std.specs.Prelude.{◌≡◌};
 ghost use Rattle.event_core.specs.Deaths.{death_change, death_item};
 
 use crate::event::Event;
-use crate::pending::{PendingChange, PendingItem};
+use crate::pending::{KeyEvent, PendingChange};
 use binder_code::Kind;
 use capture_frame::u64_at;
 
@@ -19,15 +19,12 @@ fn death_change(kind: Kind) -> Option<PendingChange>
     }
 }
 
-/// A BR_DEAD_BINDER as an open of its cookie, or a BC_DEAD_BINDER_DONE as a close; None for every
-/// other event.
-pub fn death_step(event: Event<'_>) -> Option<PendingItem<u64>>
+/// The cookie of a BR_DEAD_BINDER, which opens it, or of a BC_DEAD_BINDER_DONE, which closes it;
+/// None for every other event.
+pub fn death_step(event: Event<'_>) -> Option<(u64, KeyEvent)>
     ensures { result ≡ death_item event.entry.place event.entry.kind event.entry.payload.now }
 {
     let change = death_change(event.kind)?;
-    Some(PendingItem {
-        place: event.place,
-        key: u64_at(event.payload, 0),
-        change,
-    })
+    let place = event.place;
+    Some((u64_at(event.payload, 0), KeyEvent { place, change }))
 }

@@ -15,14 +15,6 @@ pub enum HandleChange {
     Lower,
 }
 
-/// A change of one of a handle's two counts.
-#[derive(Clone, Copy)]
-pub struct HandleItem {
-    pub handle: u32,
-    pub strength: Strength,
-    pub change: HandleChange,
-}
-
 /// Which count a record of this kind changes, and how.
 fn handle_effect(kind: Kind) -> Option<(Strength, HandleChange)>
     ensures { result ≡ handle_effect kind }
@@ -36,15 +28,11 @@ fn handle_effect(kind: Kind) -> Option<(Strength, HandleChange)>
     }
 }
 
-/// The change that a BC_ACQUIRE, BC_RELEASE, BC_INCREFS or BC_DECREFS makes; None for every other
-/// event.
-pub fn handle_step(event: Event<'_>) -> Option<HandleItem>
+/// The handle of a BC_ACQUIRE, BC_RELEASE, BC_INCREFS or BC_DECREFS, which of its counts changes,
+/// and how; None for every other event.
+pub fn handle_step(event: Event<'_>) -> Option<(u32, (Strength, HandleChange))>
     ensures { result ≡ handle_item event.entry.kind event.entry.payload.now }
 {
-    let (strength, change) = handle_effect(event.kind)?;
-    Some(HandleItem {
-        handle: u32_at(event.payload, 0),
-        strength,
-        change,
-    })
+    let effect = handle_effect(event.kind)?;
+    Some((u32_at(event.payload, 0), effect))
 }

@@ -40,14 +40,6 @@ pub enum NodeChange {
     Done,
 }
 
-/// A change of the references to a node.
-#[derive(Clone, Copy)]
-pub struct NodeItem {
-    pub node: NodeKey,
-    pub strength: Strength,
-    pub change: NodeChange,
-}
-
 /// Which references a record of this kind changes, and how.
 fn node_effect(kind: Kind) -> Option<(Strength, NodeChange)>
     ensures { result ≡ node_effect kind }
@@ -63,15 +55,11 @@ fn node_effect(kind: Kind) -> Option<(Strength, NodeChange)>
     }
 }
 
-/// The change that a BR_ACQUIRE, BR_RELEASE, BR_INCREFS, BR_DECREFS, BC_ACQUIRE_DONE or
-/// BC_INCREFS_DONE makes; None for every other event.
-pub fn node_step(event: Event<'_>) -> Option<NodeItem>
+/// The node of a BR_ACQUIRE, BR_RELEASE, BR_INCREFS, BR_DECREFS, BC_ACQUIRE_DONE or
+/// BC_INCREFS_DONE, which of its references change, and how; None for every other event.
+pub fn node_step(event: Event<'_>) -> Option<(NodeKey, (Strength, NodeChange))>
     ensures { result ≡ node_item event.entry.kind event.entry.payload.now }
 {
-    let (strength, change) = node_effect(event.kind)?;
-    Some(NodeItem {
-        node: NodeKey::of(event.payload),
-        strength,
-        change,
-    })
+    let effect = node_effect(event.kind)?;
+    Some((NodeKey::of(event.payload), effect))
 }

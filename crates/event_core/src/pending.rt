@@ -1,4 +1,4 @@
-/// What a record does to its key in a list of opens and closes.
+/// What a record does to a key in a list of opens and closes.
 #[derive(Clone, Copy, Debug, PartialEq, Eq)]
 pub enum PendingChange {
     /// It begins what a later close of the key ends.
@@ -7,11 +7,10 @@ pub enum PendingChange {
     Close,
 }
 
-/// An open or a close of a key, with the place of the record that makes it.
+/// An open or a close of a key, which is beside it.
 #[derive(Clone, Copy, Debug, PartialEq, Eq)]
-pub struct PendingItem<K> {
+pub struct KeyEvent {
     /// Where the record begins in the capture, in bytes.
     pub place: u64,
-    pub key: K,
     pub change: PendingChange,
 }

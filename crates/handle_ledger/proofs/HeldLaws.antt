@@ -7,7 +7,6 @@ use Rattle.std.proofs.lemmas.Cmp.{eq_by_cmp_equiv, nat_cmp_total, on_total, then
 use Rattle.std.proofs.lemmas.List.Elements.{All-head, All-tail}
 use Rattle.std.proofs.lemmas.List.Folds.{list_any-append}
 use Rattle.std.proofs.lemmas.Map.Lookups.{CmpEqualImpliesEq, exact_pairs, exact_unsigned}
-use Rattle.std.proofs.lemmas.Simd.{map-map}
 use Rattle.std.specs.BTreeMap.{BTreeMap, IsOrdered}
 use Rattle.std.specs.BTreeSet.{BTreeSet, contains, Updates}
 use Rattle.std.specs.Cmp.{IsTotalOrder, bool_cmp_total, both_ways}
@@ -16,8 +15,8 @@ use Rattle.std.specs.Map.{keys_of}
 use Rattle.std.specs.Ordering.{eq_by_cmp, nat_cmp, bool_cmp, is_eq, ordering_then}
 use Rattle.std.specs.declared.cmp.Ordering.TheVariants.{Less, Equal, Greater}
 use Rattle.std.specs.Prelude.{All}
-use Rattle.event_core.specs.declared.handle.HandleItem.{HandleItem}
-use Rattle.handle_ledger.specs.Handles.{handle_of, by_handle, HandleCountsSum}
+use Rattle.event_core.specs.Handles.{HandleItem}
+use Rattle.handle_ledger.specs.Handles.{HandleCountsSum}
 use Rattle.handle_ledger.specs.Held.{Held, held_cmp}
 use Rattle.handle_ledger.specs.declared.handle_counts.HandleCounts.{HandleCounts}
 use Rattle.summary_law.proofs.GatherLaws.{has_own, in_any}
@@ -89,12 +88,11 @@ next_inserted old new first q rows i d in' updates before =
 
 -- the keys of a ledger's map are the handles that its items name
 pub named_entries : (m : BTreeMap ℕ HandleCounts) → IsOrdered nat_cmp m → (items : List HandleItem)
-    → SumsByKey nat_cmp HandleCountsSum m (by_handle items) → (q : ℕ)
-    → list_any (eq_by_cmp nat_cmp q) (keys_of m.entries) ≡ list_any (eq_by_cmp nat_cmp q) (map handle_of items)
+    → SumsByKey nat_cmp HandleCountsSum m items → (q : ℕ)
+    → list_any (eq_by_cmp nat_cmp q) (keys_of m.entries) ≡ list_any (eq_by_cmp nat_cmp q) (keys_of items)
 named_entries m ordered items sums q =
-    ap (list_any (eq_by_cmp nat_cmp q)) (keys_are nat_cmp nat_cmp_total exact_unsigned HandleCountsSum m ordered (by_handle items) sums)
-    ∙ sorted_any nat_cmp exact_unsigned nat_cmp_total q (keys_of (by_handle items))
-    ∙ ap (list_any (eq_by_cmp nat_cmp q)) (map-map (λ (e : ℕ × HandleItem). e.0) (λ (item : HandleItem). (handle_of item, item)) items)
+    ap (list_any (eq_by_cmp nat_cmp q)) (keys_are nat_cmp nat_cmp_total exact_unsigned HandleCountsSum m ordered items sums)
+    ∙ sorted_any nat_cmp exact_unsigned nat_cmp_total q (keys_of items)
 
 or_true : (b : Bool) → (b || true) ≡ true
 or_true true = refl

@@ -2,24 +2,24 @@
 use Rattle.std.proofs.Common.{◌≡◌, ℕ, List, [], ◌∷◌, map, ap, ◌∙◌}
 use Rattle.std.proofs.lemmas.Cmp.{nat_cmp_total, on_total, then_total}
 use Rattle.std.proofs.lemmas.Map.Lookups.{CmpEqualImpliesEq, exact_unsigned, exact_pairs}
-use Rattle.std.proofs.lemmas.Simd.{map-map}
 use Rattle.std.specs.BTreeMap.{BTreeMap, IsOrdered}
 use Rattle.std.specs.Cmp.{IsTotalOrder}
-use Rattle.std.specs.Ordering.{nat_cmp}
+use Rattle.std.specs.Ordering.{eq_by_cmp, nat_cmp}
 use Rattle.std.specs.Prelude.{◌+ℤ◌}
-use Rattle.event_core.specs.declared.node.NodeItem.{NodeItem}
+use Rattle.event_core.specs.Nodes.{NodeItem}
+use Rattle.event_core.specs.declared.node.NodeChange.{NodeChange}
 use Rattle.event_core.specs.declared.node.NodeKey.{NodeKey}
+use Rattle.event_core.specs.declared.strength.Strength.{Strength}
 use Rattle.event_core.specs.declared.strength.Strength.TheVariants.{Strong, Weak}
 use Rattle.handle_ledger.proofs.Counting.{IsSmall, count_more, sum_more, sum_small}
-use Rattle.handle_ledger.proofs.KeyLaws.{counted_at, own, sum_at}
-use Rattle.handle_ledger.specs.Nodes.{node_cmp, node_change, node_due_change, node_of, node_row, node_rows, by_node, NodeCountsSum}
+use Rattle.handle_ledger.proofs.KeyLaws.{counted_at, sum_at}
+use Rattle.handle_ledger.specs.Nodes.{node_cmp, node_change, node_counts, node_due_change, node_row, node_rows, NodeCountsSum}
 use Rattle.handle_ledger.specs.declared.node_counts.NodeCounts.{NodeCounts}
 use Rattle.handle_ledger.specs.declared.node_row.NodeRow.{NodeRow}
 use Rattle.summary_law.proofs.SortedLaws.{map_rows}
-use Rattle.summary_law.specs.ByKey.{SumsByKey}
+use Rattle.summary_law.specs.ByKey.{SumsByKey, items_of}
 use Rattle.summary_law.specs.Count.{total, CountsOneMore}
 use Rattle.summary_law.specs.Fits.{IsShort, short_halves}
-use Rattle.summary_law.specs.Sorted.{sorted}
 use Rattle.summary_law.specs.Summary.{CanAdd, Adds}
 
 pub node_cmp_total : IsTotalOrder node_cmp
@@ -32,28 +32,26 @@ node_cmp_exact x y e =
 
 -- an entry of the map as a row
 abbrev pub entry_row : NodeKey × NodeCounts → NodeRow
-entry_row e = record { key = e.0; strong = e.1.strong; weak = e.1.weak; strong_due = e.1.strong_due; weak_due = e.1.weak_due }
+entry_row e = record { key = e.0; counts = e.1 }
 
--- the counts of the items of a node are its row
-row_of : (key : NodeKey) (items : List NodeItem) (counts : NodeCounts) → NodeCountsSum counts (own node_cmp node_of key items)
-    → entry_row (key, counts) ≡ node_row items key
-row_of key items counts sums =
-    let strong = counted_at node_cmp node_of (node_change Strong) counts.strong key items sums.strong in
-    let weak = counted_at node_cmp node_of (node_change Weak) counts.weak key items sums.weak in
-    let strong_due = sum_at node_cmp node_of (node_due_change Strong) counts.strong_due key items sums.strong_due in
-    let weak_due = sum_at node_cmp node_of (node_due_change Weak) counts.weak_due key items sums.weak_due in
-    λ i. record { key = key; strong = strong i; weak = weak i; strong_due = strong_due i; weak_due = weak_due i }
+-- the counts of the items of a node are its counts among all items
+counts_are : (key : NodeKey) (items : List NodeItem) (counts : NodeCounts) → NodeCountsSum counts (items_of (eq_by_cmp node_cmp) key items)
+    → counts ≡ node_counts items key
+counts_are key items counts sums =
+    let strong = counted_at node_cmp (node_change Strong) key counts.strong items sums.strong in
+    let weak = counted_at node_cmp (node_change Weak) key counts.weak items sums.weak in
+    let strong_due = sum_at node_cmp (node_due_change Strong) key counts.strong_due items sums.strong_due in
+    let weak_due = sum_at node_cmp (node_due_change Weak) key counts.weak_due items sums.weak_due in
+    λ i. record { strong = strong i; weak = weak i; strong_due = strong_due i; weak_due = weak_due i }
 
 pub rows_are : (m : BTreeMap NodeKey NodeCounts) → IsOrdered node_cmp m → (items : List NodeItem)
-    → SumsByKey node_cmp NodeCountsSum m (by_node items) → map entry_row m.entries ≡ node_rows items
+    → SumsByKey node_cmp NodeCountsSum m items → map entry_row m.entries ≡ node_rows items
 rows_are m ordered items sums =
-    map_rows node_cmp node_cmp_total node_cmp_exact NodeCountsSum m ordered (by_node items) sums (node_row items) entry_row
-    (λ e counts. row_of e.0 items e.1 counts)
-    ∙ ap (λ (keys : List NodeKey). map (node_row items) (sorted node_cmp keys))
-    (map-map (λ (e : NodeKey × NodeItem). e.0) (λ (item : NodeItem). (node_of item, item)) items)
+    map_rows node_cmp node_cmp_total node_cmp_exact NodeCountsSum m ordered items sums (node_row items) entry_row
+    (λ e sums. ap (λ (counts : NodeCounts). entry_row (e.0, counts)) (counts_are e.0 items e.1 sums))
 
--- one more item, by what it does to each count and to what is due
-pub node_more : (old new : NodeCounts) (item : NodeItem) → CountsOneMore (node_change Strong item) old.strong new.strong
+-- one more change, by what it does to each count and to what is due
+pub node_more : (old new : NodeCounts) (item : Strength × NodeChange) → CountsOneMore (node_change Strong item) old.strong new.strong
     → CountsOneMore (node_change Weak item) old.weak new.weak → new.strong_due ≡ old.strong_due +ℤ total (node_due_change Strong item ∷ [])
     → new.weak_due ≡ old.weak_due +ℤ total (node_due_change Weak item ∷ []) → Adds NodeCountsSum IsShort old item new
 node_more old new item strong weak strong_due weak_due = λ items sums fits. record {
@@ -64,7 +62,7 @@ node_more old new item strong weak strong_due weak_due = λ items sums fits. rec
 }
 
 -- what is due before one more item is small, if there are few items
-pub dues_small : (counts : NodeCounts) (item : NodeItem) → CanAdd NodeCountsSum IsShort counts item → IsSmall counts.strong_due × IsSmall counts.weak_due
+pub dues_small : (counts : NodeCounts) (item : Strength × NodeChange) → CanAdd NodeCountsSum IsShort counts item → IsSmall counts.strong_due × IsSmall counts.weak_due
 dues_small counts item can =
     let few = (short_halves can.0 (item ∷ []) can.2).0 in (
       sum_small (node_due_change Strong) counts.strong_due can.0 can.1.strong_due few,

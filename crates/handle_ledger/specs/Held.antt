@@ -2,13 +2,14 @@
 use Rattle.std.specs.Prelude.{◌≡◌, ℕ, Bool, true, false, List, ◌++◌, map}
 use Rattle.std.specs.BTreeSet.{BTreeSet, contains}
 use Rattle.std.specs.List.{list_any}
+use Rattle.std.specs.Map.{keys_of}
 use Rattle.std.specs.Ordering.{eq_by_cmp, nat_cmp, bool_cmp, ordering_then}
 use Rattle.std.specs.declared.cmp.Ordering.{Ordering}
-use Rattle.event_core.specs.declared.handle.HandleItem.{HandleItem}
-use Rattle.handle_ledger.specs.declared.handle_row.HandleRow.{HandleRow}
+use Rattle.event_core.specs.Handles.{HandleItem}
+use Rattle.handle_ledger.specs.declared.handle_counts.HandleCounts.{HandleCounts}
 use Rattle.handle_ledger.specs.declared.handles.HandleLedger.{HandleLedger}
 use Rattle.handle_ledger.specs.declared.held_row.HeldRow.{HeldRow}
-use Rattle.handle_ledger.specs.Handles.{handle_of, handle_row, HandleLedgerSums}
+use Rattle.handle_ledger.specs.Handles.{handle_counts, HandleLedgerSums}
 use Rattle.summary_law.specs.Sorted.{sorted}
 use Rattle.summary_law.specs.Tally.{count_of_key, TallySums}
 use Rattle.summary_law.specs.declared.tally.Tally.{Tally}
@@ -28,14 +29,15 @@ held_count held handle weak = count_of_key held_cmp (handle, weak) held
 -- the row of a handle: its counts, and how many strong and weak references to it are held
 abbrev pub held_row : List HandleItem → List (Held × ℕ) → ℕ → HeldRow
 held_row items held handle = record {
-  taken = handle_row items handle;
+  handle = handle;
+  taken = handle_counts items handle;
   held_strong = held_count held handle false;
   held_weak = held_count held handle true;
 }
 
 -- the handles that an item names, and those to which a reference is held
 abbrev pub handles_of : List HandleItem → List (Held × ℕ) → List ℕ
-handles_of items held = map handle_of items ++ map (λ reference. reference.0.0) held
+handles_of items held = keys_of items ++ map (λ reference. reference.0.0) held
 
 -- a row for each handle that an item names or to which a reference is held, handles rising
 abbrev pub held_rows : List HandleItem → List (Held × ℕ) → List HeldRow
@@ -51,10 +53,10 @@ ForWhateverIsSummed ledger tally IsHere =
 abbrev pub GivesHeldRows : HandleLedger → Tally Held → List HeldRow → Type 0
 GivesHeldRows ledger tally rows = ForWhateverIsSummed ledger tally (λ items held. rows ≡ held_rows items held)
 
--- for whatever items the ledger sums, this is the row of the handle
-abbrev pub GivesHandleRow : HandleLedger → ℕ → HandleRow → Type 0
-GivesHandleRow ledger handle row =
-    (items : List HandleItem) → HandleLedgerSums ledger items → row ≡ handle_row items handle
+-- for whatever items the ledger sums, these are the counts of the handle
+abbrev pub GivesHandleCounts : HandleLedger → ℕ → HandleCounts → Type 0
+GivesHandleCounts ledger handle counts =
+    (items : List HandleItem) → HandleLedgerSums ledger items → counts ≡ handle_counts items handle
 
 -- for whatever items and held references are summed, this is the row of the handle with what is held
 abbrev pub GivesHeldRow : HandleLedger → Tally Held → ℕ → HeldRow → Type 0

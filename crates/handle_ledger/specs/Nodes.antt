@@ -1,11 +1,12 @@
 -- The references that the driver asks a process to keep to its nodes: the counts of each node, and a row for each
 -- (docs/REPORT.md).
 use Rattle.std.specs.Prelude.{◌≡◌, ℤ, List, map}
+use Rattle.std.specs.Map.{keys_of}
 use Rattle.std.specs.Ordering.{nat_cmp, on, then_cmp}
 use Rattle.std.specs.declared.cmp.Ordering.{Ordering}
+use Rattle.event_core.specs.Nodes.{NodeItem}
 use Rattle.event_core.specs.declared.node.NodeChange.{NodeChange}
 use Rattle.event_core.specs.declared.node.NodeChange.TheVariants.{Raise, Lower, Done}
-use Rattle.event_core.specs.declared.node.NodeItem.{NodeItem}
 use Rattle.event_core.specs.declared.node.NodeKey.{NodeKey}
 use Rattle.event_core.specs.declared.strength.Strength.{Strength}
 use Rattle.event_core.specs.declared.strength.Strength.TheVariants.{Strong, Weak}
@@ -36,17 +37,13 @@ due_change Raise = raises
 due_change Lower = keeps
 due_change Done = lowers
 
--- what an item does to the count of this strength of its node: nothing if it changes the other strength
-abbrev pub node_change : Strength → NodeItem → Change
-node_change strength item = change_of strength item.strength (node_count_change item.change)
+-- what a record does to the count of this strength of its node: nothing if it changes the other strength
+abbrev pub node_change : Strength → Strength × NodeChange → Change
+node_change strength effect = change_of strength effect.0 (node_count_change effect.1)
 
--- what an item does to what is due of this strength of its node: nothing if it changes the other strength
-abbrev pub node_due_change : Strength → NodeItem → Change
-node_due_change strength item = change_of strength item.strength (due_change item.change)
-
--- the node that an item names
-abbrev pub node_of : NodeItem → NodeKey
-node_of item = item.node
+-- what a record does to what is due of this strength of its node: nothing if it changes the other strength
+abbrev pub node_due_change : Strength → Strength × NodeChange → Change
+node_due_change strength effect = change_of strength effect.0 (due_change effect.1)
 
 -- the sum is the total of what these items do
 abbrev pub IsSumOf : {I : Type 0} → (I → Change) → ℤ → List I → Type 0
@@ -54,41 +51,40 @@ IsSumOf change sum items = sum ≡ total (map change items)
 
 -- the count of this strength of this node, over all items
 abbrev pub node_count : List NodeItem → NodeKey → Strength → Count
-node_count items key strength = count_of (map (change_at node_cmp node_of (node_change strength) key) items)
+node_count items key strength = count_of (map (change_at node_cmp (node_change strength) key) items)
 
 -- how many references of this strength to this node are due, over all items; below 0 if more are acknowledged than the
 -- driver asked for
 abbrev pub due_count : List NodeItem → NodeKey → Strength → ℤ
-due_count items key strength = total (map (change_at node_cmp node_of (node_due_change strength) key) items)
+due_count items key strength = total (map (change_at node_cmp (node_due_change strength) key) items)
 
--- the row of a node: its strong count and its weak count, and what is due of each strength
-abbrev pub node_row : List NodeItem → NodeKey → NodeRow
-node_row items key = record {
-  key = key;
+-- the strong count and the weak count of a node, and what is due of each strength
+abbrev pub node_counts : List NodeItem → NodeKey → NodeCounts
+node_counts items key = record {
   strong = node_count items key Strong;
   weak = node_count items key Weak;
   strong_due = due_count items key Strong;
   weak_due = due_count items key Weak;
 }
 
+-- the row of a node
+abbrev pub node_row : List NodeItem → NodeKey → NodeRow
+node_row items key = record { key = key; counts = node_counts items key }
+
 -- a row for each node that an item names, by rising ptr and then by rising cookie
 abbrev pub node_rows : List NodeItem → List NodeRow
-node_rows items = map (node_row items) (sorted node_cmp (map node_of items))
+node_rows items = map (node_row items) (sorted node_cmp (keys_of items))
 
--- the counts, and what is due, are those of these items, which all name one node
-pub record NodeCountsSum (counts : NodeCounts) (items : List NodeItem) : Type 0 where
-  pub strong : IsCountOf (node_change Strong) counts.strong items
-  pub weak : IsCountOf (node_change Weak) counts.weak items
-  pub strong_due : IsSumOf (node_due_change Strong) counts.strong_due items
-  pub weak_due : IsSumOf (node_due_change Weak) counts.weak_due items
-
--- the items, each with its node
-abbrev pub by_node : List NodeItem → List (NodeKey × NodeItem)
-by_node items = map (λ item. (node_of item, item)) items
+-- the counts, and what is due, are those of these changes of one node
+pub record NodeCountsSum (counts : NodeCounts) (effects : List (Strength × NodeChange)) : Type 0 where
+  pub strong : IsCountOf (node_change Strong) counts.strong effects
+  pub weak : IsCountOf (node_change Weak) counts.weak effects
+  pub strong_due : IsSumOf (node_due_change Strong) counts.strong_due effects
+  pub weak_due : IsSumOf (node_due_change Weak) counts.weak_due effects
 
 -- the ledger has the counts of each node that an item names, and of no other
 abbrev pub NodeLedgerSums : NodeLedger → List NodeItem → Type 0
-NodeLedgerSums ledger items = SumsByKey node_cmp NodeCountsSum ledger.nodes.entries (by_node items)
+NodeLedgerSums ledger items = SumsByKey node_cmp NodeCountsSum ledger.nodes.entries items
 
 -- for whatever items the ledger sums, these are the rows
 abbrev pub GivesNodeRows : NodeLedger → List NodeRow → Type 0

@@ -1,36 +1,24 @@
 //! The counts of one handle.
 
-ghost use Rattle.handle_ledger.specs.Handles.{HandleCountsSum, counts_row};
-ghost use Rattle.std.specs.Prelude.{◌≡◌};
+ghost use Rattle.handle_ledger.specs.Handles.{HandleCountsSum};
 ghost use Rattle.summary_law.specs.Fits.{IsShort, short_halves};
 
-use crate::handle_row::HandleRow;
-use event_core::{HandleChange, HandleItem, Strength};
+use event_core::{HandleChange, Strength};
 use std::alloc::{AllocError, Global};
 use summary_law::{Count, Summary};
 
-/// The counts of the references to one handle, over items that all name it.
-#[derive(Drop)]
-pub(crate) struct HandleCounts {
-    pub(crate) strong: Count,
-    pub(crate) weak: Count,
-}
-
-impl HandleCounts {
-    /// The row of the handle that these are the counts of.
-    pub(crate) fn row(&self, handle: u32) -> HandleRow
-        ensures { result ≡ counts_row handle self.now }
-    {
-        HandleRow {
-            handle,
-            strong: self.strong,
-            weak: self.weak,
-        }
-    }
+/// The counts of a process's references to one handle, by the BC_ACQUIRE, BC_RELEASE, BC_INCREFS
+/// and BC_DECREFS that name it.
+#[derive(Clone, Copy, Debug, PartialEq, Eq)]
+pub struct HandleCounts {
+    /// BC_ACQUIRE raises it, and BC_RELEASE lowers it.
+    pub strong: Count,
+    /// BC_INCREFS raises it, and BC_DECREFS lowers it.
+    pub weak: Count,
 }
 
 impl Summary for HandleCounts {
-    type Item = HandleItem;
+    type Item = (Strength, HandleChange);
 
     ghost fits = { IsShort };
 
@@ -43,8 +31,8 @@ impl Summary for HandleCounts {
         }
     }
 
-    fn add(&mut self, item: HandleItem) -> Result<(), AllocError> {
-        match (item.strength, item.change) {
+    fn add(&mut self, item: (Strength, HandleChange)) -> Result<(), AllocError> {
+        match (item.0, item.1) {
             (Strength::Strong, HandleChange::Raise) => self.strong.raise(),
             (Strength::Strong, HandleChange::Lower) => self.strong.lower(),
             (Strength::Weak, HandleChange::Raise) => self.weak.raise(),

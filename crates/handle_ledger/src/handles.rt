@@ -5,8 +5,7 @@ ghost use Rattle.std.specs.Prelude.{IfOk};
 ghost use Rattle.summary_law.specs.Fits.{IsShort, short_halves};
 
 use crate::handle_counts::HandleCounts;
-use crate::handle_row::HandleRow;
-use event_core::HandleItem;
+use event_core::{HandleChange, Strength};
 use std::alloc::{AllocError, Global};
 use summary_law::{ByKey, Summary};
 
@@ -17,13 +16,13 @@ pub struct HandleLedger {
 }
 
 impl HandleLedger {
-    /// A row for each handle that an item names, even if its counts are 0, handles rising.
-    pub fn rows(&self) -> Result<Vec<HandleRow>, AllocError>
+    /// Each handle that an item names, with its counts, even if they are 0, handles rising.
+    pub fn rows(&self) -> Result<Vec<(u32, HandleCounts)>, AllocError>
         ensures { IfOk result (λ rows. GivesHandleRows self.now rows.items) }
     {
         let mut rows = Vec::new(self.handles.allocator());
         for (handle, counts) in &self.handles.entries {
-            rows.push(counts.row(*handle))?;
+            rows.push((*handle, *counts))?;
         }
         Ok(rows)
     }
@@ -31,7 +30,7 @@ impl HandleLedger {
 
 /// An `add` takes at most two look-ups, and a `join` two for each handle of the later ledger.
 impl Summary for HandleLedger {
-    type Item = HandleItem;
+    type Item = (u32, (Strength, HandleChange));
 
     ghost fits = { IsShort };
 
@@ -43,8 +42,8 @@ impl Summary for HandleLedger {
         }
     }
 
-    fn add(&mut self, item: HandleItem) -> Result<(), AllocError> {
-        self.handles.add((item.handle, item))
+    fn add(&mut self, item: (u32, (Strength, HandleChange))) -> Result<(), AllocError> {
+        self.handles.add(item)
     }
 
     fn join(self, later: HandleLedger) -> Result<HandleLedger, AllocError> {

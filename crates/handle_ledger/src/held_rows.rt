@@ -1,6 +1,6 @@
 //! The rows of handles, with the references that deliveries hold.
 
-ghost use Rattle.handle_ledger.specs.Held.{GivesHandleRow, HasHandles, GivesHeldRow, GivesHeldRows};
+ghost use Rattle.handle_ledger.specs.Held.{GivesHandleCounts, HasHandles, GivesHeldRow, GivesHeldRows};
 ghost use Rattle.std.specs.BTreeMap.{IsOrdered};
 ghost use Rattle.std.specs.BTreeSet.{contains};
 ghost use Rattle.std.specs.List.{list_any};
@@ -9,7 +9,6 @@ ghost use Rattle.std.specs.Ordering.{eq_by_cmp, nat_cmp};
 ghost use Rattle.std.specs.Prelude.{◌≡◌, ℕ, IfOk};
 
 use crate::handle_counts::HandleCounts;
-use crate::handle_row::HandleRow;
 use crate::handles::HandleLedger;
 use crate::held_row::HeldRow;
 use std::alloc::AllocError;
@@ -61,19 +60,20 @@ impl HandleLedger {
         ensures { GivesHeldRow self.now held.now handle result }
     {
         HeldRow {
-            taken: self.row(handle),
+            handle,
+            taken: self.taken(handle),
             held_strong: held.amount((handle, false)).count,
             held_weak: held.amount((handle, true)).count,
         }
     }
 
     /// What the process itself took of a handle: nothing if no item names it.
-    fn row(&self, handle: u32) -> HandleRow
-        ensures { GivesHandleRow self.now handle result }
+    fn taken(&self, handle: u32) -> HandleCounts
+        ensures { GivesHandleCounts self.now handle result }
     {
         match self.handles.entries.get(&handle) {
-            Some(counts) => counts.row(handle),
-            None => HandleCounts::empty(self.handles.allocator()).row(handle),
+            Some(counts) => *counts,
+            None => HandleCounts::empty(self.handles.allocator()),
         }
     }
 }

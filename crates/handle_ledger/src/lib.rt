@@ -2,7 +2,6 @@
 #![tactic(auto)]
 
 mod handle_counts;
-mod handle_row;
 mod handles;
 mod held_row;
 mod held_rows;
@@ -10,8 +9,9 @@ mod node_counts;
 mod node_row;
 mod nodes;
 
-pub use handle_row::HandleRow;
+pub use handle_counts::HandleCounts;
 pub use handles::HandleLedger;
 pub use held_row::HeldRow;
+pub use node_counts::NodeCounts;
 pub use node_row::NodeRow;
 pub use nodes::NodeLedger;

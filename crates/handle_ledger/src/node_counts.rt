@@ -3,22 +3,25 @@
 ghost use Rattle.handle_ledger.specs.Nodes.{NodeCountsSum};
 ghost use Rattle.summary_law.specs.Fits.{IsShort, short_halves};
 
-use event_core::{NodeChange, NodeItem, Strength};
+use event_core::{NodeChange, Strength};
 use std::alloc::{AllocError, Global};
 use summary_law::{Count, Summary};
 
-/// The counts of the references to one node, and how many of them are due, over items that all name
-/// it.
-#[derive(Drop)]
-pub(crate) struct NodeCounts {
-    pub(crate) strong: Count,
-    pub(crate) weak: Count,
-    pub(crate) strong_due: i64,
-    pub(crate) weak_due: i64,
+/// The counts of the references to one node of a process that the driver asks the process to keep.
+#[derive(Clone, Copy, Debug, PartialEq, Eq)]
+pub struct NodeCounts {
+    /// BR_ACQUIRE raises it, and BR_RELEASE lowers it.
+    pub strong: Count,
+    /// BR_INCREFS raises it, and BR_DECREFS lowers it.
+    pub weak: Count,
+    /// How many strong references are due: BR_ACQUIRE less BC_ACQUIRE_DONE. It can be below 0.
+    pub strong_due: i64,
+    /// How many weak references are due: BR_INCREFS less BC_INCREFS_DONE. It can be below 0.
+    pub weak_due: i64,
 }
 
 impl Summary for NodeCounts {
-    type Item = NodeItem;
+    type Item = (Strength, NodeChange);
 
     ghost fits = { IsShort };
 
@@ -33,8 +36,8 @@ impl Summary for NodeCounts {
         }
     }
 
-    fn add(&mut self, item: NodeItem) -> Result<(), AllocError> {
-        match (item.strength, item.change) {
+    fn add(&mut self, item: (Strength, NodeChange)) -> Result<(), AllocError> {
+        match (item.0, item.1) {
             (Strength::Strong, NodeChange::Raise) => {
                 self.strong.raise();
                 self.strong_due += 1;

@@ -6,7 +6,7 @@ ghost use Rattle.summary_law.specs.Fits.{IsShort, short_halves};
 
 use crate::node_counts::NodeCounts;
 use crate::node_row::NodeRow;
-use event_core::{NodeItem, NodeKey};
+use event_core::{NodeChange, NodeKey, Strength};
 use std::alloc::{AllocError, Global};
 use summary_law::{ByKey, Summary};
 
@@ -27,10 +27,7 @@ impl NodeLedger {
         for (key, counts) in &self.nodes.entries {
             rows.push(NodeRow {
                 key: *key,
-                strong: counts.strong,
-                weak: counts.weak,
-                strong_due: counts.strong_due,
-                weak_due: counts.weak_due,
+                counts: *counts,
             })?;
         }
         Ok(rows)
@@ -39,7 +36,7 @@ impl NodeLedger {
 
 /// An `add` takes at most two look-ups, and a `join` two for each node of the later ledger.
 impl Summary for NodeLedger {
-    type Item = NodeItem;
+    type Item = (NodeKey, (Strength, NodeChange));
 
     ghost fits = { IsShort };
 
@@ -51,8 +48,8 @@ impl Summary for NodeLedger {
         }
     }
 
-    fn add(&mut self, item: NodeItem) -> Result<(), AllocError> {
-        self.nodes.add((item.node, item))
+    fn add(&mut self, item: (NodeKey, (Strength, NodeChange))) -> Result<(), AllocError> {
+        self.nodes.add(item)
     }
 
     fn join(self, later: NodeLedger) -> Result<NodeLedger, AllocError> {

@@ -1,7 +1,7 @@
 //! Opens and closes, requests, and their joins, in lists written by hand and in large ones.
 
 use binder_code::Kind;
-use event_core::{BufferItem, PendingChange, PendingItem, RequestChange, RequestItem, RequestKey};
+use event_core::{BufferItem, KeyEvent, PendingChange, RequestChange, RequestItem, RequestKey};
 use pending_ledger::{Buffers, Deaths, Requests};
 use std::alloc::{AllocError, Global};
 use std::process::Abort;
@@ -179,14 +179,12 @@ const DOZEN_ASKED: Asked = Asked {
 };
 
 /// The opens and closes as deaths.
-fn deaths_of(alloc: Global, pairs: &Pairs) -> Result<Vec<PendingItem<u64>>, AllocError> {
+fn deaths_of(alloc: Global, pairs: &Pairs) -> Result<Vec<(u64, KeyEvent)>, AllocError> {
     let mut items = Vec::new(alloc);
     for (place, (change, key)) in pairs.steps.iter().enumerate() {
-        items.push(PendingItem {
-            place: place as u64,
-            key: *key,
-            change: *change,
-        })?;
+        let place = place as u64;
+        let change = *change;
+        items.push((*key, KeyEvent { place, change }))?;
     }
     Ok(items)
 }

@@ -12,6 +12,7 @@ use Rattle.std.specs.List.{cons_option, filter_map, list_any}
 use Rattle.std.specs.Map.{keys_of}
 use Rattle.std.specs.Option.{option_map}
 use Rattle.std.specs.Ordering.{eq_by_cmp}
+use Rattle.event_core.specs.declared.pending.KeyEvent.{KeyEvent}
 use Rattle.event_core.specs.declared.pending.PendingChange.TheVariants.{Open, Close}
 use Rattle.event_core.specs.declared.request.RequestChange.{RequestChange}
 use Rattle.event_core.specs.declared.request.RequestChange.TheVariants.{Request, Clear, Dead}
@@ -19,7 +20,6 @@ use Rattle.event_core.specs.declared.request.RequestItem.{RequestItem}
 use Rattle.event_core.specs.declared.request.RequestKey.{RequestKey}
 use Rattle.pending_ledger.proofs.KeyLaws.{is_last_open, opens_read}
 use Rattle.pending_ledger.specs.declared.cookie.CookieRequests.{CookieRequests}
-use Rattle.pending_ledger.specs.declared.key_event.KeyEvent.{KeyEvent}
 use Rattle.pending_ledger.specs.declared.requests.Requests.{Requests}
 use Rattle.pending_ledger.specs.KeyEvents.{event_place, is_closing, after_last}
 use Rattle.pending_ledger.specs.Requests.{change_ends, change_stands, ends, is_standing, request_place, standing_request_places}

@@ -7,13 +7,13 @@ use Rattle.std.proofs.lemmas.List.Elements.{filter_map-append}
 use Rattle.std.proofs.lemmas.List.Folds.{list_any-append}
 use Rattle.std.specs.List.{cons_option, last_or, list_any}
 use Rattle.std.specs.Option.{option_or}
+use Rattle.event_core.specs.declared.pending.KeyEvent.{KeyEvent}
 use Rattle.event_core.specs.declared.pending.PendingChange.TheVariants.{Open, Close}
 use Rattle.event_core.specs.declared.request.RequestChange.{RequestChange}
 use Rattle.event_core.specs.declared.request.RequestChange.TheVariants.{Request, Clear, Dead}
 use Rattle.event_core.specs.declared.request.RequestItem.{RequestItem}
 use Rattle.pending_ledger.proofs.KeyLaws.{open_places-append, open_places-anew, last_or-append, unmet_places-append, unmet_after}
 use Rattle.pending_ledger.proofs.LastLaws.{or_false, after_last-append, after_last-anew, after_last-none, after_last-suffix}
-use Rattle.pending_ledger.specs.declared.key_event.KeyEvent.{KeyEvent}
 use Rattle.pending_ledger.specs.declared.opens.Opens.{Opens}
 use Rattle.pending_ledger.specs.declared.strays.Strays.{Strays}
 use Rattle.pending_ledger.specs.KeyEvents.{event_place, event_change, is_closing, after_last, open_places, unmet_places, first_change, met_count}

@@ -1,9 +1,9 @@
 -- The opens and closes of one key alone.
 use Rattle.std.specs.Prelude.{ℕ, Bool, true, false, List, [], ◌∷◌, map, Option, Some, None, if◌then◌else◌}
 use Rattle.std.specs.List.{list_any}
+use Rattle.event_core.specs.declared.pending.KeyEvent.{KeyEvent}
 use Rattle.event_core.specs.declared.pending.PendingChange.{PendingChange}
 use Rattle.event_core.specs.declared.pending.PendingChange.TheVariants.{Open, Close}
-use Rattle.pending_ledger.specs.declared.key_event.KeyEvent.{KeyEvent}
 use Rattle.pending_ledger.specs.Pending.{is_close}
 
 -- the place of an event

@@ -5,15 +5,14 @@ use Rattle.std.specs.Ordering.{eq_by_cmp, nat_cmp}
 use Rattle.std.specs.declared.cmp.Ordering.{Ordering}
 use Rattle.event_core.specs.Buffers.{buffer_pending}
 use Rattle.event_core.specs.declared.buffer.BufferItem.{BufferItem}
+use Rattle.event_core.specs.declared.pending.KeyEvent.{KeyEvent}
 use Rattle.event_core.specs.declared.pending.PendingChange.TheVariants.{Open, Close}
-use Rattle.event_core.specs.declared.pending.PendingItem.{PendingItem}
 use Rattle.event_core.specs.declared.request.RequestChange.{RequestChange}
 use Rattle.event_core.specs.declared.request.RequestChange.TheVariants.{Request, Clear, Dead}
 use Rattle.event_core.specs.declared.request.RequestItem.{RequestItem}
 use Rattle.pending_ledger.specs.declared.buffers.Buffers.{Buffers}
 use Rattle.pending_ledger.specs.declared.cookie.CookieRequests.{CookieRequests}
 use Rattle.pending_ledger.specs.declared.key.KeyLedger.{KeyLedger}
-use Rattle.pending_ledger.specs.declared.key_event.KeyEvent.{KeyEvent}
 use Rattle.pending_ledger.specs.declared.opens.Opens.{Opens}
 use Rattle.pending_ledger.specs.declared.pending.Pending.{Pending}
 use Rattle.pending_ledger.specs.declared.requests.Requests.{Requests}
@@ -41,23 +40,19 @@ pub record StraysSums (strays : Strays) (events : List KeyEvent) : Type 0 where
 abbrev pub KeySums : KeyLedger → List KeyEvent → Type 0
 KeySums ledger events = OpensSums ledger.opens events × StraysSums ledger.strays events
 
--- an item as its key and an event of the key
-abbrev pub keyed : {K : Type 0} → PendingItem K → K × KeyEvent
-keyed item = (item.key, record { place = item.place; change = item.change })
-
 -- the value has the ledger of the events of each key, and the places of the items rise
-abbrev pub PendingSums : {K : Type 0} → (K → K → Ordering) → Pending K → List (PendingItem K) → Type 0
-PendingSums cmp pending items = SumsByKey cmp KeySums pending.keys.entries (map keyed items) × IsPlaced place_of items
+abbrev pub PendingSums : {K : Type 0} → (K → K → Ordering) → Pending K → List (K × KeyEvent) → Type 0
+PendingSums cmp pending items = SumsByKey cmp KeySums pending.keys.entries items × IsPlaced place_of items
 
 -- for whatever items the value sums, these are the places of the outstanding opens
 abbrev pub GivesOutstanding : {K : Type 0} → (K → K → Ordering) → Pending K → List ℕ → Type 0
 GivesOutstanding {K} cmp pending places =
-    (items : List (PendingItem K)) → PendingSums cmp pending items → places ≡ places_if (is_unclosed_item (eq_by_cmp cmp)) items
+    (items : List (K × KeyEvent)) → PendingSums cmp pending items → places ≡ places_if (is_unclosed_item (eq_by_cmp cmp)) items
 
 -- for whatever items the value sums, these are the places of the strays
 abbrev pub GivesStrays : {K : Type 0} → (K → K → Ordering) → Pending K → List ℕ → Type 0
 GivesStrays {K} cmp pending places =
-    (items : List (PendingItem K)) → PendingSums cmp pending items → places ≡ places_if (is_stray_item (eq_by_cmp cmp)) items
+    (items : List (K × KeyEvent)) → PendingSums cmp pending items → places ≡ places_if (is_stray_item (eq_by_cmp cmp)) items
 
 -- the value sums these deliveries and frees, as opens and closes of their addresses
 abbrev pub BuffersSums : Buffers → List BufferItem → Type 0

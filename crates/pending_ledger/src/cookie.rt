@@ -6,9 +6,8 @@ ghost use Rattle.std.specs.Ordering.{nat_cmp};
 ghost use Rattle.pending_ledger.specs.Sums.{CookieSums, handle_event, standing_places};
 ghost use Rattle.summary_law.specs.Fits.{IsShort, short_halves};
 
-use crate::key_event::KeyEvent;
 use crate::opens::Opens;
-use event_core::{PendingChange, RequestChange, RequestItem};
+use event_core::{KeyEvent, PendingChange, RequestChange, RequestItem};
 use std::alloc::{AllocError, Global};
 use summary_law::{ByKey, Summary};
 

@@ -3,9 +3,9 @@
 ghost use Rattle.pending_ledger.specs.Sums.{KeySums};
 ghost use Rattle.summary_law.specs.Fits.{IsShort, short_halves};
 
-use crate::key_event::KeyEvent;
 use crate::opens::Opens;
 use crate::strays::Strays;
+use event_core::KeyEvent;
 use std::alloc::{AllocError, Global};
 use summary_law::Summary;
 

@@ -5,7 +5,6 @@
 mod buffers;
 mod cookie;
 mod key;
-mod key_event;
 mod opens;
 mod pending;
 mod places;

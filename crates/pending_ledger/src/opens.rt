@@ -3,9 +3,8 @@
 ghost use Rattle.pending_ledger.specs.Sums.{OpensSums};
 ghost use Rattle.summary_law.specs.Fits.{IsShort, short_halves};
 
-use crate::key_event::KeyEvent;
 use crate::places::Places;
-use event_core::PendingChange;
+use event_core::{KeyEvent, PendingChange};
 use std::alloc::{AllocError, Global};
 use summary_law::Summary;
 

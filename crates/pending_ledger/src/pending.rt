@@ -6,8 +6,7 @@ ghost use Rattle.pending_ledger.specs.Sums.{PendingSums, GivesOutstanding, Gives
 ghost use Rattle.summary_law.specs.Fits.{IsPlaced, placed_halves};
 
 use crate::key::KeyLedger;
-use crate::key_event::KeyEvent;
-use event_core::PendingItem;
+use event_core::KeyEvent;
 use std::alloc::{AllocError, Global};
 use summary_law::{ByKey, Summary};
 
@@ -51,7 +50,7 @@ impl<K: Ord + Copy> Pending<K> {
 }
 
 impl<K: Ord + Copy> Summary for Pending<K> {
-    type Item = PendingItem<K>;
+    type Item = (K, KeyEvent);
 
     ghost fits = { IsPlaced place_of };
 
@@ -64,14 +63,8 @@ impl<K: Ord + Copy> Summary for Pending<K> {
     }
 
     #[inline(always)]
-    fn add(&mut self, item: PendingItem<K>) -> Result<(), AllocError> {
-        self.keys.add((
-            item.key,
-            KeyEvent {
-                place: item.place,
-                change: item.change,
-            },
-        ))
+    fn add(&mut self, item: (K, KeyEvent)) -> Result<(), AllocError> {
+        self.keys.add(item)
     }
 
     fn join(self, later: Pending<K>) -> Result<Pending<K>, AllocError> {

@@ -5,8 +5,7 @@ ghost use Rattle.pending_ledger.specs.KeyEvents.{is_unmet, met_count};
 ghost use Rattle.pending_ledger.specs.Sums.{StraysSums};
 ghost use Rattle.summary_law.specs.Fits.{IsShort, short_halves};
 
-use crate::key_event::KeyEvent;
-use event_core::PendingChange;
+use event_core::{KeyEvent, PendingChange};
 use std::alloc::{AllocError, Global};
 use summary_law::Summary;
 

@@ -8,7 +8,7 @@ use Rattle.event_core.specs.Clears.{clear_item}
 use Rattle.event_core.specs.Deaths.{death_change}
 use Rattle.event_core.specs.Requests.{request_change}
 use Rattle.event_core.specs.declared.buffer.BufferItem.{BufferItem}
-use Rattle.event_core.specs.declared.pending.PendingItem.{PendingItem}
+use Rattle.event_core.specs.declared.pending.KeyEvent.{KeyEvent}
 use Rattle.pending_ledger.specs.Ledgers.{buffer_place}
 use Rattle.pending_ledger.specs.Pending.{place_of}
 use Rattle.pending_ledger.specs.Requests.{request_place}
@@ -29,7 +29,7 @@ buffer_there at BrReply payload i is = some_there buffer_place _ i at refl is
 buffer_there at BcFreeBuffer payload i is = some_there buffer_place _ i at refl is
 buffer_there at _ payload i is = let no : ⊥ = cc in absurd no
 
-clear_there : (at : ℕ) (kind : Kind) (payload : List ℕ) (i : PendingItem ℕ) → clear_item at kind payload ≡ Some i → i.place ≡ at
+clear_there : (at : ℕ) (kind : Kind) (payload : List ℕ) (i : ℕ × KeyEvent) → clear_item at kind payload ≡ Some i → place_of i ≡ at
 clear_there at BcClearDeathNotification payload i is = some_there place_of _ i at refl is
 clear_there at BrClearDeathNotificationDone payload i is = some_there place_of _ i at refl is
 clear_there at _ payload i is = let no : ⊥ = cc in absurd no
@@ -46,8 +46,8 @@ death_keeps e i is = made_there place_of _ e.place (λ change. refl) (death_chan
 pub clear_keeps : KeepsPlace place_of clear_item_of
 clear_keeps e i is = clear_there e.place e.kind e.payload i is
 
-pending_there : (at : ℕ) (o : Option BufferItem) → ((b : BufferItem) → o ≡ Some b → buffer_place b ≡ at) → (i : PendingItem ℕ)
-    → option_map buffer_pending o ≡ Some i → i.place ≡ at
+pending_there : (at : ℕ) (o : Option BufferItem) → ((b : BufferItem) → o ≡ Some b → buffer_place b ≡ at) → (i : ℕ × KeyEvent)
+    → option_map buffer_pending o ≡ Some i → place_of i ≡ at
 pending_there at None keeps i is = let no : ⊥ = cc in absurd no
 pending_there at (Some b) keeps i is = sym (ap (λ o. place_of (unwrap_or o i)) is) ∙ keeps b refl
 

@@ -5,15 +5,13 @@ use Rattle.event_core.specs.Buffers.{buffer_item, buffer_pending}
 use Rattle.event_core.specs.Clears.{clear_item}
 use Rattle.event_core.specs.Deaths.{death_item}
 use Rattle.event_core.specs.Events.{EventRead}
-use Rattle.event_core.specs.Handles.{handle_item}
-use Rattle.event_core.specs.Nodes.{node_item}
+use Rattle.event_core.specs.Handles.{HandleItem, handle_item}
+use Rattle.event_core.specs.Nodes.{NodeItem, node_item}
 use Rattle.event_core.specs.Oneway.{oneway_item}
 use Rattle.event_core.specs.Requests.{request_item}
 use Rattle.event_core.specs.declared.buffer.BufferItem.{BufferItem}
-use Rattle.event_core.specs.declared.handle.HandleItem.{HandleItem}
-use Rattle.event_core.specs.declared.node.NodeItem.{NodeItem}
 use Rattle.event_core.specs.declared.oneway.OnewayKey.{OnewayKey}
-use Rattle.event_core.specs.declared.pending.PendingItem.{PendingItem}
+use Rattle.event_core.specs.declared.pending.KeyEvent.{KeyEvent}
 use Rattle.event_core.specs.declared.request.RequestItem.{RequestItem}
 
 -- the change of a handle's counts that an event is
@@ -29,7 +27,7 @@ abbrev pub buffer_item_of : EventRead → Option BufferItem
 buffer_item_of e = buffer_item e.place e.kind e.payload
 
 -- what an event does to the address of a buffer: a delivery opens it, and a free closes it
-abbrev pub buffer_pending_of : EventRead → Option (PendingItem ℕ)
+abbrev pub buffer_pending_of : EventRead → Option (ℕ × KeyEvent)
 buffer_pending_of e = option_map buffer_pending (buffer_item_of e)
 
 -- the request, the clear or the death that an event is
@@ -37,11 +35,11 @@ abbrev pub request_item_of : EventRead → Option RequestItem
 request_item_of e = request_item e.place e.kind e.payload
 
 -- the death or the acknowledgement that an event is
-abbrev pub death_item_of : EventRead → Option (PendingItem ℕ)
+abbrev pub death_item_of : EventRead → Option (ℕ × KeyEvent)
 death_item_of e = death_item e.place e.kind e.payload
 
 -- the clear or the confirmation that an event is
-abbrev pub clear_item_of : EventRead → Option (PendingItem ℕ)
+abbrev pub clear_item_of : EventRead → Option (ℕ × KeyEvent)
 clear_item_of e = clear_item e.place e.kind e.payload
 
 -- the oneway transaction, sent or received, that an event is

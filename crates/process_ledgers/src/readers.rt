@@ -4,8 +4,9 @@ ghost use Rattle.event_core.specs.Reading.{event_text};
 ghost use Rattle.process_ledgers.specs.Items.{handle_item_of, node_item_of, buffer_item_of, request_item_of, death_item_of, clear_item_of, oneway_item_of};
 
 use event_core::{
-    BufferItem, Event, HandleItem, NodeItem, OnewayKey, PendingItem, RequestItem, buffer_step,
-    clear_step, death_step, handle_step, node_step, oneway_step, request_step,
+    BufferItem, Event, HandleChange, KeyEvent, NodeChange, NodeKey, OnewayKey, RequestItem,
+    Strength, buffer_step, clear_step, death_step, handle_step, node_step, oneway_step,
+    request_step,
 };
 use std::marker::PhantomData;
 use summary_law::Picks;
@@ -18,12 +19,12 @@ pub struct HandleItems<'c> {
 impl<'c> Picks for HandleItems<'c> {
     type Thing = Event<'c>;
 
-    type Item = HandleItem;
+    type Item = (u32, (Strength, HandleChange));
 
     ghost picks = { λ event. handle_item_of (event_text event) };
 
     #[inline(always)]
-    fn pick(event: Event<'c>) -> Option<HandleItem> {
+    fn pick(event: Event<'c>) -> Option<(u32, (Strength, HandleChange))> {
         handle_step(event)
     }
 }
@@ -36,12 +37,12 @@ pub struct NodeItems<'c> {
 impl<'c> Picks for NodeItems<'c> {
     type Thing = Event<'c>;
 
-    type Item = NodeItem;
+    type Item = (NodeKey, (Strength, NodeChange));
 
     ghost picks = { λ event. node_item_of (event_text event) };
 
     #[inline(always)]
-    fn pick(event: Event<'c>) -> Option<NodeItem> {
+    fn pick(event: Event<'c>) -> Option<(NodeKey, (Strength, NodeChange))> {
         node_step(event)
     }
 }
@@ -90,12 +91,12 @@ pub struct DeathItems<'c> {
 impl<'c> Picks for DeathItems<'c> {
     type Thing = Event<'c>;
 
-    type Item = PendingItem<u64>;
+    type Item = (u64, KeyEvent);
 
     ghost picks = { λ event. death_item_of (event_text event) };
 
     #[inline(always)]
-    fn pick(event: Event<'c>) -> Option<PendingItem<u64>> {
+    fn pick(event: Event<'c>) -> Option<(u64, KeyEvent)> {
         death_step(event)
     }
 }
@@ -108,12 +109,12 @@ pub struct ClearItems<'c> {
 impl<'c> Picks for ClearItems<'c> {
     type Thing = Event<'c>;
 
-    type Item = PendingItem<u64>;
+    type Item = (u64, KeyEvent);
 
     ghost picks = { λ event. clear_item_of (event_text event) };
 
     #[inline(always)]
-    fn pick(event: Event<'c>) -> Option<PendingItem<u64>> {
+    fn pick(event: Event<'c>) -> Option<(u64, KeyEvent)> {
         clear_step(event)
     }
 }

@@ -1,7 +1,7 @@
 //! Code words that the header's macros make, and words next to them.
 
 use crate::expect::{holds, same};
-use binder_code::{Code, CodeFault, Kind, Protocol, TransactionFlags, kind, laws, unknown_bits};
+use binder_code::{Code, CodeFault, Kind, Line, Protocol, TransactionFlags, kind, laws, unknown_bits};
 use bitflags::Flags;
 use std::process::Abort;
 
@@ -51,6 +51,21 @@ fn names_kinds(rt: HostRuntime) {
         "BR_CLEAR_DEATH_NOTIFICATION_DONE",
     );
     same(&rt, Kind::Opaque.name(), "OPAQUE");
+}
+
+fn expect_line(rt: &impl Abort, place: usize, line: &Line) {
+    same(rt, line.kind.place(), place);
+    same(rt, line.kind.word(), Some(line.word));
+    same(rt, line.kind.name(), line.name);
+}
+
+#[test]
+fn lists_kinds(rt: HostRuntime) {
+    for (place, line) in Line::all().iter().enumerate() {
+        expect_line(&rt, place, line);
+    }
+    same(&rt, Kind::Opaque.place(), 41);
+    same(&rt, Kind::Opaque.word(), None);
 }
 
 #[test]

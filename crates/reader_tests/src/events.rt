@@ -9,7 +9,7 @@ use binder_code::Kind;
 use capture_frame::{Frame, Frames, Process, Thread};
 use captures::{COMMANDS, DEVICE, RETURNS, WITH_ATTACHMENTS};
 use event_core::{
-    BufferItem, Event, Events, Mark, PendingChange, PendingItem, bracket, buffer_step, clear_step,
+    BufferItem, Event, Events, KeyEvent, Mark, PendingChange, bracket, buffer_step, clear_step,
     death_step, event_at, event_without_attachment_at, handle_step, mark, node_step, oneway_step,
     request_step,
 };
@@ -124,15 +124,15 @@ fn expect_start(rt: &impl Abort, event: Event<'_>, start: Start) {
 
 /// What an event does to the counts of handles and nodes.
 fn expect_counts(rt: &impl Abort, event: Event<'_>, row: &Row) {
-    let handle = handle_step(event).map(|item| (item.strength, item.change));
+    let handle = handle_step(event).map(|item| item.1);
     same_at(rt, row.place, handle, row.handle);
     if let Some(item) = handle_step(event) {
-        same(rt, item.handle, HANDLE);
+        same(rt, item.0, HANDLE);
     }
-    let node = node_step(event).map(|item| (item.strength, item.change));
+    let node = node_step(event).map(|item| item.1);
     same_at(rt, row.place, node, row.node);
     if let Some(item) = node_step(event) {
-        same(rt, item.node, NODE);
+        same(rt, item.0, NODE);
     }
     let oneway = oneway_step(event).map(|item| item.0);
     same_at(rt, row.place, oneway, row.oneway);
@@ -158,12 +158,9 @@ fn expect_buffer(rt: &impl Abort, event: Event<'_>, row: &Row) {
 }
 
 /// The open or close of the cookie.
-fn pending(place: u64, change: Option<PendingChange>) -> Option<PendingItem<u64>> {
-    Some(PendingItem {
-        place,
-        key: COOKIE,
-        change: change?,
-    })
+fn pending(place: u64, change: Option<PendingChange>) -> Option<(u64, KeyEvent)> {
+    let change = change?;
+    Some((COOKIE, KeyEvent { place, change }))
 }
 
 /// What an event does to requests, deaths and clears.

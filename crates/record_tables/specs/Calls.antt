@@ -1,9 +1,11 @@
 -- The calls of the raw table call, by the definitions of call_stacks.
-use Rattle.std.specs.Prelude.{◌≡◌, ℕ, Option, Some, List, map, slice_get}
-use Rattle.std.specs.List.{flat_map}
+use Rattle.std.specs.Prelude.{◌≡◌, ℕ, Bool, Option, Some, None, List, map, slice_get}
+use Rattle.std.specs.List.{filter_map, flat_map}
 use Rattle.std.specs.Option.{option_map}
 use Rattle.std.specs.declared.vec.Vec.{Vec}
-use Rattle.call_stacks.specs.Calls.{Reads, openers_of}
+use Rattle.call_stacks.specs.Calls.{Reads, bracket_read, bracketed_of, openers_of, refused_of, strays_in}
+use Rattle.call_stacks.specs.Matching.{is_closer}
+use Rattle.call_stacks.specs.Verdicts.{side_of}
 use Rattle.call_stacks.specs.declared.opener.Opener.{Opener}
 use Rattle.call_stacks.specs.declared.verdict.Verdict.{Verdict}
 use Rattle.call_stacks.specs.declared.verdict.Verdict.TheVariants.{Answered, Failed, Replied, Crossed, Open}
@@ -39,6 +41,22 @@ row_of_opener opener = record { place = opener.event.place; closer = opener.clos
 -- the calls of a thread in which these records leave a mark, in the order of their openers
 abbrev pub rows_of : List CallStep → List CallRow
 rows_of steps = map row_of_opener (openers_of step_reads steps)
+
+-- whether a record is a reply or an error reply
+abbrev pub is_reply_step : CallStep → Bool
+is_reply_step step = is_closer (side_of (bracket_read step_reads None step))
+
+-- the places of the closers of these calls
+abbrev pub closers_in : List CallRow → List ℕ
+closers_in rows = filter_map (λ row. row.closer) rows
+
+-- the strays of a thread in which these records leave a mark
+abbrev pub strays_of : List CallStep → List CallStep
+strays_of steps = strays_in (bracketed_of step_reads steps)
+
+-- the error replies of such a thread that report a refused send
+abbrev pub refusals_of : List CallStep → List CallStep
+refusals_of steps = map (λ sent. sent.event) (refused_of (bracketed_of step_reads steps))
 
 -- the calls of all threads, thread by thread; of each thread these records leave a mark
 abbrev pub rows_of_all : {A : Type 0} → List (Vec CallStep A) → List CallRow

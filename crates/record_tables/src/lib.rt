@@ -1,11 +1,13 @@
 //! The raw tables of a capture, as docs/DATABASE.md has them: rows of numbers, for a database.
 #![tactic(auto)]
 
+mod buffers;
 mod calls;
 mod generations;
 mod held;
 mod judge;
 mod keys;
+pub mod laws;
 mod levels;
 mod lists;
 mod messages;

@@ -4,21 +4,20 @@
 
 ghost use Rattle.record_tables.specs.Calls.{AreColumns};
 
+use crate::buffers::{Buffer, Buffers, Reference, References};
 use crate::calls::{Call, CallStep, all_calls, verdict_number};
 use crate::generations::{Effect, Generations};
 use crate::held::HeldCounts;
 use crate::keys::key_of;
 use crate::levels::{Levels, Resource};
-use crate::messages::{
-    Delivered, Detail, Message, Messages, Path, Reference, References, Sent, Settled, unknown_path,
-};
+use crate::messages::{Detail, Message, Messages, Path, Sent, Settled, unknown_path};
 use crate::numbered::Numbered;
 use crate::rows::{RowWriter, column};
 use crate::spans::Spans;
 use binder_code::Kind;
 use call_stacks::Verdict;
-use event_core::mark_of;
-use object_view::{Object, Sort};
+use event_core::{Strength, mark_of};
+use object_view::Sort;
 use record_fields::{EachObject, Item, ListingError, Named, Outcome, is_oneway, is_reply};
 use std::alloc::Global;
 use std::collections::VecDeque;
@@ -33,6 +32,7 @@ pub(crate) struct Lists {
     /// Of each thread, the sends that wait to be confirmed, by their index.
     waiting: Vec<VecDeque<u32>>,
     pub messages: Messages,
+    pub buffers: Buffers,
     pub generations: Generations,
     pub levels: Levels,
     /// In the order of their openers. They are found when all records are there.
@@ -59,6 +59,7 @@ impl Lists {
             steps: Vec::new(alloc),
             waiting: Vec::new(alloc),
             messages: Messages::new(alloc),
+            buffers: Buffers::new(alloc),
             generations: Generations::new(alloc),
             levels: Levels::new(alloc),
             calls: Numbered::new(alloc),
@@ -145,20 +146,13 @@ impl Lists {
         let Some(handle) = handle else {
             return Ok(None);
         };
-        let effect = match kind {
-            Kind::BcAcquire => Effect::Acquire,
-            Kind::BcRelease => Effect::Release,
-            Kind::BcIncrefs => Effect::Increfs,
-            Kind::BcDecrefs => Effect::Decrefs,
-            _ => Effect::Named,
-        };
-        let (index, more) = self
-            .generations
-            .name(origin.upid, handle, effect, origin.place)?;
-        match more {
-            1 => self.levels.raise(origin.upid, Resource::References, 1)?,
-            -1 => self.levels.lower(origin.upid, Resource::References, 1)?,
-            _ => {}
+        let upid = origin.upid;
+        let effect = Effect::of(kind);
+        let (index, before, now) = self.generations.name(upid, handle, effect, origin.place)?;
+        if before < now {
+            self.levels.raise(upid, Resource::References, 1)?;
+        } else if now < before {
+            self.levels.lower(upid, Resource::References, 1)?;
         }
         Ok(Some(index))
     }
@@ -169,14 +163,24 @@ impl Lists {
             if let Ok(object) = attached.found
                 && let Some(handle) = object.handle()
             {
-                let effect = effect_of(object, delivered);
-                let (generation, _) = self
+                let strength = match object.sort {
+                    Sort::WeakHandle => Strength::Weak,
+                    _ => Strength::Strong,
+                };
+                let effect = if delivered {
+                    Effect::Holds(strength)
+                } else {
+                    Effect::Names
+                };
+                let (generation, _, _) = self
                     .generations
                     .name(origin.upid, handle, effect, origin.place)?;
                 if delivered {
-                    let weak = object.sort == Sort::WeakHandle;
-                    let reference = Reference { generation, weak };
-                    self.messages.references.push(reference)?;
+                    let reference = Reference {
+                        generation,
+                        strength,
+                    };
+                    self.buffers.references.push(reference)?;
                 }
             }
         }
@@ -219,11 +223,11 @@ impl Lists {
         entry: Option<Entry<'_>>,
         oneway: bool,
     ) -> Result<Detail, ListingError> {
-        let first = self.messages.references.next()?;
+        let first = self.buffers.references.next()?;
         if let Some(entry) = entry {
             self.name_objects(origin, entry, true)?;
         }
-        let count = self.messages.references.next()?.saturating_sub(first);
+        let count = self.buffers.references.next()?.saturating_sub(first);
         let path = match transaction.carrier.kind {
             Kind::BrReply => unknown_path(origin.upid),
             _ => Path {
@@ -237,16 +241,19 @@ impl Lists {
         let size = transaction.data_size();
         self.levels.raise(origin.upid, Resource::Buffers, 1)?;
         self.levels.raise(origin.upid, Resource::Bytes, size)?;
-        Ok(Detail::Delivered(Delivered {
+        let buffer = Buffer {
+            place: origin.place,
+            sender: transaction.sender_pid(),
             size,
             freed: None,
             freed_in: 0,
-            sender: transaction.sender_pid(),
-            held: 0,
             path: self.messages.index_of(path)?,
-            earlier: self.messages.occupy(origin.upid, transaction.buffer())?,
+            held: 0,
+            earlier: None,
             references: References { first, count },
-        }))
+        };
+        let key = (origin.upid, transaction.buffer());
+        Ok(Detail::Delivered(self.buffers.deliver(key, buffer)?))
     }
 
     /// Takes a record that confirms a send, refuses one, or frees a buffer.
@@ -280,33 +287,29 @@ impl Lists {
         }
     }
 
-    /// Frees all deliveries at an address of a process that are not freed.
+    /// Frees all buffers at an address of a process that are not freed.
     fn free(&mut self, origin: Origin, address: u64) -> Outcome {
-        let mut next = self.messages.vacate(origin.upid, address);
-        for _ in 0..self.messages.list.all.len() {
-            let Some(index) = next else {
-                break;
-            };
-            next = self.free_one(origin, index)?;
+        let first = self.buffers.freed.next()?;
+        self.buffers
+            .free((origin.upid, address), origin.place, origin.sequence)?;
+        for at in first..self.buffers.freed.next()? {
+            if let Some(buffer) = self.buffers.freed_at(at) {
+                self.let_go(origin, &buffer)?;
+            }
         }
         Ok(())
     }
 
-    /// Frees a delivery, and returns the index of the delivery before it at its address.
-    fn free_one(&mut self, origin: Origin, index: u32) -> Result<Option<u32>, ListingError> {
-        let freed = self.messages.free(index, origin.place, origin.sequence)?;
-        let Some(delivered) = freed else {
-            return Ok(None);
-        };
-        for number in 0..delivered.references.count {
-            if let Some(reference) = self.messages.reference(delivered.references, number) {
+    /// Takes back what a buffer held that is freed.
+    fn let_go(&mut self, origin: Origin, buffer: &Buffer) -> Outcome {
+        let References { first, count } = buffer.references;
+        for number in 0..count {
+            if let Some(reference) = self.buffers.references.get(first.saturating_add(number)) {
                 self.generations.let_go(reference, origin.place);
             }
         }
         self.levels.lower(origin.upid, Resource::Buffers, 1)?;
-        self.levels
-            .lower(origin.upid, Resource::Bytes, delivered.size)?;
-        Ok(delivered.earlier)
+        self.levels.lower(origin.upid, Resource::Bytes, buffer.size)
     }
 
     /// Finds the calls, once all records are there, and what follows from them. Then the messages
@@ -374,11 +377,13 @@ impl Lists {
             if let Some(message) = self.messages.list.get(index) {
                 let upid = spans.upid_of(message.utid);
                 self.follow_call(&message, upid)?;
-                if let Detail::Delivered(delivered) = message.detail {
-                    let path = self.path_of(&message, delivered, upid)?;
-                    counts.let_go(&self.messages, message.place);
+                if let Detail::Delivered(index) = message.detail
+                    && let Some(buffer) = self.buffers.get(index)
+                {
+                    let path = self.path_of(&message, buffer.path, upid)?;
+                    counts.let_go(&self.buffers, message.place);
                     let held = counts.hold(path)?;
-                    self.messages.keep_path(index, path, held);
+                    self.buffers.keep_path(index, path, held);
                 }
             }
         }
@@ -406,13 +411,9 @@ impl Lists {
         }
     }
 
-    /// The index of the path of a delivery: for a reply, of that of the call that it answers.
-    fn path_of(
-        &mut self,
-        message: &Message,
-        delivered: Delivered,
-        upid: u32,
-    ) -> Result<u32, ListingError> {
+    /// The index of the path of a delivery, so far this one: for a reply, of that of the call that it
+    /// answers.
+    fn path_of(&mut self, message: &Message, path: u32, upid: u32) -> Result<u32, ListingError> {
         if message.kind == Kind::BrReply
             && let Some(index) = message.call
             && let Some(call) = self.calls.get(index)
@@ -427,17 +428,6 @@ impl Lists {
                 cookie: 0,
             });
         }
-        Ok(delivered.path)
-    }
-}
-
-/// What an object does to the handle that it names.
-fn effect_of(object: Object<'_>, delivered: bool) -> Effect {
-    if !delivered {
-        return Effect::Named;
-    }
-    match object.sort {
-        Sort::WeakHandle => Effect::Weak,
-        _ => Effect::Strong,
+        Ok(path)
     }
 }

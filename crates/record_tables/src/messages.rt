@@ -1,5 +1,8 @@
 //! What threads send and get: the records that open and close calls, and what became of them.
 
+ghost use Rattle.record_tables.specs.Buffers.{AreBufferColumns};
+
+use crate::buffers::{Buffer, Buffers};
 use crate::calls::Call;
 use crate::generations::Node;
 use crate::numbered::{Numbered, narrow};
@@ -7,7 +10,7 @@ use crate::rows::{RowWriter, column};
 use crate::spans::number_at;
 use binder_code::Kind;
 use call_stacks::Verdict;
-use indexmap::{IndexMap, IndexSet};
+use indexmap::IndexSet;
 use record_fields::{ListingError, Outcome};
 use std::alloc::Global;
 use std::io::Write;
@@ -34,7 +37,8 @@ pub(crate) struct Message {
 #[derive(Clone, Copy)]
 pub(crate) enum Detail {
     Sent(Sent),
-    Delivered(Delivered),
+    /// The index of the buffer that a delivery brings.
+    Delivered(u32),
     /// It is an error reply.
     Failed,
 }
@@ -60,37 +64,6 @@ pub(crate) enum Settled {
     Waiting,
     Confirmed(u32),
     Refused(u32),
-}
-
-/// What is known of a delivery: of the buffer that a process got.
-#[derive(Clone, Copy)]
-pub(crate) struct Delivered {
-    pub size: u64,
-    /// The place of the record that frees it, and the sequence of its frame.
-    pub freed: Option<u32>,
-    pub freed_in: u64,
-    pub sender: i32,
-    /// How many buffers that came the same way its process holds right after it.
-    pub held: u32,
-    /// The index of its path.
-    pub path: u32,
-    /// The index of the delivery before it at its address, if that was not freed.
-    pub earlier: Option<u32>,
-    pub references: References,
-}
-
-/// The references of a delivery: where they begin in the list of all, and how many they are.
-#[derive(Clone, Copy)]
-pub(crate) struct References {
-    pub first: u32,
-    pub count: u32,
-}
-
-/// A reference that a delivery holds: the index of a generation.
-#[derive(Clone, Copy)]
-pub(crate) struct Reference {
-    pub generation: u32,
-    pub weak: bool,
 }
 
 /// What deliveries have in common that came the same way.
@@ -120,11 +93,6 @@ pub(crate) fn unknown_path(upid: u32) -> Path {
 #[derive(Drop)]
 pub(crate) struct Messages {
     pub list: Numbered<Message>,
-    pub references: Numbered<Reference>,
-    /// The indices of the deliveries that are freed, in the order in which they are.
-    pub freed: Numbered<u32>,
-    /// For each process and address, the index of the latest delivery that is not freed.
-    unfreed: IndexMap<(u32, u64), u32>,
     paths: IndexSet<Path>,
 }
 
@@ -132,9 +100,6 @@ impl Messages {
     pub(crate) fn new(alloc: Global) -> Messages {
         Messages {
             list: Numbered::new(alloc),
-            references: Numbered::new(alloc),
-            freed: Numbered::new(alloc),
-            unfreed: IndexMap::new(alloc),
             paths: IndexSet::new(alloc),
         }
     }
@@ -145,9 +110,9 @@ impl Messages {
         narrow(index as u64)
     }
 
-    /// The node that a delivered transaction goes to. It is not for replies.
-    pub(crate) fn node_of(&self, delivered: &Delivered) -> Option<Node> {
-        let path = self.paths.get_index(delivered.path as usize)?;
+    /// The node that transactions of this path go to. It is not for replies.
+    pub(crate) fn node_of(&self, path: u32) -> Option<Node> {
+        let path = self.paths.get_index(path as usize)?;
         Some(Node {
             upid: path.upid,
             ptr: path.target,
@@ -163,67 +128,10 @@ impl Messages {
         }
     }
 
-    /// The delivery at this index.
-    pub(crate) fn delivered(&self, index: u32) -> Option<Delivered> {
-        match self.list.get(index)?.detail {
-            Detail::Delivered(delivered) => Some(delivered),
-            _ => None,
-        }
-    }
-
     fn set(&mut self, index: u32, detail: Detail) {
         if let Some(message) = self.list.get_mut(index) {
             message.detail = detail;
         }
-    }
-
-    /// Notes the path of a delivery, and how many buffers of that path are held.
-    pub(crate) fn keep_path(&mut self, index: u32, path: u32, held: u32) {
-        if let Some(delivered) = self.delivered(index) {
-            let delivered = Delivered {
-                path,
-                held,
-                ..delivered
-            };
-            self.set(index, Detail::Delivered(delivered));
-        }
-    }
-
-    /// Notes that the delivery that comes next is at this address of a process. Returns the index of
-    /// the one before it there, if that is not freed.
-    pub(crate) fn occupy(&mut self, upid: u32, address: u64) -> Result<Option<u32>, ListingError> {
-        let index = self.list.next()?;
-        Ok(self.unfreed.insert((upid, address), index)?)
-    }
-
-    /// Takes out the latest delivery at an address of a process, and returns its index.
-    pub(crate) fn vacate(&mut self, upid: u32, address: u64) -> Option<u32> {
-        self.unfreed.swap_remove(&(upid, address))
-    }
-
-    /// Marks a delivery as freed by the record at this place, in the frame of this sequence.
-    pub(crate) fn free(
-        &mut self,
-        index: u32,
-        place: u32,
-        sequence: u64,
-    ) -> Result<Option<Delivered>, ListingError> {
-        let Some(delivered) = self.delivered(index) else {
-            return Ok(None);
-        };
-        self.freed.push(index)?;
-        let freed = Delivered {
-            freed: Some(place),
-            freed_in: sequence,
-            ..delivered
-        };
-        self.set(index, Detail::Delivered(freed));
-        Ok(Some(delivered))
-    }
-
-    /// A reference of a delivery, by its number there.
-    pub(crate) fn reference(&self, references: References, number: u32) -> Option<Reference> {
-        self.references.get(references.first.saturating_add(number))
     }
 
     /// Notes what the driver said to a send.
@@ -274,13 +182,16 @@ impl Messages {
     /// Writes the rows of the table delivery.
     pub(crate) fn write_deliveries<W: Write>(
         &self,
+        buffers: &Buffers,
         calls: &Numbered<Call>,
         rows: &mut RowWriter<'_, W>,
     ) -> Outcome {
         for message in &self.list.all {
-            if let Detail::Delivered(delivered) = message.detail {
+            if let Detail::Delivered(index) = message.detail
+                && let Some(buffer) = buffers.get(index)
+            {
                 let partner = self.place_of(message.partner);
-                rows.push(&delivery_columns(message, delivered, calls, partner))?;
+                rows.push(&delivery_columns(message, &buffer, calls, partner))?;
             }
         }
         Ok(())
@@ -310,25 +221,22 @@ fn send_columns(message: &Message, sent: Sent, partner: Option<u32>) -> [Option<
 
 fn delivery_columns(
     message: &Message,
-    delivered: Delivered,
+    buffer: &Buffer,
     calls: &Numbered<Call>,
     partner: Option<u32>,
-) -> [Option<u64>; 8] {
-    let mut columns = [
-        Some(u64::from(message.place)),
+) -> [Option<u64>; 8]
+    ensures { AreBufferColumns buffer.now result }
+{
+    [
+        Some(u64::from(buffer.place)),
         Some(message.sequence),
         Some(u64::from(message.utid)),
-        None,
-        None,
+        column(buffer.freed),
+        buffer.freed_after(message.sequence),
         column(call_place(message, calls)),
         column(partner),
-        Some(u64::from(delivered.held)),
-    ];
-    if let Some(place) = delivered.freed {
-        columns[3] = Some(u64::from(place));
-        columns[4] = Some(delivered.freed_in.wrapping_sub(message.sequence));
-    }
-    columns
+        Some(u64::from(buffer.held)),
+    ]
 }
 
 /// The place of the call that a delivery opens, or that it answers.

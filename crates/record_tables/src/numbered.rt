@@ -1,7 +1,7 @@
 //! Things that are known by their index. A capture has millions of them, so an index takes four
 //! bytes, as the place of a record does.
 
-ghost use Rattle.std.specs.Prelude.{◌≡◌, ◌++◌, ◌∷◌, [], IfOk, OnOk};
+ghost use Rattle.std.specs.Prelude.{◌≡◌, ◌++◌, ◌∷◌, [], length, slice_get, IfOk, OnOk};
 
 use record_fields::ListingError;
 use std::alloc::Global;
@@ -22,7 +22,9 @@ impl<T: Copy + Drop> Numbered<T> {
     }
 
     /// The index of the thing that comes next.
-    pub(crate) fn next(&self) -> Result<u32, ListingError> {
+    pub(crate) fn next(&self) -> Result<u32, ListingError>
+        ensures { IfOk result (λ index. index ≡ length self.now.all.items) }
+    {
         narrow(self.all.len() as u64)
     }
 
@@ -35,7 +37,9 @@ impl<T: Copy + Drop> Numbered<T> {
         Ok(index)
     }
 
-    pub(crate) fn get(&self, index: u32) -> Option<T> {
+    pub(crate) fn get(&self, index: u32) -> Option<T>
+        ensures { result ≡ slice_get self.now.all.items index }
+    {
         self.all.as_slice().get(index as usize).copied()
     }
 

@@ -1,9 +1,10 @@
 //! Pairs each delivery with the send that it came from.
 
+use crate::buffers::Buffer;
 use crate::calls::{Call, Closer};
 use crate::generations::{Known, Node};
 use crate::lists::Lists;
-use crate::messages::{Delivered, Detail, Message, Sent, Settled};
+use crate::messages::{Detail, Message, Sent, Settled};
 use binder_code::Kind;
 use call_stacks::Verdict;
 use record_fields::{Outcome, is_reply};
@@ -73,10 +74,12 @@ impl Lists {
             Detail::Sent(sent) if !matches!(sent.settled, Settled::Refused(_)) => {
                 waiting.insert((message.key, index))?;
             }
-            Detail::Delivered(delivered) => {
-                if let Some(best) = self.best_of(waiting, message, &delivered, second) {
+            Detail::Delivered(buffer) => {
+                if let Some(buffer) = self.buffers.get(buffer)
+                    && let Some(best) = self.best_of(waiting, message, &buffer, second)
+                {
                     waiting.remove(&(message.key, best.index));
-                    self.keep(index, &delivered, best, second);
+                    self.keep(index, &buffer, best, second);
                 }
             }
             _ => {}
@@ -98,10 +101,10 @@ impl Lists {
         &self,
         waiting: &Waiting,
         delivery: &Message,
-        delivered: &Delivered,
+        buffer: &Buffer,
         second: bool,
     ) -> Option<Best> {
-        let node = self.messages.node_of(delivered)?;
+        let node = self.messages.node_of(buffer.path)?;
         let mut best = None;
         for (key, index) in waiting.range((delivery.key, 0)..).take(LOOKED_AT) {
             if *key != delivery.key {
@@ -111,7 +114,7 @@ impl Lists {
                 && let Detail::Sent(sent) = send.detail
                 && !(second && self.means_other(sent.generation, node))
             {
-                let fit = self.fit_of(*index, &send, &sent, delivery, delivered);
+                let fit = self.fit_of(*index, &send, &sent, delivery, buffer);
                 best = Some(better(best, fit, delivery.oneway));
             }
         }
@@ -136,11 +139,11 @@ impl Lists {
         send: &Message,
         sent: &Sent,
         delivery: &Message,
-        delivered: &Delivered,
+        buffer: &Buffer,
     ) -> Best {
         let call = self.call_of(send);
-        let told = delivered.sender == 0
-            || i64::from(delivered.sender) == i64::from(sent.process)
+        let told = buffer.sender == 0
+            || i64::from(buffer.sender) == i64::from(sent.process)
             || sent.process >= MADE_UP;
         Best {
             index,
@@ -186,12 +189,12 @@ impl Lists {
     }
 
     /// Keeps what is found: the first time the node of the generation, the second time the pair.
-    fn keep(&mut self, index: u32, delivered: &Delivered, best: Best, second: bool) {
+    fn keep(&mut self, index: u32, buffer: &Buffer, best: Best, second: bool) {
         let certain = best.rank == 0 && best.alike;
         if second {
             self.messages.couple(best.index, index, best.fits, certain);
         } else if certain
-            && let Some(node) = self.messages.node_of(delivered)
+            && let Some(node) = self.messages.node_of(buffer.path)
             && let Some(generation) = best.generation
             && let Some(row) = self.generations.list.get_mut(generation)
         {

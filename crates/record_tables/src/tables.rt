@@ -154,7 +154,11 @@ impl Tables {
             Name::Call => lists.write_calls(rows),
             Name::Generation => lists.generations.write(rows),
             Name::Send => lists.messages.write_sends(rows),
-            Name::Delivery => lists.messages.write_deliveries(&lists.calls, rows),
+            Name::Delivery => {
+                lists
+                    .messages
+                    .write_deliveries(&lists.buffers, &lists.calls, rows)
+            }
             Name::Level => lists.levels.write(self.spans.processes()?, rows),
         }
     }

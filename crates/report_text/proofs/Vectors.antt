@@ -4,6 +4,7 @@ use Rattle.std.specs.Prelude.{Some, None, pos, negsuc}
 use Rattle.std.specs.Fmt.{decimal, digits}
 use Rattle.std.proofs.lemmas.Fmt.{decimal_digit}
 use Rattle.itoa.proofs.Decimal.{decimal_two, decimal_pair}
+use Rattle.binder_code.specs.Commands.{command_lines, return_lines}
 use Rattle.binder_code.specs.declared.record_kind.Kind.TheVariants.{BcDeadBinderDone, BcTransaction, BrDeadBinder, BrFailedReply, BrTransaction}
 use Rattle.capture_frame.specs.Envelope.{FrameText, file_header, frame_bytes, number_at}
 use Rattle.capture_frame.specs.declared.direction.Direction.TheVariants.{Read}
@@ -108,9 +109,11 @@ unfolding nothing report_text
 empty_report = rw zero_said refl
 
 acquire_row : codes_row (record { word = 0x40046305; count = 2 }) ≡ codes "  0x40046305 BC_ACQUIRE 2"
+unfolding command_lines return_lines
 acquire_row = rw two_said refl
 
 opaque_row : codes_row (record { word = 0x400c6313; count = 1 }) ≡ codes "  0x400c6313 OPAQUE 1"
+unfolding command_lines return_lines
 opaque_row = rw one_said refl
 
 open_row : calls_row (record { event = send; verdict = Open; closer = None }) ≡ codes "  48 1 100 101 1 0 open -"
@@ -131,7 +134,7 @@ unfolding send number_at digits
 crossed_row = refl
 
 error_row : kind_row (record send { kind = BrFailedReply; payload = [] }) ≡ codes "  48 1 100 101 BR_FAILED_REPLY"
-unfolding send digits
+unfolding command_lines return_lines send digits
 error_row = refl
 
 sent_row : oneway_row (process_row (numbered 100) (Sent 3, 2, 36893488147419103230)) ≡ codes "  1 100 sent 3 2 36893488147419103230"
@@ -159,7 +162,8 @@ unfolding digits
 address_number = refl
 
 negative_row : handles_row (process_row (numbered 100) (record {
-  taken = record { handle = 2; strong = record { sum = pos 0; low = negsuc 1 }; weak = record { sum = pos 1; low = pos 0 } };
+  handle = 2;
+  taken = record { strong = record { sum = pos 0; low = negsuc 1 }; weak = record { sum = pos 1; low = pos 0 } };
   held_strong = 0;
   held_weak = 2;
 })) ≡ codes "  1 100 2 0 -2 1 0 0 2"
@@ -186,16 +190,16 @@ good_line : no_fault_line ≡ codes "no malformed record\n"
 good_line = refl
 
 no_reply_row : codes_row (record { word = 0x80407203; count = 0 }) ≡ codes "  0x80407203 BR_REPLY 0"
-unfolding digits
+unfolding command_lines return_lines digits
 no_reply_row = refl
 
 looper_row : codes_row (record { word = 0x630c; count = 10 }) ≡ codes "  0x0000630c BC_ENTER_LOOPER 10"
-unfolding digits
+unfolding command_lines return_lines digits
 looper_row = refl
 
 widest_row : codes_row (record { word = 0x80087210; count = 18446744073709551615 })
     ≡ codes "  0x80087210 BR_CLEAR_DEATH_NOTIFICATION_DONE 18446744073709551615"
-unfolding digits
+unfolding command_lines return_lines digits
 widest_row = refl
 
 list_length_named : cause_name ListLength ≡ codes "ListLength"
@@ -223,8 +227,8 @@ widest_objects = refl
 
 -- the least number is `negsuc` of one less than its amount
 widest_handle : handles_row (process_row (numbered 4294967295) (record {
+  handle = 0;
   taken = record {
-    handle = 0;
     strong = record { sum = negsuc 0; low = negsuc 9223372036854775807 };
     weak = record { sum = pos 9223372036854775807; low = pos 0 };
   };
@@ -236,10 +240,12 @@ widest_handle = refl
 
 widest_node : nodes_row (process_row (numbered 7) (record {
   key = record { ptr = 0; cookie = most };
-  strong = record { sum = pos 10; low = negsuc 9 };
-  weak = record { sum = pos 2; low = negsuc 2 };
-  strong_due = pos 4;
-  weak_due = negsuc 9223372036854775807;
+  counts = record {
+    strong = record { sum = pos 10; low = negsuc 9 };
+    weak = record { sum = pos 2; low = negsuc 2 };
+    strong_due = pos 4;
+    weak_due = negsuc 9223372036854775807;
+  };
 })) ≡ codes "  1 7 0x0 0xffffffffffffffff 10 -10 2 -3 4 -9223372036854775808"
 unfolding most digits
 widest_node = refl
@@ -280,5 +286,5 @@ lone_reply = record {
 
 stray_answer : answer ((file_header One ++ frame_bytes lone_reply) ∷ [])
     ≡ codes "BINDER AUDIT 2\nframes 1 records 1 opaque 0 missing 0\ncodes 1\n  0x00007211 BR_FAILED_REPLY 1\ncalls 0 answered 0 failed 0 unanswered 0\nserved 0 replied 0 crossed 0 open 0\nstrays 1\n  48 0 100 101 BR_FAILED_REPLY\nrefused 0\nhandles 0 unbalanced 0\nnodes 0 unbalanced 0\nbuffers 0 leaked 0\nfrees 0 stray 0\nrequests 0 standing 0\ndeaths 0 unacknowledged 0 stray 0\nclears 0 unconfirmed 0 stray 0\noneway sent 0 received 0 refused 0\nobjects binder 0 weak_binder 0 handle 0 weak_handle 0 fd 0 fda 0 ptr 0 bad 0\nflags 0\n"
-unfolding lone_reply number_at frame_bytes report_text digits
+unfolding command_lines return_lines lone_reply number_at frame_bytes report_text digits
 stray_answer = refl

@@ -2,8 +2,8 @@
 use Rattle.std.specs.Prelude.{ℕ, List, codes}
 use Rattle.binder_code.specs.declared.record_kind.Kind.{Kind}
 use Rattle.binder_code.specs.declared.record_kind.Kind.TheVariants.{BcClearDeathNotification}
+use Rattle.event_core.specs.Clears.{clear_cookie}
 use Rattle.event_core.specs.Events.{EventRead}
-use Rattle.event_core.specs.Requests.{cookie_alone, request_key}
 use Rattle.report_text.specs.OpenAndStray.{open_and_stray_head, open_and_stray_row}
 use Rattle.report_text.specs.Section.{SectionText}
 
@@ -15,11 +15,6 @@ clears_head all unclosed strays = open_and_stray_head (codes "clears") (codes "u
 abbrev pub clear_word : Kind → List ℕ
 clear_word BcClearDeathNotification = codes "unconfirmed"
 clear_word _ = codes "stray"
-
--- the cookie of a clear, whose payload also has a handle, or that of a confirmation
-abbrev pub clear_cookie : Kind → List ℕ → ℕ
-clear_cookie BcClearDeathNotification payload = (request_key payload).cookie
-clear_cookie _ payload = cookie_alone payload
 
 -- a row: place, device, process, cookie, and `unconfirmed` or `stray`
 abbrev pub clears_row : EventRead → List ℕ

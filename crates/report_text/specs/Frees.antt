@@ -1,7 +1,7 @@
 -- The lines of the section `frees` (docs/REPORT.md).
 use Rattle.std.specs.Prelude.{ℕ, List, ◌++◌, codes}
 use Rattle.std.specs.Fmt.{decimal}
-use Rattle.capture_frame.specs.Envelope.{number_at}
+use Rattle.event_core.specs.Buffers.{freed_address}
 use Rattle.event_core.specs.Events.{EventRead}
 use Rattle.report_text.specs.EventRow.{row_start}
 use Rattle.report_text.specs.Line.{hex_number}
@@ -11,13 +11,9 @@ use Rattle.report_text.specs.Section.{SectionText}
 abbrev pub frees_head : ℕ → ℕ → List ℕ
 frees_head frees stray = codes "frees " ++ decimal frees ++ codes " stray " ++ decimal stray
 
--- the address of a free: its payload
-abbrev pub free_address : List ℕ → ℕ
-free_address payload = number_at 8 0 payload
-
 -- a row: place, device, process, address
 abbrev pub frees_row : EventRead → List ℕ
-frees_row e = row_start e ++ codes " " ++ hex_number (free_address e.payload)
+frees_row e = row_start e ++ codes " " ++ hex_number (freed_address e.payload)
 
 -- the section: its head, and a row for each stray free
 abbrev pub frees_section : SectionText EventRead

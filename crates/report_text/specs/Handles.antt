@@ -9,7 +9,7 @@ use Rattle.report_text.specs.Section.{SectionText}
 -- a row: device, process, handle, the strong count and its low, the weak count and its low, held strong, held weak
 abbrev pub handles_row : ProcessRow HeldRow → List ℕ
 handles_row of =
-    process_start of.process ++ codes " " ++ decimal of.row.taken.handle
+    process_start of.process ++ codes " " ++ decimal of.row.handle
     ++ count_fields of.row.taken.strong.sum of.row.taken.strong.low
     ++ count_fields of.row.taken.weak.sum of.row.taken.weak.low ++ codes " " ++ decimal of.row.held_strong ++ codes " "
     ++ decimal of.row.held_weak

@@ -11,8 +11,9 @@ use Rattle.report_text.specs.Section.{SectionText}
 abbrev pub nodes_row : ProcessRow NodeRow → List ℕ
 nodes_row of =
     process_start of.process ++ codes " " ++ hex_number of.row.key.ptr ++ codes " " ++ hex_number of.row.key.cookie
-    ++ count_fields of.row.strong.sum of.row.strong.low ++ count_fields of.row.weak.sum of.row.weak.low
-    ++ codes " " ++ signed_decimal of.row.strong_due ++ codes " " ++ signed_decimal of.row.weak_due
+    ++ count_fields of.row.counts.strong.sum of.row.counts.strong.low
+    ++ count_fields of.row.counts.weak.sum of.row.counts.weak.low
+    ++ codes " " ++ signed_decimal of.row.counts.strong_due ++ codes " " ++ signed_decimal of.row.counts.weak_due
 
 -- the section: its head, and the rows of each process in turn
 abbrev pub nodes_section : SectionText (ProcessRow NodeRow)

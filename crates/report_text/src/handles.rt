@@ -32,8 +32,8 @@ impl WholeSection for Handles {
     fn line(&self, of: &ProcessRow<HeldRow>) -> Row {
         let row = &of.row;
         let mut line = process_start(of.process);
+        push_counted(&mut line, " ", u64::from(row.handle));
         let taken = &row.taken;
-        push_counted(&mut line, " ", u64::from(taken.handle));
         push_count(&mut line, taken.strong.sum, taken.strong.low);
         push_count(&mut line, taken.weak.sum, taken.weak.low);
         push_counted(&mut line, " ", row.held_strong);

@@ -27,17 +27,18 @@ impl WholeSection for Nodes {
 
     fn line(&self, of: &ProcessRow<NodeRow>) -> Row {
         let row = &of.row;
+        let counts = &row.counts;
         let mut line = process_start(of.process);
         line.push_str(" ");
         push_hex_number(&mut line, row.key.ptr);
         line.push_str(" ");
         push_hex_number(&mut line, row.key.cookie);
-        push_count(&mut line, row.strong.sum, row.strong.low);
-        push_count(&mut line, row.weak.sum, row.weak.low);
+        push_count(&mut line, counts.strong.sum, counts.strong.low);
+        push_count(&mut line, counts.weak.sum, counts.weak.low);
         line.push_str(" ");
-        push_signed(&mut line, row.strong_due);
+        push_signed(&mut line, counts.strong_due);
         line.push_str(" ");
-        push_signed(&mut line, row.weak_due);
+        push_signed(&mut line, counts.weak_due);
         line
     }
 }

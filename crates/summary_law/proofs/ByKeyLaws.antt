@@ -1,6 +1,6 @@
 -- A map of summaries, through an `add` and through a `join`.
-use Rattle.std.proofs.Common.{◌≡◌, ◌≢◌, Bool, true, false, cond, List, [], ◌∷◌, ◌++◌, Option, Some, None, MatchOption, refl, sym, ap, subst, ◌∙◌, ⊎_elim}
-use Rattle.std.proofs.lemmas.Bool.{cases_Bool}
+use Rattle.std.proofs.Common.{◌≡◌, ◌≢◌, Bool, true, false, cond, List, [], ◌∷◌, ◌++◌, Option, Some, None, MatchOption, is_some, refl, sym, ap, subst, ◌∙◌, ⊎_elim}
+use Rattle.std.proofs.lemmas.Bool.{cases_Bool, true≢false}
 use Rattle.std.proofs.lemmas.List.{append-nil}
 use Rattle.std.proofs.lemmas.Map.Keys.{IsDistinct-head}
 use Rattle.std.specs.Cmp.{IsEquivalence}
@@ -15,6 +15,11 @@ not_nil (x ∷ xs) i e = cc
 not_nil_front : {I : Type 0} (front back : List I) → front ≢ [] → front ++ back ≢ []
 not_nil_front [] back h = absurd (h refl)
 not_nil_front (x ∷ xs) back h = λ e. cc
+
+-- what is under a key that is not there
+pub none_own : {S I : Type 0} (Sums : S → List I → Type 0) (part : Option S) (own : List I) → IsOwn Sums part own → is_some part ≡ false → own ≡ []
+none_own Sums None own is none = is
+none_own Sums (Some part) own is none = absurd (true≢false none)
 
 -- a write after a removal at the same key
 pub written_twice : {X : Type 0} (b : Bool) {x y : X} (z w v : X) → x ≡ cond b w y → y ≡ cond b v z → x ≡ cond b w z

@@ -80,31 +80,45 @@ joined_counts first second joined changes more j a b =
       least = joined_least first second joined changes more j a b;
     }
 
+least_reached : (before later : List Change) → (n : ℕ) × (n ≤ length later) × (least_total before later ≡ total (before ++ take n later))
+least_reached before [] = (0, omega arith, ap total (sym (append-nil before)))
+least_reached before (change ∷ later) =
+    let rest = least_reached (before ++ change ∷ []) later in
+    let whole : (before ++ change ∷ []) ++ take rest.0 later ≡ before ++ change ∷ take rest.0 later = append_assoc before (change ∷ []) (take rest.0 later) in
+    elim (int_lt (least_total (before ++ change ∷ []) later) (total before)) as (λ b. (n : ℕ) × (n ≤ length (change ∷ later))
+    × (cond b (least_total (before ++ change ∷ []) later) (total before) ≡ total (before ++ take n (change ∷ later)))) [
+      | true ↦ (suc rest.0, omega (arith, rest.1), rest.2 ∙ ap total whole)
+      | false ↦ (0, omega arith, ap total (sym (append-nil before)))
+    ]
+
+least_below : (before later : List Change) (n : ℕ) → n ≤ length later → least_total before later ≤ℤ total (before ++ take n later)
+least_below before [] zero within = rw (append-nil before) (omega (arith, ints))
+least_below before [] (suc n) within = absurd (omega arith)
+least_below before (change ∷ later) zero within = rw (append-nil before) (omega (arith, ints, clamps))
+least_below before (change ∷ later) (suc n) within =
+    let rest = least_below (before ++ change ∷ []) later n (omega arith) in
+    let below : least_total (before ++ change ∷ []) later ≤ℤ total (before ++ change ∷ take n later)
+    = subst (λ (all : List Change). least_total (before ++ change ∷ []) later ≤ℤ total all) (append_assoc before (change ∷ []) (take n later)) rest in
+    omega (arith, ints, clamps, below)
+
+pub is_counted : (changes : List Change) → IsCount (count_of changes) changes
+is_counted changes = record { sum = refl; reached = least_reached [] changes; least = least_below [] changes }
+
 -- the count of one change that raises
 pub up : Count
 up = record { sum = pos 1; low = pos 0 }
 
-up_least : (n : ℕ) → pos 0 ≤ℤ total (take n (raises ∷ []))
-up_least zero = omega (arith, ints)
-up_least (suc zero) = omega (arith, ints)
-up_least (suc (suc n)) = omega (arith, ints)
-
 up_counts : IsCount up (raises ∷ [])
 unfolding up
-up_counts = record { sum = refl; reached = (0, omega arith, refl); least = λ n h. up_least n }
+up_counts = is_counted (raises ∷ [])
 
 -- the count of one change that lowers
 pub down : Count
 down = record { sum = negsuc 0; low = negsuc 0 }
 
-down_least : (n : ℕ) → negsuc 0 ≤ℤ total (take n (lowers ∷ []))
-down_least zero = omega (arith, ints)
-down_least (suc zero) = omega (arith, ints)
-down_least (suc (suc n)) = omega (arith, ints)
-
 down_counts : IsCount down (lowers ∷ [])
 unfolding down
-down_counts = record { sum = refl; reached = (1, omega arith, refl); least = λ n h. down_least n }
+down_counts = is_counted (lowers ∷ [])
 
 -- the count of a list with one more change, which raises it
 pub raised_counts : (old new : Count) → new.sum ≡ old.sum +ℤ pos 1 → new.low ≡ old.low → CountsOneMore raises old new
@@ -127,14 +141,9 @@ lowered_counts old new sum low below under changes counts =
 level : Count
 level = record { sum = pos 0; low = pos 0 }
 
-level_least : (n : ℕ) → pos 0 ≤ℤ total (take n (keeps ∷ []))
-level_least zero = omega (arith, ints)
-level_least (suc zero) = omega (arith, ints)
-level_least (suc (suc n)) = omega (arith, ints)
-
 level_counts : IsCount level (keeps ∷ [])
 unfolding level
-level_counts = record { sum = refl; reached = (0, omega arith, refl); least = λ n h. level_least n }
+level_counts = is_counted (keeps ∷ [])
 
 -- a list may get one more change that keeps its count
 pub kept_counts : (count : Count) → CountsOneMore keeps count count
@@ -250,30 +259,6 @@ one_count count other changes a b =
     let low : count.low ≡ other.low = omega (arith, ints) in
     let make : ℤ → ℤ → Count = λ sum low. record { sum = sum; low = low } in
     ap₂ make (a.sum ∙ sym b.sum) low
-
-least_reached : (before later : List Change) → (n : ℕ) × (n ≤ length later) × (least_total before later ≡ total (before ++ take n later))
-least_reached before [] = (0, omega arith, ap total (sym (append-nil before)))
-least_reached before (change ∷ later) =
-    let rest = least_reached (before ++ change ∷ []) later in
-    let whole : (before ++ change ∷ []) ++ take rest.0 later ≡ before ++ change ∷ take rest.0 later = append_assoc before (change ∷ []) (take rest.0 later) in
-    elim (int_lt (least_total (before ++ change ∷ []) later) (total before)) as (λ b. (n : ℕ) × (n ≤ length (change ∷ later))
-    × (cond b (least_total (before ++ change ∷ []) later) (total before) ≡ total (before ++ take n (change ∷ later)))) [
-      | true ↦ (suc rest.0, omega (arith, rest.1), rest.2 ∙ ap total whole)
-      | false ↦ (0, omega arith, ap total (sym (append-nil before)))
-    ]
-
-least_below : (before later : List Change) (n : ℕ) → n ≤ length later → least_total before later ≤ℤ total (before ++ take n later)
-least_below before [] zero within = rw (append-nil before) (omega (arith, ints))
-least_below before [] (suc n) within = absurd (omega arith)
-least_below before (change ∷ later) zero within = rw (append-nil before) (omega (arith, ints, clamps))
-least_below before (change ∷ later) (suc n) within =
-    let rest = least_below (before ++ change ∷ []) later n (omega arith) in
-    let below : least_total (before ++ change ∷ []) later ≤ℤ total (before ++ change ∷ take n later)
-    = subst (λ (all : List Change). least_total (before ++ change ∷ []) later ≤ℤ total all) (append_assoc before (change ∷ []) (take n later)) rest in
-    omega (arith, ints, clamps, below)
-
-pub is_counted : (changes : List Change) → IsCount (count_of changes) changes
-is_counted changes = record { sum = refl; reached = least_reached [] changes; least = least_below [] changes }
 
 pub counted : (count : Count) (changes : List Change) → IsCount count changes → count ≡ count_of changes
 counted count changes is = one_count count (count_of changes) changes is (is_counted changes)

@@ -6,31 +6,20 @@ use Rattle.std.proofs.lemmas.List.Elements.{filter-append, filter_agree}
 use Rattle.std.proofs.lemmas.List.Folds.{list_any-append}
 use Rattle.std.proofs.lemmas.Map.Made.{is_some-lookup}
 use Rattle.std.proofs.lemmas.Map.Views.{any-filter_same}
+use Rattle.std.proofs.Math.Bool.{or-false}
 use Rattle.std.specs.Cmp.{IsEquivalence}
 use Rattle.std.specs.List.{list_any, AllByRecursion}
 use Rattle.std.specs.Map.{lookup, keys_of}
 use Rattle.indexmap.specs.IndexMap.{IndexMap, insert_entry}
 use Rattle.indexmap.proofs.CallerLemmas.{insert_entry-new}
 use Rattle.summary_law.specs.InOrder.{firsts}
+use Rattle.summary_law.proofs.FilterLaws.{filter_twice}
 
 not_or : (a b : Bool) → not (a || b) ≡ (not b && not a)
 not_or true true = refl
 not_or true false = refl
 not_or false true = refl
 not_or false false = refl
-
-or_false : (a : Bool) → (a || false) ≡ a
-or_false true = refl
-or_false false = refl
-
--- what passes one test and then another passes both at once
-pub filter_twice : {X : Type 0} (p q r : X → Bool) → ((x : X) → r x ≡ (q x && p x)) → (xs : List X) → filter p (filter q xs) ≡ filter r xs
-filter_twice p q r both [] = refl
-filter_twice p q r both (x ∷ xs) =
-    ⊎_elim
-    (λ (e : q x ≡ true). rw (both x, e) (ap (λ t. cond (p x) (x ∷ t) t) (filter_twice p q r both xs)))
-    (λ (e : q x ≡ false). rw (both x, e) (filter_twice p q r both xs))
-    (cases_Bool (q x))
 
 module _ {K : Type 0} (eq : K → K → Bool) where
   -- those keys that are not among the keys seen
@@ -117,7 +106,7 @@ module _ {K : Type 0} (eq : K → K → Bool) where
         let same : list_any (eq other) (seen ++ key ∷ []) ≡ list_any (eq other) seen
         = list_any-append (eq other) seen (key ∷ [])
         ∙ ap (λ b. list_any (eq other) seen || (b || false)) (laws.symm other key ∙ apart.0)
-        ∙ or_false (list_any (eq other) seen) in
+        ∙ or-false (list_any (eq other) seen) in
         let rest_same = unseen_apart seen rest key apart.1 in
         (λ j. cond (not (same j)) (other ∷ rest_same j) (rest_same j))
 

@@ -1,5 +1,5 @@
 -- What is read by key: gathered key by key and then sorted, it is what is read of the whole list.
-use Rattle.std.proofs.Common.{◌≡◌, ◌≢◌, ℕ, ◌⊎◌, inl, inr, Bool, true, false, cond, ◌||◌, List, [], ◌∷◌, ◌++◌, map, Option, Some, None, is_some, refl, sym, ap, ap₂, subst, ◌∙◌, ⊎_elim}
+use Rattle.std.proofs.Common.{◌≡◌, ◌≢◌, ℕ, ◌⊎◌, inl, inr, Bool, true, false, cond, ◌||◌, List, [], ◌∷◌, ◌++◌, map, Option, Some, None, refl, sym, ap, ap₂, subst, ◌∙◌, ⊎_elim}
 use Rattle.std.specs.BTreeMap.{BTreeMap, IsOrdered, get}
 use Rattle.std.specs.Cmp.{IsEquivalence, IsTotalOrder}
 use Rattle.std.specs.List.{AllByRecursion, IsDistinct, cons_option, flat_map, list_any}
@@ -9,36 +9,28 @@ use Rattle.std.specs.Ordering.{eq_by_cmp}
 use Rattle.std.specs.Prelude.{All}
 use Rattle.std.specs.declared.cmp.Ordering.{Ordering}
 use Rattle.std.proofs.lemmas.Bool.{cases_Bool, true≢false}
-use Rattle.std.proofs.lemmas.List.{map-append}
+use Rattle.std.proofs.lemmas.List.{append-nil, map-append}
 use Rattle.std.proofs.lemmas.List.Concat.{flat_map-cons}
-use Rattle.std.proofs.lemmas.List.Elements.{All-cons, All-head, All-nil, All-tail, All-weaker}
+use Rattle.std.proofs.lemmas.List.Elements.{All-cons, All-head, All-nil, All-tail, All-weaker, filter-append, filter_agree}
 use Rattle.std.proofs.lemmas.List.Sorted.{IsPermutation-append, IsPermutation-append_right, IsPermutation-cons, IsPermutation-map, IsPermutation-middle, IsPermutation-refl, IsPermutation-sym, IsPermutation-trans}
 use Rattle.std.proofs.lemmas.Map.Keys.{IsDistinct-head, IsDistinct-tail}
 use Rattle.std.proofs.lemmas.Map.Made.{is_some-lookup}
 use Rattle.std.proofs.lemmas.Map.Views.{All-found}
 use Rattle.summary_law.specs.ByKey.{IsOwn, SumsByKey, items_of}
 use Rattle.summary_law.specs.Readings.{HasKeyIn, read_each, read_all, with_key, by_key}
+use Rattle.summary_law.proofs.ByKeyLaws.{none_own}
 use Rattle.summary_law.proofs.Members.{In, Rises, in_place, map-in, rises-map}
 
 -- ---- elements with a key
 
 module _ {K X : Type 0} {eq : K → K → Bool} (laws : IsEquivalence eq) (key : X → K) where
   pub with_key-more : (k : K) (before : List X) (x : X) → with_key eq key k (before ++ x ∷ []) ≡ with_key eq key k before ++ cond (eq k (key x)) (x ∷ []) []
-  with_key-more k [] x = elim (eq k (key x)) as (λ b. cond b (x ∷ []) [] ≡ cond b (x ∷ []) []) [ true ↦ refl | false ↦ refl ]
-  with_key-more k (y ∷ before) x =
-      let rest = with_key-more k before x in
-      elim (eq k (key y)) as (λ b. cond b (y ∷ with_key eq key k (before ++ x ∷ [])) (with_key eq key k (before ++ x ∷ []))
-      ≡ cond b (y ∷ with_key eq key k before) (with_key eq key k before) ++ cond (eq k (key x)) (x ∷ []) []) [
-        | true ↦ ap (λ (t : List X). y ∷ t) rest
-        | false ↦ rest
-      ]
+  with_key-more k before x = filter-append (λ y. eq k (key y)) before (x ∷ [])
 
   -- equal keys have the same elements
   pub with_key-same : (k other : K) → eq k other ≡ true → (xs : List X) → with_key eq key k xs ≡ with_key eq key other xs
-  with_key-same k other same [] = refl
-  with_key-same k other same (x ∷ xs) =
-      ap (λ (b : Bool). cond b (x ∷ with_key eq key k xs) (with_key eq key k xs)) (laws.congr k other (key x) same)
-      ∙ ap (λ (t : List X). cond (eq other (key x)) (x ∷ t) t) (with_key-same k other same xs)
+  with_key-same k other same xs =
+      filter_agree (λ x. eq k (key x)) (λ x. eq other (key x)) (λ x. laws.congr k other (key x) same) xs
 
 -- ---- one more element of one key
 
@@ -110,12 +102,8 @@ module _ {K X Y : Type 0} {eq : K → K → Bool} (laws : IsEquivalence eq) (key
             ap (λ (b : List X). cons_option (read b x after) (read_each read (with_key eq key k before ++ x ∷ []) after)) (with_key-same laws key k (key x) is before)
             ∙ ap (λ (l : List X). cons_option (read (with_key eq key (key x) before) x l) (read_each read (with_key eq key k before ++ x ∷ []) after)) (with_key-same laws key k (key x) is later)
             ∙ ap (λ (b : List X). cons_option (by_key eq key read before x later) (read_each read b after)) (sym next)
-        | false ↦ λ is next. ap (λ (b : List X). read_each read b after) (sym (next ∙ nil (with_key eq key k before)))
+        | false ↦ λ is next. ap (λ (b : List X). read_each read b after) (sym (next ∙ append-nil (with_key eq key k before)))
       ] refl next
-    where
-      nil : (xs : List X) → xs ++ [] ≡ xs
-      nil [] = refl
-      nil (x ∷ xs) = ap (λ (t : List X). x ∷ t) (nil xs)
 
   -- an element has one of the keys, or nothing is ever read of it
   abbrev pub HasKeyOrNothing : List K → X → Type 0
@@ -304,10 +292,6 @@ module _ {K S I : Type 0} (cmp : K → K → Ordering) (laws : IsTotalOrder cmp)
   pub map_each : All (λ (e : K × S). Sums e.1 (items_of (eq_by_cmp cmp) e.0 pairs)) m.entries
   map_each k d within = (map_parts k d within).1
 
-  no_entry : (part : Option S) (own : List I) → IsOwn Sums part own → is_some part ≡ false → own ≡ []
-  no_entry None own is none = is
-  no_entry (Some part) own is none = absurd (true≢false none)
-
   pub map_none : (key : K) → list_any (eq_by_cmp cmp key) (keys_of m.entries) ≡ false → items_of (eq_by_cmp cmp) key pairs ≡ []
   map_none key missing =
-      no_entry (get cmp m key) (items_of (eq_by_cmp cmp) key pairs) (sums key) (is_some-lookup (eq_by_cmp cmp key) m.entries ∙ missing)
+      none_own Sums (get cmp m key) (items_of (eq_by_cmp cmp) key pairs) (sums key) (is_some-lookup (eq_by_cmp cmp key) m.entries ∙ missing)

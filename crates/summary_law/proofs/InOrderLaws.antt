@@ -1,29 +1,27 @@
 -- What a map of summaries in the order of first items says, and which keys it has.
-use Rattle.std.proofs.Common.{◌≡◌, ◌≢◌, Bool, true, false, not, List, [], ◌∷◌, ◌++◌, filter, Option, Some, None, is_some, All, slice_index_or, sym, subst, ◌∙◌, ⊎_elim}
+use Rattle.std.proofs.Common.{◌≡◌, ◌≢◌, Bool, true, false, not, List, [], ◌∷◌, ◌++◌, filter, Option, Some, None, is_some, All, slice_index_or, sym, ap, subst, ◌∙◌, ⊎_elim}
 use Rattle.std.proofs.lemmas.Bool.{cases_Bool, true≢false}
 use Rattle.std.proofs.lemmas.List.{append-nil}
-use Rattle.std.proofs.lemmas.List.Elements.{All-weaker, Contains-get_or}
+use Rattle.std.proofs.lemmas.List.Elements.{All-filter, All-from_recursion, All-weaker, Contains-get_or, filter_passes, recursion_from_All}
 use Rattle.std.proofs.lemmas.Map.Made.{is_some-lookup, All-is_member}
 use Rattle.std.proofs.lemmas.Map.Steps.{list_any_congr}
 use Rattle.std.proofs.lemmas.Map.Views.{lookup-from_Contains}
+use Rattle.std.proofs.Math.Bool.{not-not}
 use Rattle.std.specs.Cmp.{IsEquivalence}
 use Rattle.std.specs.List.{list_any, AllByRecursion, IsDistinct}
 use Rattle.std.specs.Map.{lookup, keys_of}
 use Rattle.std.specs.Prelude.{⊤}
 use Rattle.summary_law.specs.ByKey.{items_of, items_of-append, IsOwn}
 use Rattle.summary_law.specs.InOrder.{firsts, SumsInOrder}
-use Rattle.summary_law.proofs.ByKeyLaws.{not_nil}
+use Rattle.summary_law.proofs.ByKeyLaws.{not_nil, none_own}
 use Rattle.summary_law.proofs.FirstLaws.{list_any-firsts, firsts_stay}
 
 -- the keys that stay are still different
 still_apart : {K : Type 0} (eq : K → K → Bool) (p : K → Bool) (key : K) (keys : List K) → AllByRecursion (λ other. eq key other ≡ false) keys
     → AllByRecursion (λ other. eq key other ≡ false) (filter p keys)
-still_apart eq p key [] apart = tt
-still_apart eq p key (other ∷ keys) apart =
-    ⊎_elim
-    (λ (e : p other ≡ true). rw e (apart.0, still_apart eq p key keys apart.1))
-    (λ (e : p other ≡ false). rw e (still_apart eq p key keys apart.1))
-    (cases_Bool (p other))
+still_apart {K} eq p key keys apart =
+    let Apart : K → Type 0 = λ other. eq key other ≡ false in
+    recursion_from_All Apart (filter p keys) (All-filter p Apart keys (All-from_recursion Apart keys apart))
 
 IsDistinct-filter : {K : Type 0} (eq : K → K → Bool) (p : K → Bool) (keys : List K) → IsDistinct eq keys → IsDistinct eq (filter p keys)
 unfolding IsDistinct
@@ -42,12 +40,12 @@ module _ {K : Type 0} {eq : K → K → Bool} (laws : IsEquivalence eq) where
       (λ key there. list_any-firsts eq laws key keys ∙ there) keys (All-is_member laws keys)
 
   none_equal : (key : K) (keys : List K) → AllByRecursion (λ other. eq key other ≡ false) (filter (λ other. not (eq other key)) keys)
-  none_equal key [] = tt
-  none_equal key (other ∷ keys) =
-      ⊎_elim
-      (λ (e : eq other key ≡ true). rw e (none_equal key keys))
-      (λ (e : eq other key ≡ false). rw e (laws.symm key other ∙ e, none_equal key keys))
-      (cases_Bool (eq other key))
+  none_equal key keys =
+      let others = filter (λ other. not (eq other key)) keys in
+      let Apart : K → Type 0 = λ other. eq key other ≡ false in
+      recursion_from_All Apart others
+      (All-weaker (λ other. not (eq other key) ≡ true) Apart
+      (λ other passes. laws.symm key other ∙ sym (not-not (eq other key)) ∙ ap not passes) others (filter_passes (λ other. not (eq other key)) keys))
 
   -- no two of the firsts are equal
   pub firsts_distinct : (keys : List K) → IsDistinct eq (firsts eq keys)
@@ -68,13 +66,9 @@ module _ {K : Type 0} {eq : K → K → Bool} (laws : IsEquivalence eq) where
         let found : lookup (eq e.0) entries ≡ Some e.1 = lookup-from_Contains laws e.0 e.1 entries entries_distinct (Contains-get_or entries k d within) in
         subst (λ (o : Option S). IsOwn Sums o (items_of eq e.0 items)) found (sums.parts e.0)
 
-    no_part : (part : Option S) (own : List I) → IsOwn Sums part own → is_some part ≡ false → own ≡ []
-    no_part None own is none = is
-    no_part (Some part) own is none = absurd (true≢false none)
-
     -- a key that is not in any entry has no items
     pub none_else : (key : K) → list_any (eq key) (keys_of entries) ≡ false → items_of eq key items ≡ []
-    none_else key missing = no_part (lookup (eq key) entries) (items_of eq key items) (sums.parts key) (is_some-lookup (eq key) entries ∙ missing)
+    none_else key missing = none_own Sums (lookup (eq key) entries) (items_of eq key items) (sums.parts key) (is_some-lookup (eq key) entries ∙ missing)
 
   -- a map that keeps only the keys stays right if one more item follows whose key is there
   pub same_keys : {S I : Type 0} (entries : List (K × S)) (items : List (K × I)) (key : K) (item : I)

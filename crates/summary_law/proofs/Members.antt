@@ -1,10 +1,13 @@
 -- What a list has, and lists in rising order.
-use Rattle.std.proofs.Common.{◌≡◌, ◌≢◌, ℕ, zero, suc, ◌<◌, ◌≤◌, ◌⊎◌, Some, eqb, refl, sym, ap, subst, ◌∙◌, ⊎_elim, inl, inr, arith}
+use Rattle.std.proofs.Common.{◌≡◌, ◌≢◌, ℕ, zero, suc, ◌<◌, ◌≤◌, ◌⊎◌, Some, eqb, refl, sym, ap, ap₂, subst, ◌∙◌, ⊎_elim, inl, inr, arith}
 use Rattle.std.proofs.Common.{List, [], ◌∷◌, ◌++◌, map, length, get_or}
 use Rattle.std.specs.Prelude.{Contains, AllPairs, slice_get}
 use Rattle.std.proofs.lemmas.Bool.{cases_lt}
 use Rattle.std.proofs.lemmas.Bool.Decides.{Decides-eqb}
 use Rattle.std.proofs.lemmas.Cmp.{nat_eq_equiv}
+use Rattle.std.proofs.lemmas.List.{get_or_default}
+use Rattle.std.proofs.lemmas.List.Elements.{All-contains}
+use Rattle.std.proofs.lemmas.Option.{get_or_from_slice_get, slice_get-get_or, slice_get_within}
 use Rattle.std.proofs.lemmas.List.Sorted.{Contains-permutation, IsPermutation-map, IsPermutation-sym}
 use Rattle.std.proofs.lemmas.Map.Keys.{IsDistinct-IsPermutation}
 use Rattle.std.proofs.lemmas.Map.Made.{AllPairs-from_IsDistinct, IsDistinct-from_AllPairs}
@@ -44,16 +47,12 @@ map-in f (y ∷ xs) x (inl e) = inl (ap f e)
 map-in f (y ∷ xs) x (inr there) = inr (map-in f xs x there)
 
 pub in_get : {X : Type 0} (xs : List X) (x : X) → In x xs → (k : ℕ) × (slice_get xs k ≡ Some x)
-in_get [] x here = absurd here
-in_get (y ∷ xs) x (inl e) = (0, ap Some (sym e))
-in_get (y ∷ xs) x (inr there) =
-    let found = in_get xs x there in
-    (suc found.0, found.1)
+in_get xs x here =
+    let has = contained xs x here in
+    (has.0, slice_get-get_or xs has.0 x has.1 ∙ ap Some has.2)
 
 pub get_in : {X : Type 0} (xs : List X) (k : ℕ) (x : X) → slice_get xs k ≡ Some x → In x xs
-get_in [] k x e = absurd cc
-get_in (y ∷ xs) zero x e = inl (let same : x ≡ y = cc in same)
-get_in (y ∷ xs) (suc k) x e = inr (get_in xs k x e)
+get_in xs k x e = in_at xs k x (slice_get_within xs k x e) (get_or_from_slice_get xs k x x e)
 
 pub in_middle : {X : Type 0} (front : List X) (x : X) (back : List X) → In x (front ++ x ∷ back)
 in_middle [] x back = inl refl
@@ -61,29 +60,25 @@ in_middle (y ∷ front) x back = inr (in_middle front x back)
 
 -- ---- rising order
 
+-- each thing is before all later ones
+abbrev pub InOrder : {X : Type 0} → (X → X → Type 0) → List X → Type 0
+InOrder Before [] = Unit {0}
+InOrder {X} Before (x ∷ later) = ((y : X) → In y later → Before x y) × InOrder Before later
+
 abbrev pub Rises : {X : Type 0} → (X → ℕ) → List X → Type 0
-Rises rank [] = Unit {0}
-Rises {X} rank (x ∷ later) = ((y : X) → In y later → rank x < rank y) × Rises rank later
+Rises rank xs = InOrder (λ x y. rank x < rank y) xs
 
 pub rises_from_pairs : {X : Type 0} (rank : X → ℕ) (xs : List X) → AllPairs (λ x y. rank x < rank y) xs → Rises rank xs
 rises_from_pairs rank [] pairs = tt
-rises_from_pairs {X} rank (x ∷ xs) pairs = (
-  λ y there.
-      let has = contained xs y there in
-      let within = has.1 in
-      subst (λ (z : X). rank x < rank z) has.2 (pairs 0 (suc has.0) y (omega arith) (omega arith)),
+rises_from_pairs rank (x ∷ xs) pairs = (
+  λ y there. All-contains (λ z. rank x < rank z) xs y (λ j d within. pairs 0 (suc j) d (omega arith) (omega arith)) (contained xs y there),
   rises_from_pairs rank xs (λ i j d below within. pairs (suc i) (suc j) d (omega arith) (omega arith)),
 )
-
-get_or_in : {X : Type 0} (xs : List X) (k : ℕ) (d : X) → k < length xs → In (get_or xs k d) xs
-get_or_in [] k d within = absurd (omega arith)
-get_or_in (x ∷ xs) zero d within = inl refl
-get_or_in (x ∷ xs) (suc k) d within = inr (get_or_in xs k d (omega arith))
 
 pub pairs_from_rises : {X : Type 0} (rank : X → ℕ) (xs : List X) → Rises rank xs → AllPairs (λ x y. rank x < rank y) xs
 pairs_from_rises rank [] rises i j d below within = absurd (omega arith)
 pairs_from_rises rank (x ∷ xs) rises i zero d below within = absurd (omega arith)
-pairs_from_rises rank (x ∷ xs) rises zero (suc j) d below within = rises.0 (get_or xs j d) (get_or_in xs j d (omega arith))
+pairs_from_rises rank (x ∷ xs) rises zero (suc j) d below within = rises.0 (get_or xs j d) (in_at xs j (get_or xs j d) (omega arith) (get_or_default xs j (get_or xs j d) d (omega arith)))
 pairs_from_rises rank (x ∷ xs) rises (suc i) (suc j) d below within = pairs_from_rises rank xs rises.1 i j d (omega arith) (omega arith)
 
 pub rises-map : {X Y : Type 0} (f : X → Y) (rank : Y → ℕ) (xs : List X) → Rises (λ x. rank (f x)) xs → Rises rank (map f xs)
@@ -99,41 +94,35 @@ pub map-rises : {X Y : Type 0} (f : X → Y) (rank : Y → ℕ) (xs : List X) �
 map-rises f rank [] rises = tt
 map-rises f rank (x ∷ xs) rises = (λ y there. rises.0 (f y) (map-in f xs y there), map-rises f rank xs rises.1)
 
--- ---- two lists in rising order that have the same
+-- ---- two lists in one order that have the same
 
-not_before : {X : Type 0} (rank : X → ℕ) (x y : X) (ys : List X) → Rises rank (y ∷ ys) → In x (y ∷ ys) → rank x < rank y → ⊥
-not_before {X} rank x y ys rises (inl e) below = let same : rank x ≡ rank y = ap rank e in omega arith
-not_before rank x y ys rises (inr there) below = let above = rises.0 x there in omega arith
+module _ {X : Type 0} (Before : X → X → Type 0) (one_way : (x y : X) → Before x y → Before y x → ⊥) where
+  same_first : (x y : X) (xs ys : List X) → InOrder Before (x ∷ xs) → InOrder Before (y ∷ ys) → In x (y ∷ ys) → In y (x ∷ xs) → x ≡ y
+  same_first x y xs ys first second (inl e) other = e
+  same_first x y xs ys first second (inr there) (inl e) = sym e
+  same_first x y xs ys first second (inr there) (inr other) = absurd (one_way x y (first.0 y other) (second.0 x there))
 
-same_first : {X : Type 0} (rank : X → ℕ) (x y : X) (xs ys : List X) → Rises rank (x ∷ xs) → Rises rank (y ∷ ys) → In x (y ∷ ys) → In y (x ∷ xs) → x ≡ y
-same_first rank x y xs ys first second (inl e) other = e
-same_first rank x y xs ys first second (inr there) other =
-    let above = second.0 x there in
-    absurd (not_before rank y x xs first other above)
+  in_tail : (x y z : X) (xs ys : List X) → InOrder Before (x ∷ xs) → x ≡ y → In z xs → In z (y ∷ ys) → In z ys
+  in_tail x y z xs ys order e there (inl same) =
+      let itself : Before x x = subst (Before x) (same ∙ sym e) (order.0 z there) in
+      absurd (one_way x x itself itself)
+  in_tail x y z xs ys order e there (inr other) = other
 
-not_again : {X : Type 0} (rank : X → ℕ) (x z : X) (xs : List X) → Rises rank (x ∷ xs) → In z xs → z ≡ x → ⊥
-not_again rank x z xs rises there e =
-    let above = rises.0 z there in
-    let same : rank z ≡ rank x = ap rank e in
-    omega arith
-
-in_tail : {X : Type 0} (rank : X → ℕ) (x y z : X) (xs ys : List X) → Rises rank (x ∷ xs) → x ≡ y → In z xs → In z (y ∷ ys) → In z ys
-in_tail rank x y z xs ys rises e there (inl same) = absurd (not_again rank x z xs rises there (same ∙ sym e))
-in_tail rank x y z xs ys rises e there (inr other) = other
+  pub one_order : (xs ys : List X) → InOrder Before xs → InOrder Before ys
+      → ((x : X) → In x xs → In x ys) → ((x : X) → In x ys → In x xs) → xs ≡ ys
+  one_order [] [] first second to from = refl
+  one_order [] (y ∷ ys) first second to from = absurd (from y (inl refl))
+  one_order (x ∷ xs) [] first second to from = absurd (to x (inl refl))
+  one_order (x ∷ xs) (y ∷ ys) first second to from =
+      let e : x ≡ y = same_first x y xs ys first second (to x (inl refl)) (from y (inl refl)) in
+      ap₂ (λ (z : X) (zs : List X). z ∷ zs) e
+      (one_order xs ys first.1 second.1 (λ z there. in_tail x y z xs ys first e there (to z (inr there)))
+      (λ z there. in_tail y x z ys xs second (sym e) there (from z (inr there))))
 
 pub same_lists : {X : Type 0} (rank : X → ℕ) (xs ys : List X) → Rises rank xs → Rises rank ys
     → ((x : X) → In x xs → In x ys) → ((x : X) → In x ys → In x xs) → xs ≡ ys
-same_lists rank [] [] first second to from = refl
-same_lists rank [] (y ∷ ys) first second to from = absurd (from y (inl refl))
-same_lists rank (x ∷ xs) [] first second to from = absurd (to x (inl refl))
-same_lists {X} rank (x ∷ xs) (y ∷ ys) first second to from =
-    let e : x ≡ y = same_first rank x y xs ys first second (to x (inl refl)) (from y (inl refl)) in
-    let rest : xs ≡ ys
-    = same_lists rank xs ys first.1 second.1
-    (λ z there. in_tail rank x y z xs ys first e there (to z (inr there)))
-    (λ z there. in_tail rank y x z ys xs second (sym e) there (from z (inr there)))
-    in
-    ap (λ (t : X). t ∷ xs) e ∙ ap (λ t. y ∷ t) rest
+same_lists rank xs ys first second to from =
+    one_order (λ x y. rank x < rank y) (λ x y less more. omega arith) xs ys first second to from
 
 -- ---- from the words of the definitions to these, and back
 

@@ -1,6 +1,6 @@
 -- Readings that see what comes before an element and after it: of what is picked from things, with something made of
 -- what is read, in rising places, and two readings at once.
-use Rattle.std.proofs.Common.{◌≡◌, ℕ, ◌<◌, ◌⊎◌, inl, inr, Bool, true, false, cond, List, [], ◌∷◌, ◌++◌, map, Option, Some, None, refl, sym, ap, ap₂, subst, ◌∙◌, append_assoc}
+use Rattle.std.proofs.Common.{◌≡◌, ℕ, ◌<◌, ◌⊎◌, inl, inr, Bool, List, [], ◌∷◌, ◌++◌, map, Option, Some, None, refl, sym, ap, ap₂, subst, ◌∙◌, append_assoc}
 use Rattle.std.specs.Prelude.{option_and_then}
 use Rattle.std.specs.List.{cons_option, filter_map}
 use Rattle.std.specs.List.Sorted.{IsPermutation}
@@ -8,6 +8,7 @@ use Rattle.std.specs.Option.{option_map, option_or}
 use Rattle.std.proofs.lemmas.List.{append-nil}
 use Rattle.std.proofs.lemmas.List.Elements.{filter_map-append}
 use Rattle.std.proofs.lemmas.List.Sorted.{IsPermutation-cons, IsPermutation-middle, IsPermutation-refl, IsPermutation-trans}
+use Rattle.std.proofs.lemmas.Option.{cond_some}
 use Rattle.summary_law.specs.Fits.{PlacesRise}
 use Rattle.summary_law.specs.Readings.{read_each, read_all, chosen}
 use Rattle.summary_law.proofs.Members.{In, Rises, in_middle, rises_from_pairs}
@@ -103,10 +104,7 @@ module _ {X Y : Type 0} (read : List X → X → List X → Option Y) where
 
 -- what is chosen is the element itself
 pub chosen-is : {X : Type 0} (test : List X → X → List X → Bool) (b : List X) (x : X) (l : List X) (y : X) → chosen test b x l ≡ Some y → y ≡ x
-chosen-is {X} test b x l y = elim (test b x l) as (λ t. cond t (Some x) None ≡ Some y → y ≡ x) [
-  | true ↦ λ is. cc
-  | false ↦ λ is. let none : ⊥ = cc in absurd none
-]
+chosen-is test b x l y is = sym (cond_some (test b x l) x y is).1
 
 -- a reading that does not see what comes before reads the same whatever that is
 pub read-blind : {X Y : Type 0} (read : List X → X → List X → Option Y) → ((b c : List X) (x : X) (l : List X) → read b x l ≡ read c x l)

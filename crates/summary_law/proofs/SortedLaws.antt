@@ -1,5 +1,5 @@
 -- A list as its different elements in rising order, and rows that are made of these.
-use Rattle.std.proofs.Common.{◌≡◌, ◌≢◌, ◌⊎◌, inl, inr, ◌||◌, Bool, true, false, cond, Some, None, List, [], ◌∷◌, map, refl, sym, ap, ap₂, subst, ◌∙◌}
+use Rattle.std.proofs.Common.{◌≡◌, ◌≢◌, ◌⊎◌, inl, inr, Bool, true, false, cond, Some, None, List, [], ◌∷◌, map, refl, sym, ap, ap₂, subst, ◌∙◌}
 use Rattle.std.specs.BTreeMap.{BTreeMap, IsOrdered}
 use Rattle.std.specs.Cmp.{IsTotalOrder, both_ways}
 use Rattle.std.specs.List.{AllByRecursion, cons_option, list_any}
@@ -10,19 +10,18 @@ use Rattle.std.specs.Ordering.{eq_by_cmp, match_ordering, ordering_reverse}
 use Rattle.std.specs.declared.cmp.Ordering.{Ordering}
 use Rattle.std.specs.declared.cmp.Ordering.TheVariants.{Less, Equal, Greater}
 use Rattle.std.proofs.lemmas.Cmp.{eq_by_cmp_equiv}
-use Rattle.std.proofs.lemmas.List.Elements.{All-contains, All-head, All-tail}
+use Rattle.std.proofs.lemmas.List.Elements.{All-contains, All-from_recursion, All-head, All-tail, recursion_from_All}
 use Rattle.std.proofs.lemmas.Map.Keys.{sorted_head, sorted_tail}
-use Rattle.std.proofs.lemmas.Map.Views.{tells_apart}
+use Rattle.std.proofs.lemmas.Map.Views.{Contains-from_any, tells_apart}
 use Rattle.summary_law.specs.ByKey.{SumsByKey, items_of}
 use Rattle.summary_law.specs.Sorted.{put, sorted}
-use Rattle.summary_law.proofs.GatherLaws.{in_any, key_among, map_each, map_none, map_parts}
-use Rattle.summary_law.proofs.Members.{In, contained, in-map}
+use Rattle.summary_law.proofs.GatherLaws.{all_in, in_any, key_among, map_each, map_none, map_parts}
+use Rattle.summary_law.proofs.Members.{In, InOrder, contained, in-map, in_list, one_order}
 
 module _ {X : Type 0} (cmp : X → X → Ordering) where
   -- each is below every later one
   abbrev pub Ascends : List X → Type 0
-  Ascends [] = Unit {0}
-  Ascends (x ∷ later) = ((y : X) → In y later → cmp x y ≡ Less) × Ascends later
+  Ascends xs = InOrder (λ x y. cmp x y ≡ Less) xs
 
   in_put : (x z : X) (ys : List X) → In z (put cmp x ys) → (z ≡ x) ⊎ In z ys
   in_put x z [] here = here
@@ -65,14 +64,11 @@ module _ {X : Type 0} (cmp : X → X → Ordering) where
       (put_here y (sorted cmp ys) (λ z there. exact y z (inl refl) (inr (in_sorted ys z there))))
   sorted_in (y ∷ ys) exact x (inr there) = put_in y x (sorted cmp ys) (sorted_in ys (λ a b at_a at_b. exact a b (inr at_a) (inr at_b)) x there)
 
-below_all : {X : Type 0} (cmp : X → X → Ordering) (x : X) (ys : List X) → ((y : X) → In y ys → cmp x y ≡ Less) → AllByRecursion (λ y. cmp x y ≡ Less) ys
-below_all cmp x [] all = tt
-below_all cmp x (y ∷ ys) all = (all y (inl refl), below_all cmp x ys (λ z there. all z (inr there)))
-
 strictly : {X : Type 0} (cmp : X → X → Ordering) (ys : List X) → Ascends cmp ys → IsStrictlySortedBy cmp ys
 unfolding IsStrictlySortedBy
 strictly cmp [] up = tt
-strictly cmp (y ∷ ys) up = (below_all cmp y ys up.0, strictly cmp ys up.1)
+strictly cmp (y ∷ ys) up =
+    (recursion_from_All (λ z. cmp y z ≡ Less) ys (all_in (λ z. cmp y z ≡ Less) ys up.0), strictly cmp ys up.1)
 
 module _ {X : Type 0} (cmp : X → X → Ordering) (laws : IsTotalOrder cmp) where
   put_ascends : (x : X) (ys : List X) → Ascends cmp ys → Ascends cmp (put cmp x ys)
@@ -103,14 +99,11 @@ module _ {X : Type 0} (cmp : X → X → Ordering) (laws : IsTotalOrder cmp) whe
 -- ---- two rising lists with the same elements
 
 module _ {X : Type 0} (cmp : X → X → Ordering) where
-  above_all : (x : X) (ys : List X) → AllByRecursion (λ y. cmp x y ≡ Less) ys → (y : X) → In y ys → cmp x y ≡ Less
-  above_all x [] all y here = absurd here
-  above_all x (z ∷ ys) all y (inl is) = ap (cmp x) is ∙ all.0
-  above_all x (z ∷ ys) all y (inr there) = above_all x ys all.1 y there
-
   pub ascends : (xs : List X) → IsStrictlySortedBy cmp xs → Ascends cmp xs
   ascends [] up = tt
-  ascends (x ∷ xs) up = (above_all x xs (sorted_head cmp x xs up), ascends xs (sorted_tail cmp x xs up))
+  ascends (x ∷ xs) up =
+      let above = All-from_recursion (λ y. cmp x y ≡ Less) xs (sorted_head cmp x xs up) in
+      (λ y there. All-contains (λ y. cmp x y ≡ Less) xs y above (contained xs y there), ascends xs (sorted_tail cmp x xs up))
 
 module _ {X : Type 0} (cmp : X → X → Ordering) (laws : IsTotalOrder cmp) where
   not_both : (x y : X) → cmp x y ≡ Less → cmp y x ≡ Less → ⊥
@@ -118,27 +111,8 @@ module _ {X : Type 0} (cmp : X → X → Ordering) (laws : IsTotalOrder cmp) whe
       let turned : cmp x y ≡ ordering_reverse Less = laws.antisymm x y ∙ ap ordering_reverse above in
       cc
 
-  not_itself : (x y : X) → x ≡ y → cmp x y ≡ Less → ⊥
-  not_itself x y same below = not_both x y below (ap (λ (z : X). cmp z x) (sym same) ∙ ap (cmp x) same ∙ below)
-
-  first_is : (x y : X) (xs ys : List X) → Ascends cmp (x ∷ xs) → Ascends cmp (y ∷ ys) → In x (y ∷ ys) → In y (x ∷ xs) → x ≡ y
-  first_is x y xs ys up also (inl is) other = is
-  first_is x y xs ys up also (inr there) (inl is) = sym is
-  first_is x y xs ys up also (inr there) (inr after) = absurd (not_both x y (up.0 y after) (also.0 x there))
-
-  in_rest : (x y z : X) (xs ys : List X) → Ascends cmp (x ∷ xs) → x ≡ y → In z xs → In z (y ∷ ys) → In z ys
-  in_rest x y z xs ys up same there (inl is) = absurd (not_itself x z (same ∙ sym is) (up.0 z there))
-  in_rest x y z xs ys up same there (inr other) = other
-
   pub one_sorted : (xs ys : List X) → Ascends cmp xs → Ascends cmp ys → ((x : X) → In x xs → In x ys) → ((x : X) → In x ys → In x xs) → xs ≡ ys
-  one_sorted [] [] up also to back = refl
-  one_sorted [] (y ∷ ys) up also to back = absurd (back y (inl refl))
-  one_sorted (x ∷ xs) [] up also to back = absurd (to x (inl refl))
-  one_sorted (x ∷ xs) (y ∷ ys) up also to back =
-      let same = first_is x y xs ys up also (to x (inl refl)) (back y (inl refl)) in
-      ap₂ (λ (z : X) (zs : List X). z ∷ zs) same
-      (one_sorted xs ys up.1 also.1 (λ z there. in_rest x y z xs ys up same there (to z (inr there)))
-      (λ z there. in_rest y x z ys xs also (sym same) there (back z (inr there))))
+  one_sorted xs ys up also to back = one_order (λ x y. cmp x y ≡ Less) not_both xs ys up also to back
 
 -- ---- a row for each key
 
@@ -173,12 +147,7 @@ module _ {K : Type 0} (cmp : K → K → Ordering) (exact : (x y : K) → cmp x 
       ] refl some
 
   pub found_in : (key : K) (keys : List K) → list_any (eq_by_cmp cmp key) keys ≡ true → In key keys
-  found_in key [] found = let none : ⊥ = cc in absurd none
-  found_in key (k ∷ keys) found =
-      elim (eq_by_cmp cmp key k) as (λ b. (eq_by_cmp cmp key k ≡ b) → (b || list_any (eq_by_cmp cmp key) keys) ≡ true → In key (k ∷ keys)) [
-        | true ↦ λ same found. inl (tells_apart exact key k same)
-        | false ↦ λ other found. inr (found_in key keys found)
-      ] refl found
+  found_in key keys found = in_list keys key (Contains-from_any (tells_apart exact) key keys found)
 
   module _ (laws : IsTotalOrder cmp) where
     in_found : (key : K) (keys : List K) → In key keys → list_any (eq_by_cmp cmp key) keys ≡ true

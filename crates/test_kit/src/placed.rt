@@ -8,7 +8,7 @@ ghost use Rattle.pending_ledger.specs.Pending.{place_of};
 ghost use Rattle.pending_ledger.specs.Requests.{request_place};
 ghost use Rattle.summary_law.specs.Fits.{IsPlaced};
 
-use event_core::{BufferItem, Event, PendingItem, RequestItem};
+use event_core::{BufferItem, Event, KeyEvent, RequestItem};
 
 /// An item that has a place: that of its record in the capture.
 pub trait Placed: Copy {
@@ -20,11 +20,11 @@ pub trait Placed: Copy {
         ensures { result ≡ place_in self };
 }
 
-impl Placed for PendingItem<u64> {
+impl Placed for (u64, KeyEvent) {
     ghost place_in = { place_of };
 
     fn place(self) -> u64 {
-        self.place
+        self.1.place
     }
 }
 

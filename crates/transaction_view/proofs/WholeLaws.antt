@@ -2,6 +2,7 @@
 use Rattle.std.proofs.Common.{◌≡◌, ℕ, ◌+◌, ◌<◌, ◌≤◌, ◌⊎◌, inl, inr, Bool, true, false, ltb, cond, List, [], ◌∷◌, length, drop, map, Option, Some, None, option_map, Result, Ok, Err, refl, sym, ap, ap₂, subst, ◌∙◌, length-drop, arith}
 use Rattle.std.specs.Prelude.{◌==◌, ◌&&◌, nat_le, is_some}
 use Rattle.std.proofs.lemmas.Bool.Decides.{nat_tests}
+use Rattle.std.specs.Option.{option_or}
 use Rattle.binder_code.specs.Commands.{kind_of}
 use Rattle.capture_frame.specs.declared.direction.Direction.{Direction}
 use Rattle.capture_frame.specs.declared.fault.Fault.{Fault}
@@ -19,7 +20,7 @@ use Rattle.capture_frame.proofs.TestLaws.{found_there, fault_there}
 use Rattle.record_view.specs.Records.{RecordText, protocol_of, record_at, record_parser, records_of}
 use Rattle.record_view.proofs.RecordLaws as records
 use Rattle.transaction_view.specs.Attachments.{EntryText, entry_length, entry_width, has_data, has_sizes, owner_among, owner_at, owner_place, entry_tests, entry_at_start, entry_at, entry_parser, entries_of}
-use Rattle.transaction_view.specs.Grammar.{first_of, content_fault, first_content_fault, unless, with_content, whole_parser}
+use Rattle.transaction_view.specs.Grammar.{content_fault, first_content_fault, unless, with_content, whole_parser}
 use Rattle.transaction_view.proofs.EntryLaws.{widths}
 
 -- ---- a fault lies within the bytes
@@ -42,7 +43,7 @@ within parser wide here = by_units parser wide
     let both = others fault is in
     (omega (arith, both.0), omega (arith, both.1, length-drop w bytes)))
 
-one_of : (a b : Option Fault) (fault : Fault) → first_of a b ≡ Some fault → (a ≡ Some fault) ⊎ (b ≡ Some fault)
+one_of : (a b : Option Fault) (fault : Fault) → option_or a b ≡ Some fault → (a ≡ Some fault) ⊎ (b ≡ Some fault)
 one_of (Some first) b fault is = inl is
 one_of None b fault is = inr is
 
@@ -103,9 +104,9 @@ module _ (n : ℕ) where
   tested_moves ((true, kind) ∷ tests) e = tested_moves tests e
   tested_moves ((false, kind) ∷ tests) e = refl
 
-  first_of_moves : (a b : Option Fault) → first_of (option_map (moved n) a) (option_map (moved n) b) ≡ option_map (moved n) (first_of a b)
-  first_of_moves (Some fault) b = refl
-  first_of_moves None b = refl
+  pub either_moved : (a b : Option Fault) → option_or (option_map (moved n) a) (option_map (moved n) b) ≡ option_map (moved n) (option_or a b)
+  either_moved (Some fault) b = refl
+  either_moved None b = refl
 
   none_moved : (fault : Option Fault) → option_map (moved n) fault ≡ None → fault ≡ None
   none_moved None is = refl
@@ -159,9 +160,9 @@ module _ (n : ℕ) where
 pub content_moves : (n place : ℕ) (f : FrameText) → content_fault (placed_at (n + place) f) ≡ option_map (moved n) (content_fault (placed_at place f))
 content_moves n place f =
     let further : attachments_place f (n + place) ≡ n + attachments_place f place = omega arith in
-    ap₂ first_of (ap (λ (found : Parsed RecordText). found.fault) (records_move n place f))
+    ap₂ option_or (ap (λ (found : Parsed RecordText). found.fault) (records_move n place f))
     (ap (λ (p : ℕ). (parsed_by (entry_parser (placed_at (n + place) f)) None p f.attachments).fault) further ∙ entries_move n place f None (attachments_place f place) f.attachments)
-    ∙ first_of_moves n (records_of (placed_at place f)).fault (entries_of (placed_at place f)).fault
+    ∙ either_moved n (records_of (placed_at place f)).fault (entries_of (placed_at place f)).fault
 
 -- ---- frames up to the first with a fault of its content
 
@@ -194,7 +195,7 @@ whole_judged = by_units frame_parser frame_widths (λ before place bytes found. 
 all_good : (frames : List PlacedFrame) (fault : Option Fault) → first_content_fault frames ≡ None → judged_frames frames fault ≡ record { units = frames; fault = fault }
 all_good [] fault good = refl
 all_good (frame ∷ frames) fault good =
-    elim (content_fault frame) as (λ c. first_of c (first_content_fault frames) ≡ None
+    elim (content_fault frame) as (λ c. option_or c (first_content_fault frames) ≡ None
     → unless_bad c frame (judged_frames frames fault) ≡ record { units = frame ∷ frames; fault = fault }) [
       | None ↦ λ others. ap (with_unit frame) (all_good frames fault others)
       | Some bad ↦ λ others. absurd (cc)
@@ -203,7 +204,7 @@ all_good (frame ∷ frames) fault good =
 one_bad : (frames : List PlacedFrame) (fault : Option Fault) (bad : Fault) → first_content_fault frames ≡ Some bad → (judged_frames frames fault).fault ≡ Some bad
 one_bad [] fault bad is = absurd (cc)
 one_bad (frame ∷ frames) fault bad is =
-    elim (content_fault frame) as (λ c. first_of c (first_content_fault frames) ≡ Some bad → (unless_bad c frame (judged_frames frames fault)).fault ≡ Some bad) [
+    elim (content_fault frame) as (λ c. option_or c (first_content_fault frames) ≡ Some bad → (unless_bad c frame (judged_frames frames fault)).fault ≡ Some bad) [
       | None ↦ λ others. one_bad frames fault bad others
       | Some other ↦ λ same. same
     ] is

@@ -1,5 +1,6 @@
 -- The frames of a capture's parts, judged with their records and entries, or the first fault (docs/ENVELOPE.md).
 use Rattle.std.specs.Prelude.{◌≡◌, ℕ, List, [], ◌∷◌, Option, Some, None, Result, Ok, Err}
+use Rattle.std.specs.Option.{option_or}
 use Rattle.capture_frame.specs.declared.fault.Fault.{Fault}
 use Rattle.capture_frame.specs.declared.fault.PartFault.{PartFault}
 use Rattle.capture_frame.specs.Envelope.{FrameText, PlacedFrame, Before}
@@ -11,14 +12,9 @@ use Rattle.capture_frame.specs.Units.{placed_at}
 use Rattle.record_view.specs.Records.{records_of}
 use Rattle.transaction_view.specs.Attachments.{entries_of}
 
--- the first of two faults, either of which may be missing
-abbrev pub first_of : Option Fault → Option Fault → Option Fault
-first_of (Some fault) later = Some fault
-first_of None later = later
-
 -- the first fault of a frame's content: that of its records, or, if these are good, that of its entries
 abbrev pub content_fault : PlacedFrame → Option Fault
-content_fault frame = first_of (records_of frame).fault (entries_of frame).fault
+content_fault frame = option_or (records_of frame).fault (entries_of frame).fault
 
 -- the records and entries of the frame have no fault
 abbrev pub IsGood : PlacedFrame → Type 0
@@ -27,7 +23,7 @@ IsGood frame = content_fault frame ≡ None
 -- the first fault of the content of these frames
 abbrev pub first_content_fault : List PlacedFrame → Option Fault
 first_content_fault [] = None
-first_content_fault (frame ∷ frames) = first_of (content_fault frame) (first_content_fault frames)
+first_content_fault (frame ∷ frames) = option_or (content_fault frame) (first_content_fault frames)
 
 -- this unit, or the fault if there is one
 abbrev pub unless : {U F : Type 0} → Option F → U → Result U F

@@ -2,7 +2,7 @@
 
 use crate::attachments::{ENTRY_HEADER, entry_fields};
 use crate::entry::Entry;
-use capture_frame::Frame;
+use capture_frame::{Frame, u32_at};
 use std::marker::Model;
 
 /// Reads the attachment entries of a frame whose entries have no fault, in order. It looks at no
@@ -52,18 +52,19 @@ impl<'c> GoodEntries<'c> {
         ensures { StepsGood self.old result self.new }
     {
         let rest = &self.frame.attachments[self.distance..];
-        let Some(parts) = entry_fields(rest) else {
+        let Some((body, offsets)) = entry_fields(rest) else {
             return None;
         };
         let place = self.frame.attachments_place() + self.distance as u64;
-        let owner = self.frame.commands_place() + u64::from(parts.offset);
-        self.distance += ENTRY_HEADER + parts.body.len() + parts.offsets.len();
-        self.before = Some(parts.offset);
+        let offset = u32_at(rest, 0);
+        let owner = self.frame.commands_place() + u64::from(offset);
+        self.distance += ENTRY_HEADER + body.len() + offsets.len();
+        self.before = Some(offset);
         Some(Entry {
             place,
             owner,
-            body: parts.body,
-            offsets: parts.offsets,
+            body,
+            offsets,
         })
     }
 }

@@ -21,7 +21,7 @@ impl<'r, R: Abort> Expected for HasHandle<'r, R> {
     fn hold(&self, found: &Findings<'_>) {
         let rows = found.sections().processes.handles.rows.as_slice();
         assert_eq!(self.rt; rows.len(), 1);
-        assert_eq!(self.rt; rows[0].row.taken.handle, self.handle);
+        assert_eq!(self.rt; rows[0].row.handle, self.handle);
         assert_eq!(self.rt; rows[0].row.taken.strong, self.strong);
     }
 }

@@ -1,41 +1,39 @@
 //! Handles.
 
-use event_core::{HandleChange, HandleItem, Strength};
-use handle_ledger::{HandleLedger, HandleRow, HeldRow};
+use event_core::{HandleChange, Strength};
+use handle_ledger::{HandleCounts, HandleLedger, HeldRow};
 use std::test::Fail;
 use summary_law::{Count, Tally, summary_of};
 
 /// A handle, and what is done to its references of a strength.
 macro_rules! item {
     ($handle:literal, $strength:ident, $change:ident) => {
-        HandleItem {
-            handle: $handle,
-            strength: Strength::$strength,
-            change: HandleChange::$change,
-        }
+        ($handle, (Strength::$strength, HandleChange::$change))
     };
 }
 
 /// A handle, its strong count and low, and its weak count and low.
 macro_rules! row {
     ($handle:literal, $strong:literal, $strong_low:literal, $weak:literal, $weak_low:literal) => {
-        HandleRow {
-            handle: $handle,
-            strong: Count {
-                sum: $strong,
-                low: $strong_low,
+        (
+            $handle,
+            HandleCounts {
+                strong: Count {
+                    sum: $strong,
+                    low: $strong_low,
+                },
+                weak: Count {
+                    sum: $weak,
+                    low: $weak_low,
+                },
             },
-            weak: Count {
-                sum: $weak,
-                low: $weak_low,
-            },
-        }
+        )
     };
 }
 
 /// The least and the greatest handle; 1 to 4 named by one command each; 5 by a strong and a weak
 /// one; and 6 let go before it is taken.
-const ITEMS: &[HandleItem] = &[
+const ITEMS: &[(u32, (Strength, HandleChange))] = &[
     item!(4, Weak, Lower),
     item!(6, Strong, Lower),
     item!(1, Strong, Raise),
@@ -50,7 +48,7 @@ const ITEMS: &[HandleItem] = &[
     item!(0, Strong, Lower),
 ];
 
-const ROWS: &[HandleRow] = &[
+const ROWS: &[(u32, HandleCounts)] = &[
     row!(0, 0, 0, 0, 0),
     row!(1, 1, 0, 0, 0),
     row!(2, -2, -2, 0, 0),
@@ -75,9 +73,10 @@ const HELD: &[((u32, bool), u64)] = &[
 
 /// A row, and how many strong and how many weak references are held.
 macro_rules! held_row {
-    ($taken:expr, $strong:literal, $weak:literal) => {
+    ($row:expr, $strong:literal, $weak:literal) => {
         HeldRow {
-            taken: $taken,
+            handle: $row.0,
+            taken: $row.1,
             held_strong: $strong,
             held_weak: $weak,
         }
@@ -113,18 +112,14 @@ fn rows_of_a_dozen_items(rt: HostRuntime) -> Result<(), Fail> {
 fn ten_thousand_handles_come_in_falling_order(rt: HostRuntime) -> Result<(), Fail> {
     let mut items = Vec::new(rt.alloc());
     for handle in (0..10000).rev() {
-        items.push(HandleItem {
-            handle,
-            strength: Strength::Weak,
-            change: HandleChange::Raise,
-        })?;
+        items.push((handle, (Strength::Weak, HandleChange::Raise)))?;
     }
     assert!(rt; items.len() == 10000);
     let ledger: HandleLedger = summary_of(rt.alloc(), items.as_slice())?;
     let rows = ledger.rows()?;
     assert!(rt; rows.len() == 10000);
     for (place, row) in rows.iter().enumerate() {
-        assert!(rt; row.handle as usize == place);
+        assert!(rt; row.0 as usize == place);
     }
     Ok(())
 }

@@ -1,21 +1,20 @@
 //! Nodes.
 
-use event_core::{NodeChange, NodeItem, NodeKey, Strength};
-use handle_ledger::{NodeLedger, NodeRow};
+use event_core::{NodeChange, NodeKey, Strength};
+use handle_ledger::{NodeCounts, NodeLedger, NodeRow};
 use std::test::Fail;
 use summary_law::{Count, summary_of};
 
 /// A node by its ptr and its cookie, and what is done to its references of a strength.
 macro_rules! item {
     ($ptr:literal, $cookie:literal, $strength:ident, $change:ident) => {
-        NodeItem {
-            node: NodeKey {
+        (
+            NodeKey {
                 ptr: $ptr,
                 cookie: $cookie,
             },
-            strength: Strength::$strength,
-            change: NodeChange::$change,
-        }
+            (Strength::$strength, NodeChange::$change),
+        )
     };
 }
 
@@ -31,23 +30,25 @@ macro_rules! row {
                 ptr: $ptr,
                 cookie: $cookie,
             },
-            strong: Count {
-                sum: $strong,
-                low: $strong_low,
+            counts: NodeCounts {
+                strong: Count {
+                    sum: $strong,
+                    low: $strong_low,
+                },
+                weak: Count {
+                    sum: $weak,
+                    low: $weak_low,
+                },
+                strong_due: $strong_due,
+                weak_due: $weak_due,
             },
-            weak: Count {
-                sum: $weak,
-                low: $weak_low,
-            },
-            strong_due: $strong_due,
-            weak_due: $weak_due,
         }
     };
 }
 
 /// The least and the greatest node; and under each of the ptrs 1 and 2 three nodes, each named by
 /// one record.
-const ITEMS: &[NodeItem] = &[
+const ITEMS: &[(NodeKey, (Strength, NodeChange))] = &[
     item!(2, 3, Weak, Done),
     item!(18446744073709551615, 18446744073709551615, Weak, Raise),
     item!(1, 2, Strong, Lower),

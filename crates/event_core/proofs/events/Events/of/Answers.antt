@@ -1,12 +1,12 @@
 use Rattle.std.proofs.Common.{◌≡◌, Option, Some, None, ◌∙◌}
+use Rattle.std.specs.Option.{option_or}
 use Rattle.capture_frame.specs.declared.fault.Fault.{Fault}
 use Rattle.capture_frame.specs.Envelope.{placed_frame}
-use Rattle.transaction_view.specs.Grammar.{first_of}
 use Rattle.event_core.proofs.EventSteps.{left_is}
 use Rattle.event_core.proofs.SideBySide.{side_by_side}
 use Rattle.event_core.proofs.events.Events.of.Goals as goal
 
-second_none : (first second : Option Fault) → first_of first second ≡ None → second ≡ None
+second_none : (first second : Option Fault) → option_or first second ≡ None → second ≡ None
 second_none None second none = none
 second_none (Some fault) second none = absurd cc
 

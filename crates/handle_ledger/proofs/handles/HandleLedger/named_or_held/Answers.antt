@@ -1,7 +1,7 @@
 use Rattle.std.proofs.Common.{◌≡◌, ◌||◌, ◌∙◌, ap, ap₂, map, sym, take}
 use Rattle.std.proofs.lemmas.List.Folds.{list_any-append}
+use Rattle.std.specs.Map.{keys_of}
 use Rattle.std.specs.Ordering.{eq_by_cmp, nat_cmp}
-use Rattle.handle_ledger.specs.Handles.{handle_of}
 use Rattle.std.proofs.lemmas.List.{take_all}
 use Rattle.std.specs.List.{list_any}
 use Rattle.handle_ledger.proofs.HeldLaws.{held_handles, is_of, named_entries, next_inserted, or_false}
@@ -24,4 +24,4 @@ returns c = λ items held mine theirs q.
     ∙ ap₂ ◌||◌
     (c.in_ok-handles.ensures.named q ∙ named_entries c.args.self.now.handles.entries c.in_ok-handles.ensures.ordered items mine q)
     (ap (list_any (is_of q)) all ∙ held_handles held c.in_ok-rows.rows.items (c.in_ok-rows.ensures held theirs) q)
-    ∙ sym (list_any-append (eq_by_cmp nat_cmp q) (map handle_of items) (map (λ reference. reference.0.0) held))
+    ∙ sym (list_any-append (eq_by_cmp nat_cmp q) (keys_of items) (map (λ reference. reference.0.0) held))

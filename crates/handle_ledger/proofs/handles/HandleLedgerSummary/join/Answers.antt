@@ -1,15 +1,11 @@
-use Rattle.std.proofs.Common.{List, sym, subst}
-use Rattle.std.specs.Ordering.{nat_cmp}
-use Rattle.handle_ledger.proofs.KeyLaws.{keyed_both, short_both}
+use Rattle.std.proofs.Common.{◌++◌}
+use Rattle.std.specs.Ordering.{eq_by_cmp, nat_cmp}
 use Rattle.handle_ledger.proofs.handles.HandleLedgerSummary.join.Goals as goal
-use Rattle.handle_ledger.specs.Handles.{handle_of, by_handle, HandleCountsSum}
-use Rattle.summary_law.specs.ByKey.{SumsByKey}
+use Rattle.summary_law.proofs.ReadLaws.{each_short}
 
 pub join-requires : goal.join-requires
 join-requires c =
-    (by_handle c.requires.0, by_handle c.requires.1, c.requires.2, c.requires.3, short_both nat_cmp handle_of c.requires.0 c.requires.1 c.requires.4)
+    (c.requires.0, c.requires.1, c.requires.2, c.requires.3, each_short (eq_by_cmp nat_cmp) (c.requires.0 ++ c.requires.1) c.requires.4)
 
 pub returns : goal.returns
-returns c = λ first second mine theirs fits.
-    subst (λ (es : List _). SumsByKey nat_cmp HandleCountsSum c.in_ok-handles.handles.entries es) (sym (keyed_both nat_cmp handle_of first second))
-    (c.in_ok-handles.ensures (by_handle first) (by_handle second) mine theirs (short_both nat_cmp handle_of first second fits))
+returns c = λ first second mine theirs fits. c.in_ok-handles.ensures first second mine theirs (each_short (eq_by_cmp nat_cmp) (first ++ second) fits)

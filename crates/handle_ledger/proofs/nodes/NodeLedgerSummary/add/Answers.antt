@@ -1,17 +1,13 @@
-use Rattle.std.proofs.Common.{List, ◌∷◌, [], sym, subst}
+use Rattle.std.proofs.Common.{◌∷◌, ◌++◌, []}
 use Rattle.std.proofs.lemmas.Result.{on_ok_weaker}
-use Rattle.handle_ledger.proofs.KeyLaws.{keyed_both, short_both}
+use Rattle.std.specs.Ordering.{eq_by_cmp}
 use Rattle.handle_ledger.proofs.nodes.NodeLedgerSummary.add.Goals as goal
-use Rattle.handle_ledger.specs.Nodes.{node_cmp, node_of, by_node, NodeCountsSum}
-use Rattle.summary_law.specs.ByKey.{SumsByKey}
+use Rattle.handle_ledger.specs.Nodes.{node_cmp}
+use Rattle.summary_law.proofs.ReadLaws.{each_short}
 
 pub add-requires : goal.add-requires
-add-requires c = (by_node c.requires.0, c.requires.1, short_both node_cmp node_of c.requires.0 (c.args.item ∷ []) c.requires.2)
+add-requires c = (c.requires.0, c.requires.1, each_short (eq_by_cmp node_cmp) (c.requires.0 ++ c.args.item ∷ []) c.requires.2)
 
 pub returns : goal.returns
 returns c =
-    on_ok_weaker c.add.result
-    (λ adds items sums fits.
-    subst (λ (es : List _). SumsByKey node_cmp NodeCountsSum c.add.new.self.entries es) (sym (keyed_both node_cmp node_of items (c.args.item ∷ [])))
-    (adds (by_node items) sums (short_both node_cmp node_of items (c.args.item ∷ []) fits)))
-    c.add.ensures
+    on_ok_weaker c.add.result (λ adds items sums fits. adds items sums (each_short (eq_by_cmp node_cmp) (items ++ c.args.item ∷ []) fits)) c.add.ensures

@@ -1,14 +1,12 @@
-use Rattle.std.proofs.Common.{List, sym, subst}
-use Rattle.handle_ledger.proofs.KeyLaws.{keyed_both, short_both}
+use Rattle.std.proofs.Common.{◌++◌}
+use Rattle.std.specs.Ordering.{eq_by_cmp}
 use Rattle.handle_ledger.proofs.nodes.NodeLedgerSummary.join.Goals as goal
-use Rattle.handle_ledger.specs.Nodes.{node_cmp, node_of, by_node, NodeCountsSum}
-use Rattle.summary_law.specs.ByKey.{SumsByKey}
+use Rattle.handle_ledger.specs.Nodes.{node_cmp}
+use Rattle.summary_law.proofs.ReadLaws.{each_short}
 
 pub join-requires : goal.join-requires
 join-requires c =
-    (by_node c.requires.0, by_node c.requires.1, c.requires.2, c.requires.3, short_both node_cmp node_of c.requires.0 c.requires.1 c.requires.4)
+    (c.requires.0, c.requires.1, c.requires.2, c.requires.3, each_short (eq_by_cmp node_cmp) (c.requires.0 ++ c.requires.1) c.requires.4)
 
 pub returns : goal.returns
-returns c = λ first second mine theirs fits.
-    subst (λ (es : List _). SumsByKey node_cmp NodeCountsSum c.in_ok-nodes.nodes.entries es) (sym (keyed_both node_cmp node_of first second))
-    (c.in_ok-nodes.ensures (by_node first) (by_node second) mine theirs (short_both node_cmp node_of first second fits))
+returns c = λ first second mine theirs fits. c.in_ok-nodes.ensures first second mine theirs (each_short (eq_by_cmp node_cmp) (first ++ second) fits)

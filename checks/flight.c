@@ -1,0 +1,126 @@
+/* flight WORD..: the recorder on these words, with a driver that is made up. The driver is through with its only write
+ * when the recording ends: so nearly all frames are written after its books were copied. See loader. */
+#define _GNU_SOURCE
+#include "kernel.h"
+#include "messages.h"
+#include "names.h"
+#include "needs.h"
+#include <fcntl.h>
+#include <linux/android/binder.h>
+#include <stdarg.h>
+#include <stdlib.h>
+#include <string.h>
+#include <sys/mman.h>
+#include <unistd.h>
+
+enum {
+	READS = 100,		/* that wait for the first write */
+	RETURNS = 1000,		/* codes of each read */
+};
+
+static u32 looks;		/* how often the ring was looked at */
+static int is_stopped, is_written;
+static u64 last;		/* the number that was taken last */
+static u64 missed;		/* events */
+
+static struct message head_of(u32 type, u32 direction, u64 number)
+{
+	return (struct message){ .type = type, .direction = direction, .number = number, .time = now(),
+				 .opening = 1, .thread = direction };
+}
+
+/* A frame of so many codes without a payload. */
+static void hear_codes(void (*hear)(const void *, u64), u32 direction, u32 code, u32 count)
+{
+	u32 bytes = count * (u32)sizeof code;
+	struct chunk *chunk = allocate(sizeof *chunk + bytes);
+	*chunk = (struct chunk){ .head = head_of(MESSAGE_CHUNK, direction, ++last), .commands = bytes,
+				 .next = direction == DIRECTION_WRITE ? bytes : 0 };
+	for (u32 i = 0; i < count; i++)
+		memcpy((u8 *)(chunk + 1) + i * sizeof code, &code, sizeof code);
+	hear(chunk, sizeof *chunk + bytes);
+	free(chunk);
+}
+
+/* Two reads come, and something is missed that no later frame lacks. Then the write comes, and the reads that wait for
+ * it; what is missed then is told long before they are written. */
+long ring_drain(struct ring *ring, void (*hear)(const void *message, u64 bytes))
+{
+	u64 before = last;
+	(void)ring;
+	looks++;
+	if (looks <= 2) {
+		hear_codes(hear, DIRECTION_READ, BR_NOOP, RETURNS);
+		missed += looks == 1;
+	} else if (looks == 3) {
+		hear_codes(hear, DIRECTION_WRITE, BC_ENTER_LOOPER, 1);
+		for (u32 i = 0; i < READS; i++)
+			hear_codes(hear, DIRECTION_READ, BR_NOOP, RETURNS);
+		missed += 3;
+	} else if (is_stopped && !is_written) {
+		struct event event = { .head = head_of(MESSAGE_WRITTEN, DIRECTION_WRITE, 3), .written = { 4 } };
+		hear(&event, sizeof event);
+		is_written = 1;
+		return 1;
+	}
+	return (long)(last - before);
+}
+
+/* ---- the driver's books */
+
+int __real_open(const char *path, int flags, ...);
+int __wrap_open(const char *path, int flags, ...);
+
+static int is_book(const char *name)
+{
+	return !strcmp(name, "/state") || !strcmp(name, "/transactions") || !strcmp(name, "/stats");
+}
+
+/* The text of a book is its name. */
+static int open_book(const char *name)
+{
+	int book = memfd_create(name, 0);
+	if (book < 0 || write(book, name, strlen(name)) < 0 || lseek(book, 0, SEEK_SET))
+		fail("the book %s can't be made", name);
+	return book;
+}
+
+int __wrap_open(const char *path, int flags, ...)
+{
+	const char *name = strrchr(path, '/');
+	va_list more;
+	va_start(more, flags);
+	mode_t mode = flags & O_CREAT ? va_arg(more, mode_t) : 0;
+	va_end(more);
+	return name && is_book(name) ? open_book(name + 1) : __real_open(path, flags, mode);
+}
+
+/* ---- what the recorder asks of the system */
+
+void need_capabilities(void) {}
+void need_kernel(void) {}
+void need_no_lockdown(void) {}
+void need_driver(void) {}
+void need_tracepoints(void) {}
+
+void kernel_load(const struct options *options, struct ring *ring) { (void)options, (void)ring; }
+void kernel_start(void) {}
+void kernel_stop(void) { is_stopped = 1; }
+void kernel_detach(void) {}
+void kernel_unload(void) {}
+u64 kernel_last_number(void) { return last; }
+u64 kernel_bound(void) { return last; }
+u64 kernel_runs_missed(void) { return missed; }
+u64 kernel_calls_32_bit(void) { return 0; }
+u64 kernel_calls_without_number(void) { return 0; }
+u64 kernel_stacks_without_room(void) { return 0; }
+u64 kernel_stacks_failed(void) { return 0; }
+u64 kernel_stacks_empty(void) { return 0; }
+
+void kernel_meet_openings(void)
+{
+	static const char name[NAME_BYTES] = "caller";
+	names_opening(1, now(), 0, 1000, 1, name, MET_FROM_START);
+	names_thread(DIRECTION_WRITE, 1001, 1000, 1, name);
+	names_thread(DIRECTION_READ, 1002, 1000, 1, name);
+}

@@ -1,0 +1,5 @@
+mod BufferLaws
+mod BufferSums
+mod CountLaws
+mod LeakLaws
+mod ReplyLaws
