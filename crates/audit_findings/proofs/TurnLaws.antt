@@ -3,7 +3,6 @@ use Rattle.std.proofs.Common.{◌≡◌, ◌+◌, List, [], ◌∷◌, ◌++◌,
 use Rattle.std.specs.List.{flat_map}
 use Rattle.std.specs.Map.{keys_of}
 use Rattle.std.proofs.lemmas.Grind.{flat_map-append}
-use Rattle.std.proofs.lemmas.List.Concat.{flat_map-cons}
 use Rattle.std.proofs.lemmas.List.{append-nil, map-append}
 use Rattle.capture_frame.specs.declared.process.Process.{Process}
 use Rattle.capture_frame.specs.Envelope.{PlacedFrame}
@@ -14,6 +13,7 @@ use Rattle.process_ledgers.specs.EachProcess.{AreLedgersOf, SumsEach, ledgers_in
 use Rattle.process_ledgers.specs.Processes.{processes_of}
 use Rattle.audit_findings.specs.InTurn.{in_turn, process_row, rows_in}
 use Rattle.audit_findings.specs.declared.in_turn.ProcessRow.{ProcessRow}
+use Rattle.std.proofs.lemmas.List.Folds.{flat_map-map}
 
 -- the lists are those of the processes of the entries before the rest
 pub record Listing {R : Type 0} (of : List EventRead → Process → List R) (processes : Processes) (rest : List (Process × Nothing)) (lists : List (List R)) :
@@ -69,11 +69,6 @@ module _ {R : Type 0} (of : List EventRead → Process → List R) (processes : 
 
 -- ---- lists, one after another
 
-pub flat_lists : {K R : Type 0} (of : K → List R) (keys : List K) → flat_map (λ (own : List R). own) (map of keys) ≡ flat_map of keys
-flat_lists of [] = refl
-flat_lists {K} {R} of (k ∷ keys) =
-    flat_map-cons (λ (own : List R). own) (of k) (map of keys) ∙ ap (λ (t : List R). of k ++ t) (flat_lists of keys) ∙ sym (flat_map-cons of k keys)
-
 -- the rows are those of the processes of the entries before the rest, each with its process
 abbrev pub Turning : {R : Type 0} → (List EventRead → Process → List R) → Processes → List (Process × Nothing) → List (ProcessRow R) → Type 0
 Turning {R} of processes rest rows =
@@ -100,4 +95,4 @@ module _ {R : Type 0} (of : List EventRead → Process → List R) (processes : 
   all_turned rest none rows turning frames sums =
       turning.2
       ∙ ap (flat_map (λ (own : List (ProcessRow R)). own)) (all_listed (λ events. rows_in (of events)) processes rest none turning.0 turning.1 frames sums)
-      ∙ flat_lists (rows_in (of (events_of_frames frames))) (processes_of frames)
+      ∙ flat_map-map (λ (own : List (ProcessRow R)). own) (rows_in (of (events_of_frames frames))) (processes_of frames)
