@@ -1,7 +1,6 @@
 /* loader OUT: gives the recorder's loader messages of callers that hand over as much as they can. See loader. */
 #include "command.h"
 #include "frame.h"
-#include "missed.h"
 #include "names.h"
 #include "parts.h"
 #include "redact.h"
@@ -203,12 +202,6 @@ static void command_lines(void)
 	parts_flush();
 	should(has_line(" uid=10123 name=first\n") && !has_line("second"), "what is kept of a command line", 0);
 	should(has_line(" uid=10123 name=\n"), "an empty command line", 0);
-}
-
-/* What the kernel missed is not told here. */
-void missed_tell_again(u64 number)
-{
-	(void)number;
 }
 
 int main(int count, char **words)

@@ -4,7 +4,6 @@
 #include "code_file.h"
 #include "frame.h"
 #include "maps.h"
-#include "missed.h"
 #include "parts.h"
 #include "redact.h"
 #include "side.h"
@@ -286,12 +285,6 @@ static void forgotten_stacks(const char *out)
 	should(times(" call ") + forgotten == MANY && times(" call ") > 1000, "calls of kept stacks", times(" call "));
 	should(times(" stack ") == times(" call "), "stacks that are told again", times(" stack "));
 	free(numbers);
-}
-
-/* What the kernel missed is not told here. */
-void missed_tell_again(u64 number)
-{
-	(void)number;
 }
 
 int main(int count, char **words)

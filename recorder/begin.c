@@ -1,6 +1,5 @@
 #include "begin.h"
 #include "met.h"
-#include "missed.h"
 #include "names.h"
 #include "side.h"
 #include "stacks.h"
@@ -11,6 +10,7 @@
 #define ROUNDS 5
 
 static char line[1024];		/* empty before the recording has begun */
+static void (*tell_also)(u64 number);
 
 /* One moment on three clocks. */
 struct moment {
@@ -48,11 +48,17 @@ void begin_tell(const char *payloads)
 	side_text(line);
 }
 
+void begin_tell_also(void (*tell)(u64 number))
+{
+	tell_also = tell;
+}
+
 void begin_tell_again(u64 number)
 {
 	side_text(line);
 	names_tell_again(number);
 	met_tell_again();
-	missed_tell_again(number);
 	stacks_tell_again();
+	if (tell_also)
+		tell_also(number);
 }

@@ -63,6 +63,7 @@ static void create_files(const struct options *options)
 	if (options->files) {
 		names_keep_endings();
 		met_keep();
+		begin_tell_also(missed_tell_again);
 	}
 }
 

@@ -2,12 +2,11 @@
 use Rattle.std.proofs.Common.{◌≡◌, ℕ, Bool, true, false, cond, List, [], ◌∷◌, ◌++◌, length, map, All, Option, Some, None, ◌⊎◌, inl, inr, refl, sym, ap, subst, ◌∙◌, ◌||◌, ◌&&◌, not}
 use Rattle.std.proofs.Common.{IsPermutation, IsSorted, nat_cmp}
 use Rattle.std.specs.Prelude.{option_and_then}
-use Rattle.std.specs.List.{cons_option, filter_map, flat_map, last_or, list_any}
+use Rattle.std.specs.List.{filter_map, flat_map, last_or, list_any}
 use Rattle.std.specs.Option.{option_map, option_map_or, option_or}
 use Rattle.std.specs.Ordering.{eq_by_cmp}
 use Rattle.std.proofs.lemmas.List.{length-map, map-append}
 use Rattle.std.proofs.lemmas.List.Concat.{flat_map-cons}
-use Rattle.std.proofs.lemmas.List.Folds.{flat_map-map}
 use Rattle.std.proofs.lemmas.List.Elements.{All-append, All-head, All-map, All-nil, All-tail, All-weaker}
 use Rattle.std.proofs.lemmas.List.Sorted.{IsNonDecreasingBy-from_sort, IsPermutation-map, IsPermutation-sym, IsPermutation-trans}
 use Rattle.capture_frame.proofs.ProcessLaws.{same_process_equiv}
@@ -26,10 +25,11 @@ use Rattle.summary_law.specs.Readings.{by_key, chosen, read_all, read_each, with
 use Rattle.summary_law.proofs.GatherLaws.{HasKeyOrNothing, gathered_sorted}
 use Rattle.summary_law.proofs.InOrderLaws.{each_among_firsts, firsts_distinct}
 use Rattle.summary_law.proofs.Members.{Rises, in_place, rises-map}
-use Rattle.summary_law.proofs.ReadingLaws.{chosen-is, read-both, read-made, read-picked, read-rises}
+use Rattle.summary_law.proofs.ReadingLaws.{chosen-is, read-both, read-made, read-picked, read-plain, read-rises}
 use Rattle.audit_findings.specs.declared.open_and_stray.OpenAndStray.{OpenAndStray}
 use Rattle.audit_findings.specs.Kept.{pairs_at_places, places_of}
 use Rattle.audit_findings.specs.Places.{EventTest, RiseInPlace, either, is_stray_close, is_unclosed, item_is, passing_events, open_and_stray, places_in}
+use Rattle.std.proofs.lemmas.List.Folds.{flat_map-map}
 
 abbrev pub place_of_event : EventRead → ℕ
 place_of_event e = e.place
@@ -62,13 +62,8 @@ module _ {I : Type 0} (place : I → ℕ) (read : EventRead → Option I) (keeps
 -- the items that are made of others
 pub items_made : {I J : Type 0} (f : I → J) (read : EventRead → Option I) (es : List EventRead)
     → filter_map (λ e. option_map f (read e)) es ≡ map f (filter_map read es)
-items_made f read [] = refl
-items_made {I} {J} f read (e ∷ es) =
-    let rest = items_made f read es in
-    elim (read e) as (λ o. cons_option (option_map f o) (filter_map (λ e. option_map f (read e)) es) ≡ map f (cons_option o (filter_map read es))) [
-      | None ↦ rest
-      | Some i ↦ ap (λ (t : List J). f i ∷ t) rest
-    ]
+items_made f read es =
+    read-plain (λ e. option_map f (read e)) [] es ∙ sym (read-made (λ b e l. read e) f [] es) ∙ ap (map f) (sym (read-plain read [] es))
 
 -- ---- the processes of events
 

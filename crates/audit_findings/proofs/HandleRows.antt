@@ -1,12 +1,11 @@
 -- The rows of handles of a process: its leaked deliveries, chosen from all events; and lists, one after another.
-use Rattle.std.proofs.Common.{◌≡◌, ◌||◌, ◌<◌, ◌+◌, ℕ, zero, suc, Bool, true, false, eqb, List, [], ◌∷◌, ◌++◌, length, map, take, Some, None, Vec, Global, inl, inr, refl, sym, ap, subst, ◌∙◌, arith, get_or}
+use Rattle.std.proofs.Common.{◌≡◌, ◌||◌, ◌<◌, ◌+◌, ℕ, suc, Bool, true, false, eqb, List, [], ◌∷◌, ◌++◌, length, map, take, Some, Vec, Global, inl, inr, refl, sym, ap, subst, ◌∙◌, arith, get_or}
 use Rattle.std.proofs.Math.Seq.{take-suc}
 use Rattle.std.specs.Prelude.{◌==◌, filter, slice_get, slice_index_or}
-use Rattle.std.specs.Option.{unwrap_or}
 use Rattle.std.specs.List.{flat_map, list_any}
 use Rattle.std.proofs.lemmas.Bool.{eq-eqb, eqb-true}
 use Rattle.std.proofs.lemmas.Grind.{flat_map-append}
-use Rattle.std.proofs.lemmas.List.{append-nil, map-append}
+use Rattle.std.proofs.lemmas.List.{append-nil, get_or-map, map-append}
 use Rattle.capture_frame.specs.Process.{same_process}
 use Rattle.capture_frame.specs.declared.process.Process.{Process}
 use Rattle.capture_frame.specs.Envelope.{PlacedFrame}
@@ -26,6 +25,7 @@ use Rattle.audit_findings.specs.Places.{EventTest, RiseInPlace, passing_in, plac
 use Rattle.audit_findings.proofs.EventLists.{place_of_event}
 use Rattle.audit_findings.proofs.Kept.{in_kept, kept_in, one_there}
 use Rattle.audit_findings.proofs.Rising.{rising_kept}
+use Rattle.std.proofs.lemmas.Option.{get_or_from_slice_get, slice_get_within}
 
 -- ---- some of the events, chosen from all by their places
 
@@ -88,9 +88,8 @@ module _ (test : EventTest) (process : Process) (events : List EventRead) (rise 
 -- ---- the entry of a process by its number
 
 key_is : {X Y : Type 0} (key : X → Y) (xs : List X) (n : ℕ) (x : X) (d : Y) → slice_get xs n ≡ Some x → slice_index_or (map key xs) n d ≡ key x
-key_is key [] n x d is = let wrong : None ≡ Some x = is in absurd (cc)
-key_is key (y ∷ xs) zero x d is = ap (λ o. key (unwrap_or o y)) is
-key_is key (y ∷ xs) (suc n) x d is = key_is key xs n x d is
+key_is key xs n x d is =
+    get_or-map key xs n x d (slice_get_within xs n x is) ∙ ap key (get_or_from_slice_get xs n x x is)
 
 -- the entry with this number is that of the process with this number
 pub entry_at : (processes : Processes) (frames : List PlacedFrame) (number : ℕ) (e : Process × Nothing)

@@ -24,6 +24,8 @@ use Rattle.audit_findings.specs.Entries.{carried_by, list_bytes}
 use Rattle.audit_findings.specs.Held.{reference_of, unweighed}
 use Rattle.audit_findings.specs.HeldCounts.{good_in, CountsEntries, CountsHeld, CountsMore, CountsObjects, HasRoom}
 use Rattle.audit_findings.specs.Objects.{good_objects}
+use Rattle.std.proofs.lemmas.List.Folds.{flat_map-map}
+use Rattle.summary_law.proofs.FedLaws.{after_some}
 
 -- ---- one more reference
 
@@ -33,19 +35,6 @@ short_unweighed held short =
     let pair : Held → Held × ℕ = λ reference. (reference, 0) in
     let long = length-map held pair in
     omega (arith, long, short)
-
--- the last object gives a reference, or none
-pub gives_last : (objects : List ObjectText) (o : ObjectText) (reference : Held) → reference_of o ≡ Some reference
-    → filter_map reference_of (objects ++ o ∷ []) ≡ filter_map reference_of objects ++ reference ∷ []
-gives_last objects o reference is =
-    let one : filter_map reference_of (o ∷ []) ≡ reference ∷ [] = rw is refl in
-    filter_map-append reference_of objects (o ∷ []) ∙ ap (λ (t : List Held). filter_map reference_of objects ++ t) one
-
-pub gives_no_last : (objects : List ObjectText) (o : ObjectText) → reference_of o ≡ None
-    → filter_map reference_of (objects ++ o ∷ []) ≡ filter_map reference_of objects
-gives_no_last objects o is =
-    let none : filter_map reference_of (o ∷ []) ≡ [] = rw is refl in
-    filter_map-append reference_of objects (o ∷ []) ∙ ap (λ (t : List Held). filter_map reference_of objects ++ t) none ∙ append-nil (filter_map reference_of objects)
 
 -- there is room for one more after those of these objects
 pub room_for_last : (held : List Held) (objects : List ObjectText) (reference : Held) (n : ℕ) → length held + n ≤ 2 ^ 32 → length objects + 1 ≤ n
@@ -68,7 +57,7 @@ counts_last held objects o reference tally is sums =
     let one : unweighed (held ++ more) ++ (reference, 0) ∷ [] ≡ unweighed ((held ++ more) ++ reference ∷ []) =
     sym (map-append (λ (r : Held). (r, 0)) (held ++ more) (reference ∷ [])) in
     let all : (held ++ more) ++ reference ∷ [] ≡ held ++ filter_map reference_of (objects ++ o ∷ []) =
-    append_assoc held more (reference ∷ []) ∙ ap (λ (t : List Held). held ++ t) (sym (gives_last objects o reference is)) in
+    append_assoc held more (reference ∷ []) ∙ ap (λ (t : List Held). held ++ t) (sym (after_some reference_of objects o reference is)) in
     subst (CountsHeld tally) all (subst (TallySums held_cmp tally) one sums)
 
 -- ---- the entries so far
@@ -130,12 +119,6 @@ module _ (entries : List Entry) (few : list_bytes entries ≤ 2 ^ 32) (i : ℕ) 
 abbrev good_of : Placed EntryText → List ObjectText
 good_of a = (objects_of a.unit.body a.unit.offset_bytes).good
 
-good_shown : (entries : List Entry) → flat_map good_in entries ≡ flat_map good_of (map placed_entry entries)
-good_shown [] = refl
-good_shown (e ∷ entries) =
-    flat_map-cons good_in e entries ∙ ap (λ (t : List ObjectText). good_in e ++ t) (good_shown entries)
-    ∙ sym (flat_map-cons good_of (placed_entry e) (map placed_entry entries))
-
 good_carried : (events : List EventRead) → flat_map good_of (carried_by events) ≡ good_objects events
 good_carried [] = refl
 good_carried (e ∷ events) =
@@ -148,4 +131,4 @@ good_carried (e ∷ events) =
 -- entries that show the attachments of events hold what the events hold
 pub held_by_events : (events : List EventRead) (entries : List Entry) → map placed_entry entries ≡ carried_by events
     → held_among entries ≡ filter_map reference_of (good_objects events)
-held_by_events events entries show = ap (filter_map reference_of) (good_shown entries ∙ ap (flat_map good_of) show ∙ good_carried events)
+held_by_events events entries show = ap (filter_map reference_of) (sym (flat_map-map good_of placed_entry entries) ∙ ap (flat_map good_of) show ∙ good_carried events)

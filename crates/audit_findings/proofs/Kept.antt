@@ -1,9 +1,11 @@
 -- What is kept of a list, and what is in a list that is filtered, joined or rising.
-use Rattle.std.proofs.Common.{◌≡◌, ℕ, ◌+◌, inl, inr, Bool, true, false, cond, List, [], ◌∷◌, ◌++◌, Option, Some, None, refl, sym, ap, ◌∙◌, arith}
+use Rattle.std.proofs.Common.{◌≡◌, ℕ, ◌+◌, inl, inr, Bool, true, false, cond, List, [], ◌∷◌, ◌++◌, Option, Some, refl, sym, ap, ◌∙◌, arith, subst}
 use Rattle.std.specs.Prelude.{count_by, filter}
 use Rattle.std.proofs.lemmas.List.Sums.{sum_by-cons}
-use Rattle.std.specs.List.{cons_option, filter_map}
-use Rattle.summary_law.proofs.Members.{In, Rises}
+use Rattle.std.specs.List.{filter_map}
+use Rattle.summary_law.proofs.Members.{In, Rises, contained, in_list, in_middle}
+use Rattle.summary_law.proofs.ReadingLaws.{read-at, read-plain}
+use Rattle.std.proofs.lemmas.List.Elements.{Contains-append_left, Contains-append_right}
 
 pub in_kept : {X : Type 0} (test : X → Bool) (xs : List X) (x : X) → In x (filter test xs) → In x xs × (test x ≡ true)
 in_kept test [] x here = absurd here
@@ -41,25 +43,16 @@ kept_count {X} test other (x ∷ xs) passes =
     ] refl
 
 pub in_front : {X : Type 0} (x : X) (xs ys : List X) → In x xs → In x (xs ++ ys)
-in_front x [] ys here = absurd here
-in_front x (z ∷ xs) ys (inl is) = inl is
-in_front x (z ∷ xs) ys (inr there) = inr (in_front x xs ys there)
+in_front x xs ys here = in_list (xs ++ ys) x (Contains-append_left xs ys x (contained xs x here))
 
 pub in_back : {X : Type 0} (x : X) (xs ys : List X) → In x ys → In x (xs ++ ys)
-in_back x [] ys here = here
-in_back x (z ∷ xs) ys here = inr (in_back x xs ys here)
+in_back x xs ys here = in_list (xs ++ ys) x (Contains-append_right xs ys x (contained ys x here))
 
 -- what is read of a list is read of one of its elements
 pub read_from : {X Y : Type 0} (read : X → Option Y) (xs : List X) (y : Y) → In y (filter_map read xs) → (x : X) × In x xs × (read x ≡ Some y)
-read_from read [] y here = absurd here
-read_from {X} {Y} read (x ∷ xs) y here =
-    elim (read x) as (λ o. (read x ≡ o) → In y (cons_option o (filter_map read xs)) → (z : X) × In z (x ∷ xs) × (read z ≡ Some y)) [
-      | None ↦ λ is here. let found = read_from read xs y here in (found.0, inr found.1, found.2)
-      | Some own ↦ λ is here. elim here [
-        | inl same ↦ (x, inl refl, is ∙ ap Some (sym same))
-        | inr there ↦ let found = read_from read xs y there in (found.0, inr found.1, found.2)
-      ]
-    ] refl here
+read_from read xs y here =
+    let at = read-at (λ b x l. read x) [] xs y (subst (In y) (read-plain read [] xs) here) in
+    (at.1, subst (In at.1) (sym at.3) (in_middle at.0 at.1 at.2), at.4)
 
 -- two elements of a rising list at the same place are the same
 pub one_there : {X : Type 0} (rank : X → ℕ) (xs : List X) → Rises rank xs → (x y : X) → In x xs → In y xs → rank x ≡ rank y → x ≡ y

@@ -12,7 +12,7 @@ use Rattle.call_stacks.specs.Calls.{Bracketed, as_bracketed, bracket_read, brack
 use Rattle.call_stacks.specs.declared.findings.RefusedSend.{RefusedSend}
 use Rattle.call_stacks.specs.declared.opener.Opener.{Opener}
 use Rattle.summary_law.proofs.Members.{In, contained, get_in, in_get, in_list, listed}
-use Rattle.summary_law.proofs.ReadingLaws.{read-rises}
+use Rattle.summary_law.proofs.ReadingLaws.{read-plain, read-rises}
 use Rattle.summary_law.specs.Ranked.{ListsInOrder}
 use Rattle.summary_law.specs.Readings.{by_key, read_all, with_key}
 use Rattle.audit_findings.specs.Calls.{call_sections, openers, refused_sends}
@@ -24,7 +24,6 @@ use Rattle.audit_findings.proofs.CallEvents.{Reading, opener_event, send_event, 
 use Rattle.audit_findings.proofs.Kept.{read_from}
 use Rattle.audit_findings.proofs.KeyReadings.{own_read, read_of_own}
 use Rattle.audit_findings.proofs.Rising.{rising_kept}
-use Rattle.audit_findings.proofs.ThreadLists.{read-plain}
 
 module _ (events : List EventRead) (rise : RiseInPlace events) where
   module _ {Y : Type 0} (read : Reading Y) (event : Y → EventRead)

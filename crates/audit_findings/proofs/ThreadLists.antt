@@ -2,7 +2,7 @@
 use Rattle.std.proofs.Common.{◌≡◌, ℕ, ◌+◌, ◌<◌, ◌≤◌, Bool, true, false, cond, eqb, not, List, [], ◌∷◌, ◌++◌, length, map, filter, All, Option, Some, None, inl, inr, refl, sym, ap, ap₂, subst, ◌∙◌, ⊎_elim, arith}
 use Rattle.std.specs.Prelude.{◌&&◌, count_by, option_and_then, slice_get}
 use Rattle.std.specs.Option.{is_some}
-use Rattle.std.specs.List.{AllZip, IsDistinct, cons_option, filter_map, flat_map, fold, sum_by}
+use Rattle.std.specs.List.{AllZip, IsDistinct, cons_option, flat_map, fold, sum_by}
 use Rattle.std.specs.List.Sorted.{IsNonDecreasingBy, IsPermutation}
 use Rattle.std.specs.Map.{keys_of}
 use Rattle.std.proofs.lemmas.Bool.{cases_Bool}
@@ -37,7 +37,7 @@ use Rattle.call_stacks.specs.declared.verdict.Verdict.{Verdict}
 use Rattle.summary_law.proofs.GatherLaws.{HasKeyOrNothing, all_in, gathered_sorted, key_among, read-gathered}
 use Rattle.summary_law.proofs.InOrderLaws.{each_sums, entries_distinct, none_else}
 use Rattle.summary_law.proofs.Members.{In, map-in}
-use Rattle.summary_law.proofs.ReadingLaws.{read-at, read-rises}
+use Rattle.summary_law.proofs.ReadingLaws.{read-at, read-plain, read-rises}
 use Rattle.summary_law.specs.ByKey.{items_of}
 use Rattle.summary_law.specs.Fits.{IsPlaced}
 use Rattle.summary_law.specs.Readings.{by_key, read_all, read_each, with_key}
@@ -94,11 +94,6 @@ read-kept {X} {Y} test read before (x ∷ later) =
             | false ↦ rest
           ]
     ]
-
--- a reading that looks at each element by itself
-pub read-plain : {X Y : Type 0} (read : X → Option Y) (before xs : List X) → filter_map read xs ≡ read_each (λ b x l. read x) before xs
-read-plain read before [] = refl
-read-plain read before (x ∷ later) = ap (cons_option (read x)) (read-plain read (before ++ x ∷ []) later)
 
 read-short : {X Y : Type 0} (read : List X → X → List X → Option Y) (before xs : List X) → length (read_each read before xs) ≤ length xs
 read-short read before [] = omega arith

@@ -3,7 +3,6 @@ use Rattle.std.proofs.Common.{◌≡◌, ◌+◌, List, [], ◌∷◌, ◌++◌,
 use Rattle.std.specs.List.{flat_map}
 use Rattle.std.specs.Map.{keys_of}
 use Rattle.std.proofs.lemmas.Grind.{flat_map-append}
-use Rattle.std.proofs.lemmas.List.Folds.{flat_map-map}
 use Rattle.std.proofs.lemmas.List.{append-nil, map-append}
 use Rattle.capture_frame.specs.declared.process.Process.{Process}
 use Rattle.capture_frame.specs.Envelope.{PlacedFrame}
@@ -14,6 +13,7 @@ use Rattle.process_ledgers.specs.EachProcess.{AreLedgersOf, SumsEach, ledgers_in
 use Rattle.process_ledgers.specs.Processes.{processes_of}
 use Rattle.audit_findings.specs.InTurn.{in_turn, process_row, rows_in}
 use Rattle.audit_findings.specs.declared.in_turn.ProcessRow.{ProcessRow}
+use Rattle.std.proofs.lemmas.List.Folds.{flat_map-map}
 
 -- the lists are those of the processes of the entries before the rest
 pub record Listing {R : Type 0} (of : List EventRead → Process → List R) (processes : Processes) (rest : List (Process × Nothing)) (lists : List (List R)) :

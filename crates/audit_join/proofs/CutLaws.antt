@@ -1,10 +1,10 @@
 -- Frames that parts are cut into: judged with their content, they are the frames of the parts, or the first that has a
 -- fault has the first fault of the parts.
 use Rattle.std.proofs.Common.{◌≡◌, inl, inr, ℕ, ◌+◌, ◌-◌, ◌<◌, ◌≤◌, ◌^◌, List, [], ◌∷◌, ◌++◌, length, drop, Option, Some, None, Result, Ok, Err, refl, sym, ap, ap₂, subst, ◌∙◌, length-drop, arith}
-use Rattle.std.specs.Prelude.{All, IfSome}
+use Rattle.std.specs.Prelude.{IfSome}
 use Rattle.std.specs.List.{sum_by}
 use Rattle.std.specs.Option.{option_map, option_or}
-use Rattle.std.proofs.lemmas.List.Elements.{All-cons, All-nil, All-weaker}
+use Rattle.std.proofs.lemmas.List.Elements.{All-weaker}
 use Rattle.std.proofs.lemmas.List.Sums.{sum_by-append, sum_by-cons}
 use Rattle.capture_frame.specs.declared.fault.Fault.{Fault}
 use Rattle.capture_frame.specs.declared.fault.PartFault.{PartFault}
@@ -26,28 +26,12 @@ use Rattle.audit_join.proofs.PlaceLaws.{in_this, in_later}
 use Rattle.transaction_view.proofs.WholeLaws.{content_moves, either_moved, whole_good, whole_bad}
 use Rattle.capture_frame.proofs.FrameLaws.{frames_placed, frames_fit, frames_fill}
 use Rattle.capture_frame.proofs.HeaderLaws.{header_long}
-use Rattle.capture_frame.proofs.ReadOnLaws.{moved, placed-append, placed_apart}
+use Rattle.capture_frame.proofs.ReadOnLaws.{IsBetween, moved, placed-append, placed_apart, placed_within}
 
 -- ---- frames one after another
 
 abbrev pub in_row : ℕ → List FrameText → List PlacedFrame
 in_row place texts = placed frame_width place texts
-
--- the frame is between these places
-abbrev IsBetween : ℕ → ℕ → PlacedFrame → Type 0
-IsBetween from to f = (from ≤ f.place) × (f.place + span_of f ≤ to)
-
-row_between : (place most : ℕ) (texts : List FrameText) → place + sum_by frame_width texts ≤ most → All (IsBetween place most) (in_row place texts)
-row_between place most [] within = All-nil (IsBetween place most)
-row_between place most (t ∷ texts) within =
-    let sum = sum_by-cons frame_width t texts in
-    let after = place + frame_width t in
-    All-cons (IsBetween place most) (placed_at place t) (in_row after texts) (omega arith, omega (arith, within, sum))
-    (All-weaker (IsBetween after most) (IsBetween place most)
-    (λ f between.
-    let from = between.0 in
-    (omega (arith, from), between.1)) (in_row after texts)
-    (row_between after most texts (omega (arith, within, sum))))
 
 row_sum : (place : ℕ) (texts : List FrameText) → sum_by span_of (in_row place texts) ≡ sum_by frame_width texts
 row_sum place [] = refl
@@ -75,14 +59,14 @@ first_held place texts fault is =
     let Within : ℕ → Type 0 = λ x. (place ≤ x) × (x < place + sum_by frame_width texts) in
     subst (λ (o : Option Fault). IfSome (option_map (λ (found : Fault). found.place) o) Within) is
     (first_by Within (in_row place texts)
-    (All-weaker (IsBetween place (place + sum_by frame_width texts)) (λ (f : PlacedFrame). (x : ℕ) → Holds x f → Within x)
+    (All-weaker (IsBetween frame_width place (place + sum_by frame_width texts)) (λ (f : PlacedFrame). (x : ℕ) → Holds x f → Within x)
     (λ f between x held.
     let from = between.0 in
     let to = between.1 in
     let least = held.0 in
     let most = held.1 in
     (omega (arith, from, least), omega (arith, to, most)))
-    (in_row place texts) (row_between place (place + sum_by frame_width texts) texts (omega arith))))
+    (in_row place texts) (placed_within frame_width place texts)))
 
 -- ---- one part
 
@@ -129,7 +113,7 @@ part_is last part = part_by last part (header_at part) refl
 
 -- ---- all parts
 
-map_none : {A B : Type 0} (f : A → B) (a : Option A) → option_map f a ≡ None → a ≡ None
+pub map_none : {A B : Type 0} (f : A → B) (a : Option A) → option_map f a ≡ None → a ≡ None
 map_none f None none = refl
 map_none {A} {B} f (Some x) none = let wrong : Some (f x) ≡ None = none in absurd (cc)
 
@@ -270,8 +254,8 @@ are_cut parts short =
     record {
       few = omega (arith, sum, fits, short);
       apart = placed_apart frame_width 16 texts;
-      near = All-weaker (IsBetween 16 (2 ^ 32)) EndsNear (λ f between. between.1) (in_row 16 texts)
-          (row_between 16 (2 ^ 32) texts (omega (arith, fits, short)));
+      near = All-weaker (IsBetween frame_width 16 (16 + sum_by frame_width texts)) EndsNear
+          (λ f between. let to = between.1 in omega (arith, fits, short, to)) (in_row 16 texts) (placed_within frame_width 16 texts);
     }
 
 -- ---- what the frames of the parts are

@@ -22,6 +22,9 @@ use Rattle.claim_board.specs.declared.run.Stop.TheVariants.{Least, Memory as NoM
 use Rattle.audit_join.specs.Jobs.{EndsNear, AreCut, AreJobPieces, first_place, job_of, start_of}
 use Rattle.audit_join.specs.Pieces.{all_frames, ArePieces}
 use Rattle.audit_join.specs.Judged.{IsLeastOf}
+use Rattle.capture_frame.proofs.Pairs.{pairs_head}
+use Rattle.audit_findings.proofs.Rising.{pairs_before}
+use Rattle.audit_join.proofs.CutLaws.{map_none}
 use Rattle.audit_join.proofs.FaultLaws.{first_append, first_by}
 
 -- ---- the pieces of cut frames
@@ -71,38 +74,26 @@ job_pieces n frames pieces are cut =
 
 -- ---- the jobs are as the board asks
 
-head_apart : (frame : PlacedFrame) (frames : List PlacedFrame) → AllPairs AreApart (frame ∷ frames) → All (AreApart frame) frames
-head_apart frame frames apart = λ k d within. apart 0 (suc k) d (omega arith) (omega (arith, within))
-
--- frames end before those after them begin
-ends_below : (piece : List PlacedFrame) (next : PlacedFrame) (others : List PlacedFrame) → AllPairs AreApart (piece ++ next ∷ others)
-    → All (λ (f : PlacedFrame). AreApart f next) piece
-ends_below [] next others apart = All-nil (λ (f : PlacedFrame). AreApart f next)
-ends_below (f ∷ piece) next others apart =
-    let after = (all_halves (AreApart f) piece (next ∷ others) (head_apart f (piece ++ next ∷ others) apart)).1 in
-    All-cons (λ (g : PlacedFrame). AreApart g next) f piece (All-head (AreApart f) next others after)
-    (ends_below piece next others (pairs_halves AreApart (f ∷ []) (piece ++ next ∷ others) apart).1)
-
 from_start : (piece : List PlacedFrame) → AllPairs AreApart piece → IfSome (first_place piece) (λ x. start_of piece ≤ x)
 from_start [] apart = tt
 from_start (f ∷ piece) apart =
     let Here : PlacedFrame → Type 0 = λ g. (x : ℕ) → Holds x g → f.place ≤ x in
     first_by (λ x. f.place ≤ x) (f ∷ piece)
     (All-cons Here f piece (λ x held. held.0)
-    (All-weaker (AreApart f) Here (λ g apart x held. let from = held.0 in omega (arith, apart, from)) piece (head_apart f piece apart)))
+    (All-weaker (AreApart f) Here (λ g apart x held. let from = held.0 in omega (arith, apart, from)) piece (pairs_head AreApart f piece apart)))
 
 before_next : (piece : List PlacedFrame) (next : PlacedFrame) (others : List PlacedFrame) → AllPairs AreApart (piece ++ next ∷ others)
     → IfSome (first_place piece) (λ x. x < next.place)
 before_next piece next others apart =
     first_by (λ x. x < next.place) piece
     (All-weaker (λ (f : PlacedFrame). AreApart f next) (λ (f : PlacedFrame). (x : ℕ) → Holds x f → x < next.place)
-    (λ f apart x held. let to = held.1 in omega (arith, apart, to)) piece (ends_below piece next others apart))
+    (λ f apart x held. let to = held.1 in omega (arith, apart, to)) piece (pairs_before AreApart piece next others apart))
 
 starts_before : (piece : List PlacedFrame) (next : PlacedFrame) (others : List PlacedFrame) → IsSome piece → AllPairs AreApart (piece ++ next ∷ others)
     → start_of piece < next.place
 starts_before [] next others some apart = absurd (omega (arith, some))
 starts_before (f ∷ piece) next others some apart =
-    let far = All-head (λ (g : PlacedFrame). AreApart g next) f piece (ends_below (f ∷ piece) next others apart) in
+    let far = All-head (λ (g : PlacedFrame). AreApart g next) f piece (pairs_before AreApart (f ∷ piece) next others apart) in
     omega (arith, far)
 
 -- a job ends before the next one begins
@@ -152,10 +143,6 @@ shared_jobs pieces can apart =
 
 -- ---- what comes of them
 
-place_none : (a : Option Fault) → option_map (λ (fault : Fault). fault.place) a ≡ None → a ≡ None
-place_none None none = refl
-place_none (Some x) none = let wrong : Some x.place ≡ None = none in absurd (cc)
-
 after_sound : (piece others : List PlacedFrame) → first_content_fault piece ≡ None → first_content_fault (piece ++ others) ≡ first_content_fault others
 after_sound piece others none =
     first_append piece others ∙ ap (λ (o : Option Fault). option_or o (first_content_fault others)) none
@@ -165,7 +152,8 @@ pub shared_sound : (pieces : List (List PlacedFrame)) → AreFaultless (map job_
 shared_sound [] none = refl
 shared_sound (piece ∷ pieces) none =
     let NoFault : Job → Type 0 = λ j. j.fault ≡ None in
-    after_sound piece (all_frames pieces) (place_none (first_content_fault piece) (All-head NoFault (job_of piece) (map job_of pieces) none))
+    after_sound piece (all_frames pieces)
+    (map_none (λ (fault : Fault). fault.place) (first_content_fault piece) (All-head NoFault (job_of piece) (map job_of pieces) none))
     ∙ shared_sound pieces (All-tail NoFault (job_of piece) (map job_of pieces) none)
 
 -- the least fault of the jobs is the first fault of the frames
@@ -225,7 +213,8 @@ by_fault : (piece others : List PlacedFrame) (jobs : List Job) (x : ℕ) (fault 
     → AreJobs (job_of piece ∷ jobs) → IsLeastFault (job_of piece ∷ jobs) x → (IsLeastFault jobs x → first_place others ≡ Some x)
     → first_place (piece ++ others) ≡ Some x
 by_fault piece others jobs x None at are least later =
-    ap (option_map (λ (found : Fault). found.place)) (after_sound piece others (place_none (first_content_fault piece) at))
+    ap (option_map (λ (found : Fault). found.place))
+    (after_sound piece others (map_none (λ (fault : Fault). fault.place) (first_content_fault piece) at))
     ∙ later (least_later (job_of piece) jobs x least.found.0 least.found.1 at least.found.2 least.found.3 least.least)
 by_fault piece others jobs x (Some y) at are least later =
     let same = least_here (job_of piece) jobs x y least.found.0 least.found.1 are at least.found.2 least.found.3 (least.least 0 (job_of piece) y refl at) in

@@ -5,12 +5,12 @@ use Rattle.summary_law.specs.Fed.{SumsPicked}
 use Rattle.summary_law.specs.Summary.{CanAdd, Adds, CanJoin, Joins}
 
 module _ {E I : Type 0} (picks : E → Option I) where
-  after_some : (things : List E) (thing : E) (item : I) → picks thing ≡ Some item → filter_map picks (things ++ thing ∷ []) ≡ filter_map picks things ++ item ∷ []
+  pub after_some : (things : List E) (thing : E) (item : I) → picks thing ≡ Some item → filter_map picks (things ++ thing ∷ []) ≡ filter_map picks things ++ item ∷ []
   after_some things thing item is =
       let one : filter_map picks (thing ∷ []) ≡ item ∷ [] = rw is refl in
       filter_map-append picks things (thing ∷ []) ∙ ap (λ (t : List I). filter_map picks things ++ t) one
 
-  after_none : (things : List E) (thing : E) → picks thing ≡ None → filter_map picks (things ++ thing ∷ []) ≡ filter_map picks things
+  pub after_none : (things : List E) (thing : E) → picks thing ≡ None → filter_map picks (things ++ thing ∷ []) ≡ filter_map picks things
   after_none things thing is =
       let none : filter_map picks (thing ∷ []) ≡ [] = rw is refl in
       filter_map-append picks things (thing ∷ []) ∙ ap (λ (t : List I). filter_map picks things ++ t) none ∙ append-nil (filter_map picks things)

@@ -106,6 +106,11 @@ module _ {X Y : Type 0} (read : List X → X → List X → Option Y) where
 pub chosen-is : {X : Type 0} (test : List X → X → List X → Bool) (b : List X) (x : X) (l : List X) (y : X) → chosen test b x l ≡ Some y → y ≡ x
 chosen-is test b x l y is = sym (cond_some (test b x l) x y is).1
 
+-- a reading that looks at each element by itself
+pub read-plain : {X Y : Type 0} (read : X → Option Y) (before xs : List X) → filter_map read xs ≡ read_each (λ b x l. read x) before xs
+read-plain read before [] = refl
+read-plain read before (x ∷ later) = ap (cons_option (read x)) (read-plain read (before ++ x ∷ []) later)
+
 -- a reading that does not see what comes before reads the same whatever that is
 pub read-blind : {X Y : Type 0} (read : List X → X → List X → Option Y) → ((b c : List X) (x : X) (l : List X) → read b x l ≡ read c x l)
     → (before other xs : List X) → read_each read before xs ≡ read_each read other xs

@@ -9,8 +9,8 @@ use Rattle.audit_findings.specs.InTurn.{rows_in}
 use Rattle.audit_findings.specs.References.{references}
 use Rattle.audit_findings.specs.declared.in_turn.ProcessRow.{ProcessRow}
 use Rattle.audit_findings.proofs.HandleRows.{ListOfRows, joined_next, joined_to}
-use Rattle.std.proofs.lemmas.List.Folds.{flat_map-map}
 use Rattle.audit_findings.proofs.handles.handles_of.Goals as goal
+use Rattle.std.proofs.lemmas.List.Folds.{flat_map-map}
 
 pub loop-list-init : goal.loop-list-init
 loop-list-init c = c.new-rows.ensures.items
@@ -30,4 +30,4 @@ returns c frames listed =
     ∙ ap (references is_unbalanced_handle)
     (c.loop-list.invariant ∙ ap (λ ls. flat_map (λ list. list) (map items ls)) whole
     ∙ ap (λ (ls : List (List (ProcessRow HeldRow))). flat_map (λ list. list) ls) listed
-    ∙ flat_map-map (λ (own : List (ProcessRow HeldRow)). own) (rows_in (handles_in (events_of_frames frames))) (processes_of frames))
+    ∙ flat_map-map (λ own. own) (rows_in (handles_in (events_of_frames frames))) (processes_of frames))

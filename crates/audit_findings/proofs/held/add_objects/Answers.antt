@@ -5,9 +5,10 @@ use Rattle.object_view.specs.Reading.{object_text}
 use Rattle.object_view.proofs.ObjectLaws.{objects_short}
 use Rattle.audit_findings.specs.Held.{reference_of, unweighed}
 use Rattle.audit_findings.specs.HeldCounts.{CountsMore}
-use Rattle.audit_findings.proofs.HeldLaws.{counts_last, counts_none, gives_no_last, room_for_last}
+use Rattle.audit_findings.proofs.HeldLaws.{counts_last, counts_none, room_for_last}
 use Rattle.audit_findings.proofs.ObjectWalk.{objects_end, room_for_one, is_at_start, has_given_next}
 use Rattle.audit_findings.proofs.held.add_objects.Goals as goal
+use Rattle.summary_law.proofs.FedLaws.{after_none}
 
 pub loop-next-init : goal.loop-next-init
 loop-next-init c = (
@@ -57,7 +58,7 @@ loop-next-preserved c =
       i.0 ++ o ∷ [],
       has_given_next (objects_of c.args.entry.body.now list) c.loop-next.objects i.0 i.1 o c.next_object.new.self steps.1,
       subst (λ more. CountsMore c.args.held.now (length list) more c.loop-next.held)
-          (sym (gives_no_last i.0 o (sym c.held_step.ensures ∙ c.in_default-held_step.is))) i.2,
+          (sym (after_none reference_of i.0 o (sym c.held_step.ensures ∙ c.in_default-held_step.is))) i.2,
     )
 
 pub returns-in-Err : goal.returns-in-Err

@@ -1,1 +1,0 @@
-use Rattle.audit_join.proofs.audits.judge_parts.Goals as goal
