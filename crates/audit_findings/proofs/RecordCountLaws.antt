@@ -2,6 +2,9 @@
 use Rattle.std.proofs.Common.{◌≡◌, ◌≢◌, ℕ, ◌+◌, ◌<◌, ◌≤◌, inl, inr, cond, eqb, List, [], ◌∷◌, length, count_by, ap, arith}
 use Rattle.std.proofs.lemmas.Bool.{cases_eq, eq-eqb, ne_eqb}
 use Rattle.std.proofs.lemmas.List.Sums.{sum_by-cons}
+use Rattle.binder_code.specs.Commands.{command_lines, return_lines}
+use Rattle.binder_code.specs.declared.record_kind.Kind.TheVariants.{BrTransaction, BrTransactionSecCtx, BrReply}
+use Rattle.audit_findings.specs.RecordCounts.{times}
 
 abbrev one_if : ℕ → ℕ → ℕ
 one_if key word = cond (eqb word key) 1 0
@@ -43,7 +46,7 @@ module _ (a b d : ℕ) (low : a < b) (high : b < d) where
   ]
 
   -- three different words together are in a list no more often than it is long
-  pub three_counts : (words : List ℕ)
+  three_counts : (words : List ℕ)
       → count_by (λ w. eqb w a) words + count_by (λ w. eqb w b) words + count_by (λ w. eqb w d) words ≤ length words
   three_counts [] = omega arith
   three_counts (word ∷ words) =
@@ -53,3 +56,11 @@ module _ (a b d : ℕ) (low : a < b) (high : b < d) where
       let one = at_most_one word in
       let others = three_counts words in
       omega (arith, first, second, third, one, others)
+
+-- three kinds have three different words
+pub deliveries_fit : (words : List ℕ) → times BrTransaction words + times BrTransactionSecCtx words + times BrReply words ≤ length words
+unfolding command_lines return_lines
+deliveries_fit words =
+    let all : times BrTransaction words + times BrReply words + times BrTransactionSecCtx words ≤ length words
+    = three_counts 0x80407202 0x80407203 0x80487202 (omega arith) (omega arith) words in
+    omega (arith, all)

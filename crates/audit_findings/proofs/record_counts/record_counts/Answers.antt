@@ -4,7 +4,7 @@ use Rattle.binder_code.specs.declared.record_kind.Kind.TheVariants.{BrTransactio
 use Rattle.event_core.specs.Events.{EventRead}
 use Rattle.audit_findings.specs.Codes.{code_words}
 use Rattle.audit_findings.specs.RecordCounts.{times}
-use Rattle.audit_findings.proofs.RecordCountLaws.{three_counts}
+use Rattle.audit_findings.proofs.RecordCountLaws.{deliveries_fit}
 use Rattle.audit_findings.proofs.record_counts.record_counts.Goals as goal
 
 pub overflow_add-result : goal.overflow_add-result
@@ -12,7 +12,7 @@ overflow_add-result c =
     let words = code_words c.requires.0 in
     let one : c.count.result ≡ times BrTransaction words = c.count.ensures words c.requires.1 in
     let two : c.count-2.result ≡ times BrTransactionSecCtx words = c.count-2.ensures words c.requires.1 in
-    let all = three_counts 0x80407202 0x80407203 0x80487202 (omega arith) (omega arith) words in
+    let all = deliveries_fit words in
     let long : length words ≡ length c.requires.0 = length-map c.requires.0 (λ (e : EventRead). e.code) in
     let few = c.requires.2 in
     omega (arith, one, two, all, long, few)
@@ -23,7 +23,7 @@ overflow_add-result-2 c =
     let one : c.count.result ≡ times BrTransaction words = c.count.ensures words c.requires.1 in
     let two : c.count-2.result ≡ times BrTransactionSecCtx words = c.count-2.ensures words c.requires.1 in
     let three : c.count-3.result ≡ times BrReply words = c.count-3.ensures words c.requires.1 in
-    let all = three_counts 0x80407202 0x80407203 0x80487202 (omega arith) (omega arith) words in
+    let all = deliveries_fit words in
     let long : length words ≡ length c.requires.0 = length-map c.requires.0 (λ (e : EventRead). e.code) in
     let few = c.requires.2 in
     omega (arith, one, two, three, all, long, few)
