@@ -2,6 +2,7 @@
 use Rattle.std.proofs.Common.{◌≡◌, ℕ, ◌+◌, ◌<◌, ◌^◌, Bool, true, cond, not, List, [], ◌∷◌, length, map, filter, Option, Some, None, inl, inr, refl, ap, ◌∙◌, arith}
 use Rattle.std.specs.Prelude.{count_by}
 use Rattle.std.proofs.lemmas.List.{length-map}
+use Rattle.std.proofs.lemmas.List.Recursion.{is_count_by}
 use Rattle.std.proofs.lemmas.List.Sums.{count_by-le-length, length-filter, sum_by-cons}
 use Rattle.call_stacks.specs.Calls.{Bracketed, bracket_read, how_many, opener_by, with_verdict}
 use Rattle.call_stacks.specs.Verdicts.{is_answered, is_crossed, is_failed, is_open, is_replied, lacks_reply, verdict_of}
@@ -72,20 +73,13 @@ counts_add {X} first second both (x ∷ xs) each =
     let c = sum_by-cons (λ (x : X). one (both x)) x xs in
     omega (arith, here, rest, a, b, c)
 
-count_all : {X : Type 0} (xs : List X) → count_by (λ x. true) xs ≡ length xs
-count_all [] = refl
-count_all {X} (x ∷ xs) =
-    let rest = count_all xs in
-    let whole = sum_by-cons (λ (x : X). one true) x xs in
-    omega (arith, rest, whole)
-
 module _ (replied first second : Verdict → Bool) (told : List (Opener EventRead))
     (each : (o : Opener EventRead) → In o told → Told replied first second o.verdict) where
   all_listed : length told ≡ how_many replied told + length (with_verdict lacks_reply told)
   all_listed =
       let kept = length-filter (λ (o : Opener EventRead). lacks_reply o.verdict) told in
       let all = counts_add (λ (o : Opener EventRead). replied o.verdict) (λ o. lacks_reply o.verdict) (λ o. true) told (λ o there. (each o there).all) in
-      let number = count_all told in
+      let number = is_count_by length (λ (o : Opener EventRead). true) refl (λ o os. omega arith) told in
       omega (arith, kept, all, number)
 
   all_counted : length told ≡ how_many replied told + how_many first told + how_many second told

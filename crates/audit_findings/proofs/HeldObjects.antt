@@ -3,8 +3,8 @@ use Rattle.std.proofs.Common.{◌≡◌, ℕ, ◌+◌, Bool, true, false, cond, 
 use Rattle.std.specs.List.{cons_option}
 use Rattle.std.specs.Option.{option_map_or}
 use Rattle.std.specs.Ordering.{bool_cmp, eq_by_cmp, is_eq, nat_cmp}
+use Rattle.std.proofs.Math.Bool.{and-false, and-true}
 use Rattle.std.specs.Prelude.{count_by}
-use Rattle.std.proofs.lemmas.Bool.{and_right}
 use Rattle.std.proofs.lemmas.List.Sums.{sum_by-cons}
 use Rattle.capture_frame.specs.Envelope.{number_at}
 use Rattle.capture_frame.specs.declared.process.Process.{Process}
@@ -25,7 +25,7 @@ use Rattle.audit_findings.proofs.CodeLaws.{same_key}
 use Rattle.audit_findings.proofs.HandleRows.{is_among, listed_again}
 use Rattle.audit_findings.proofs.KeyRows.{count_read}
 use Rattle.audit_findings.proofs.NodeValues.{both_equal}
-use Rattle.audit_findings.proofs.Outstanding.{among_leaked, with_true}
+use Rattle.audit_findings.proofs.Outstanding.{among_leaked}
 
 -- ---- the tally of references without a weight
 
@@ -80,14 +80,14 @@ both_strengths handle (r ∷ held) =
 
 strong_object : (handle : ℕ) (sort : Sort) (bytes : List ℕ)
     → option_map_or (is_to handle false) (held_of sort bytes) false ≡ (same_sort sort Handle && eqb (number_at 4 8 bytes) handle)
-strong_object handle Handle bytes = with_true (eqb (number_at 4 8 bytes) handle)
-strong_object handle WeakHandle bytes = and_right (eqb (number_at 4 8 bytes) handle) false refl
+strong_object handle Handle bytes = and-true (eqb (number_at 4 8 bytes) handle)
+strong_object handle WeakHandle bytes = and-false (eqb (number_at 4 8 bytes) handle)
 strong_object handle _ bytes = refl
 
 weak_object : (handle : ℕ) (sort : Sort) (bytes : List ℕ)
     → option_map_or (is_to handle true) (held_of sort bytes) false ≡ (same_sort sort WeakHandle && eqb (number_at 4 8 bytes) handle)
-weak_object handle Handle bytes = and_right (eqb (number_at 4 8 bytes) handle) false refl
-weak_object handle WeakHandle bytes = with_true (eqb (number_at 4 8 bytes) handle)
+weak_object handle Handle bytes = and-false (eqb (number_at 4 8 bytes) handle)
+weak_object handle WeakHandle bytes = and-true (eqb (number_at 4 8 bytes) handle)
 weak_object handle _ bytes = refl
 
 -- ---- the objects of outstanding deliveries

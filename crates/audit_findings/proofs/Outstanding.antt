@@ -115,10 +115,6 @@ not_below m n more = elim (cases_Bool (nat_lt m n)) [
   | inr fails ↦ fails
 ]
 
-pub with_true : (a : Bool) → (a && true) ≡ a
-with_true true = refl
-with_true false = refl
-
 module _ (events : List EventRead) (rise : RiseInPlace events) (process : Process) where
   abbrev in_process : EventRead → Bool
   in_process x = same_process process (process_of x)

@@ -16,8 +16,9 @@ use Rattle.audit_findings.specs.Objects.{objects_in, bad_of, bad_objects}
 use Rattle.audit_findings.specs.Places.{RiseInPlace}
 use Rattle.audit_findings.specs.declared.objects.BadRow.{BadRow}
 use Rattle.capture_frame.proofs.ReadOnLaws.{placed_apart}
+use Rattle.summary_law.proofs.ReadLaws.{rising_read}
 use Rattle.audit_findings.proofs.FrameLaws.{frames_rise}
-use Rattle.audit_findings.proofs.Rising.{rising_made, rising_kept, increasing_places}
+use Rattle.audit_findings.proofs.Rising.{rising_kept, increasing_places}
 
 -- the frames of a capture are apart
 pub joined_apart : (frames : List FrameText) → AllPairs AreApart (joined_frames frames)
@@ -46,6 +47,6 @@ objects_rise parts frames is =
     let events = events_of_frames frames in
     let place : BadRow EventRead → ℕ = λ b. b.owner.place in
     increasing_places place (bad_objects events)
-    (rising_made (λ (e : EventRead). e.place) place bad_of
+    (rising_read bad_of place (λ (e : EventRead). e.place)
     (λ e b made. made_there place (λ (x : BadObject). record { owner = e; bad = x }) e.place (λ x. refl) (objects_in e).bad b made)
     events (events_rise parts frames is))

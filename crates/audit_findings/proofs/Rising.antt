@@ -1,14 +1,13 @@
 -- Lists whose places rise: what is read from them, what is kept of them, and such lists joined.
-use Rattle.std.proofs.Common.{◌≡◌, ℕ, ◌+◌, ◌<◌, Bool, List, [], ◌∷◌, ◌++◌, map, Option, Some, sym, subst, get_or, arith}
+use Rattle.std.proofs.Common.{ℕ, ◌+◌, ◌<◌, Bool, List, [], ◌∷◌, ◌++◌, map, sym, subst, get_or, arith}
 use Rattle.std.specs.Prelude.{All, AllPairs, filter}
-use Rattle.std.specs.List.{flat_map, filter_map}
+use Rattle.std.specs.List.{flat_map}
 use Rattle.std.specs.List.Sorted.{IsStrictlyIncreasing}
 use Rattle.std.proofs.lemmas.List.Concat.{flat_map-cons}
 use Rattle.std.proofs.lemmas.List.Elements.{All-append, All-cons, All-head, All-nil, All-tail}
 use Rattle.std.proofs.lemmas.List.Kept.{AllPairs-filter}
 use Rattle.capture_frame.proofs.Pairs.{pairs_append, pairs_head, pairs_map, pairs_nil, pairs_tail}
 use Rattle.summary_law.specs.Fits.{PlacesRise, all_halves}
-use Rattle.summary_law.proofs.ReadLaws.{rising_read}
 
 -- ---- each element, and every later one
 
@@ -43,12 +42,7 @@ pairs_flat R of (x ∷ xs) each between =
 
 -- ---- places
 
--- if the places of things rise, so do those of what is read of them, where each keeps the place of its thing
-pub rising_made : {E I : Type 0} (place : E → ℕ) (place_of : I → ℕ) (read : E → Option I) → ((e : E) (i : I) → read e ≡ Some i → place_of i ≡ place e)
-    → (things : List E) → PlacesRise place things → PlacesRise place_of (filter_map read things)
-rising_made place place_of read keeps things rise = rising_read read place_of place keeps things rise
-
--- and so do those that pass a test
+-- if the places of things rise, so do those of the things that pass a test
 pub rising_kept : {E : Type 0} (place : E → ℕ) (test : E → Bool) (things : List E) → PlacesRise place things → PlacesRise place (filter test things)
 rising_kept place test things rise = AllPairs-filter (λ a b. place a < place b) test things rise
 

@@ -1,8 +1,8 @@
 -- What is fed of few events can be summed under their threads.
-use Rattle.std.proofs.Common.{◌≡◌, ◌<◌, ◌≤◌, Bool, true, false, cond, List, [], ◌∷◌, ◌++◌, length, map, filter, ap, subst, ◌∙◌, arith}
+use Rattle.std.proofs.Common.{◌≡◌, ◌<◌, Bool, true, false, cond, List, [], ◌∷◌, ◌++◌, map, filter, ap, subst, ◌∙◌, arith}
 use Rattle.std.proofs.lemmas.List.{length-map, map-append}
-use Rattle.std.proofs.lemmas.List.Elements.{filter-append}
 use Rattle.std.proofs.lemmas.List.Sums.{count_by-le-length, length-filter}
+use Rattle.std.proofs.lemmas.List.Elements.{filter-append}
 use Rattle.call_stacks.specs.Calls.{event_place, CallsSum, event_reads}
 use Rattle.call_stacks.specs.declared.call_record.CallEvent.{CallEvent}
 use Rattle.call_stacks.specs.declared.calls.Calls.{Calls}
@@ -27,24 +27,17 @@ FitThreads fed = EachFits same_thread (IsPlaced event_place) fed
 abbrev pub SumsFedCalls : List (Thread × Calls CallEvent) → List (Thread × CallEvent) → Type 0
 SumsFedCalls entries fed = SumsInOrder same_thread (CallsSum event_reads false) entries fed
 
-pub filter_short : {X : Type 0} (test : X → Bool) (xs : List X) → length (filter test xs) ≤ length xs
-filter_short test xs =
-    let kept = length-filter test xs in
-    let most = count_by-le-length test xs in
-    omega (arith, kept, most)
-
 pub fit_calls : (events : List EventRead) → IsPlaced (λ (e : EventRead). e.place) events → FitThreads (fed_calls events)
 fit_calls events placed key =
     let marked = filter leaves_mark events in
     let fed = fed_calls events in
-    let fewer = filter_short leaves_mark events in
     let long = length-map marked fed_call in
     let read = length-read (under same_thread key) fed in
     let short = placed.0 in
     let rise : PlacesRise (λ (e : Thread × CallEvent). e.1.place) fed
     = pairs_map (λ (a b : Thread × CallEvent). a.1.place < b.1.place) fed_call marked
     (rising_kept (λ (e : EventRead). e.place) leaves_mark events placed.1) in
-    (omega (arith, fewer, long, read, short), items_rise same_thread key event_place fed rise)
+    (omega (arith, length-filter leaves_mark events, count_by-le-length leaves_mark events, long, read, short), items_rise same_thread key event_place fed rise)
 
 -- what is fed of one list followed by another
 pub fed_after : (first second : List EventRead) → fed_calls (first ++ second) ≡ fed_calls first ++ fed_calls second

@@ -10,7 +10,7 @@ use Rattle.std.proofs.lemmas.List.{length-map}
 use Rattle.std.proofs.lemmas.List.Concat.{flat_map-cons}
 use Rattle.std.proofs.lemmas.List.Elements.{All-head, All-tail, All-weaker}
 use Rattle.std.proofs.lemmas.List.Sorted.{sum_by-IsPermutation}
-use Rattle.std.proofs.lemmas.List.Sums.{count_by-le-length, sum_by-append, sum_by-cons}
+use Rattle.std.proofs.lemmas.List.Sums.{count_by-le-length, length-filter, sum_by-append, sum_by-cons}
 use Rattle.std.proofs.lemmas.Simd.{map-map}
 use Rattle.std.proofs.lemmas.Option.{cond_some, option_and_then_some}
 use Rattle.capture_frame.proofs.ProcessLaws.{same_thread_equiv}
@@ -54,7 +54,6 @@ use Rattle.summary_law.proofs.FilterLaws.{filter-map, filter_swap}
 use Rattle.audit_findings.proofs.Kept.{kept_count, kept_in}
 use Rattle.capture_frame.proofs.Pairs.{pairs_map}
 use Rattle.audit_findings.proofs.Rising.{rising_kept}
-use Rattle.audit_findings.proofs.ThreadFits.{filter_short}
 
 abbrev Entry : Type 0
 Entry = Thread × Calls CallEvent
@@ -139,11 +138,10 @@ calls_fed key (e ∷ events) =
 placed_texts : (key : Thread) (events : List EventRead) → IsPlaced place_of_event events → IsPlaced event_place (map text_call (events_in_thread key events))
 placed_texts key events placed =
     let own = events_in_thread key events in
-    let fewer = filter_short (λ (e : EventRead). same_thread key (thread_of e)) events in
-    let long = length-map own text_call in
+    let own_thread = λ (e : EventRead). same_thread key (thread_of e) in
     let short = placed.0 in (
-      omega (arith, fewer, long, short),
-      pairs_map (λ (a b : CallEvent). a.place < b.place) text_call own (rising_kept place_of_event (λ (e : EventRead). same_thread key (thread_of e)) events placed.1),
+      omega (arith, length-filter own_thread events, count_by-le-length own_thread events, length-map own text_call, short),
+      pairs_map (λ (a b : CallEvent). a.place < b.place) text_call own (rising_kept place_of_event own_thread events placed.1),
     )
 
 -- both forms of an event read the same
