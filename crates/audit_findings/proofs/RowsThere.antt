@@ -138,20 +138,20 @@ is_of_clear BcClearDeathNotification = true
 is_of_clear BrClearDeathNotificationDone = true
 is_of_clear _ = false
 
-delivered : (place : ℕ) (kind : Kind) (payload : List ℕ) (item : ℕ × KeyEvent) → option_map buffer_pending (buffer_item place kind payload) ≡ Some item
-    → item.1.change ≡ Open → has_transaction_data kind ≡ true
-delivered place BrTransaction payload item is opens = refl
-delivered place BrTransactionSecCtx payload item is opens = refl
-delivered place BrReply payload item is opens = refl
-delivered place BcFreeBuffer payload item is opens = let none : ⊥ = cc in absurd none
-delivered place _ payload item is opens = let none : ⊥ = cc in absurd none
-
 -- an open is no close
 no_close : (made item : ℕ × KeyEvent) → Some made ≡ Some item → made.1.change ≡ Open → item.1.change ≡ Close → ⊥
 no_close made item is opens shut =
     let same : made ≡ item = cc in
     let both : Open ≡ Close = sym opens ∙ ap (λ (i : ℕ × KeyEvent). i.1.change) same ∙ shut in
     cc
+
+delivered : (place : ℕ) (kind : Kind) (payload : List ℕ) (item : ℕ × KeyEvent) → option_map buffer_pending (buffer_item place kind payload) ≡ Some item
+    → item.1.change ≡ Open → has_transaction_data kind ≡ true
+delivered place BrTransaction payload item is opens = refl
+delivered place BrTransactionSecCtx payload item is opens = refl
+delivered place BrReply payload item is opens = refl
+delivered place BcFreeBuffer payload item is opens = absurd (no_close item _ (sym is) opens refl)
+delivered place _ payload item is opens = let none : ⊥ = cc in absurd none
 
 freed : (place : ℕ) (kind : Kind) (payload : List ℕ) (item : ℕ × KeyEvent) → option_map buffer_pending (buffer_item place kind payload) ≡ Some item
     → item.1.change ≡ Close → is_free kind ≡ true

@@ -2,10 +2,12 @@
 
 use crate::paired::OpensAndCloses;
 use pending_ledger::Pending;
-use process_ledgers::{BufferItems, ProcessLedgers};
+use process_ledgers::ProcessLedgers;
 
 /// Deliveries, which open their buffer's address, and frees, which close it.
-impl OpensAndCloses for BufferItems<'_> {
+pub(crate) struct BufferPairs;
+
+impl OpensAndCloses for BufferPairs {
     ghost use Rattle.process_ledgers.specs.Items.{buffer_pending_of};
     ghost use Rattle.process_ledgers.proofs.ItemPlaces.{pending_keeps};
 

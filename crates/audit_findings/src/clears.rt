@@ -2,10 +2,12 @@
 
 use crate::paired::OpensAndCloses;
 use pending_ledger::Pending;
-use process_ledgers::{ClearItems, ProcessLedgers};
+use process_ledgers::ProcessLedgers;
 
 /// Clears, which open their cookie, and confirmations, which close it.
-impl OpensAndCloses for ClearItems<'_> {
+pub(crate) struct ClearPairs;
+
+impl OpensAndCloses for ClearPairs {
     ghost use Rattle.process_ledgers.specs.Items.{clear_item_of};
     ghost use Rattle.process_ledgers.proofs.ItemPlaces.{clear_keeps};
 

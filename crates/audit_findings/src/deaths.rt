@@ -2,10 +2,12 @@
 
 use crate::paired::OpensAndCloses;
 use pending_ledger::Pending;
-use process_ledgers::{DeathItems, ProcessLedgers};
+use process_ledgers::ProcessLedgers;
 
 /// Deaths, which open their cookie, and acknowledgements, which close it.
-impl OpensAndCloses for DeathItems<'_> {
+pub(crate) struct DeathPairs;
+
+impl OpensAndCloses for DeathPairs {
     ghost use Rattle.process_ledgers.specs.Items.{death_item_of};
     ghost use Rattle.process_ledgers.proofs.ItemPlaces.{death_keeps};
 

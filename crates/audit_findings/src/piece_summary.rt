@@ -6,6 +6,7 @@ ghost use Rattle.capture_frame.specs.Envelope.{PlacedFrame};
 ghost use Rattle.audit_findings.specs.Frames.{AreGoodFrames, good_views_halves};
 ghost use Rattle.audit_findings.specs.Summary.{SumsPiece, GivesHandlesAt, GivesUnfreed, GiveSectionsOf, process_count};
 
+use crate::buffers::BufferPairs;
 use crate::findings::Sections;
 use crate::handles::listed_handles;
 use crate::in_turn::ProcessRow;
@@ -14,7 +15,7 @@ use crate::paired::Unclosed;
 use crate::places::lists_of;
 use capture_frame::{Frame, FrameSlice};
 use handle_ledger::HeldRow;
-use process_ledgers::{BufferItems, ProcessLedgers};
+use process_ledgers::ProcessLedgers;
 use std::alloc::{AllocError, Global};
 use std::marker::PhantomData;
 use summary_law::Summary;
@@ -43,7 +44,7 @@ impl<'c> PieceSummary<'c> {
             (λ lists. GivesUnfreed self.now (map (λ list. list.items) lists.items)) }
     {
         let none = ProcessLedgers::empty(self.alloc);
-        lists_of::<Unclosed<BufferItems<'_>>>(self.alloc, self.ledgers.processes(&none))
+        lists_of::<Unclosed<BufferPairs>>(self.alloc, self.ledgers.processes(&none))
     }
 
     /// The rows of handles of the process with this number, from 0 in the order of first frames.

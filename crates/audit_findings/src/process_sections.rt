@@ -10,6 +10,9 @@ ghost use Rattle.audit_findings.specs.Ledgers.{AreListedHandles, AreUnfreed};
 ghost use Rattle.audit_findings.specs.Places.{RiseInPlace};
 
 use crate::both::both;
+use crate::buffers::BufferPairs;
+use crate::clears::ClearPairs;
+use crate::deaths::DeathPairs;
 use crate::handles::handles_of;
 use crate::in_turn::ProcessRow;
 use crate::nodes::nodes_of;
@@ -21,7 +24,7 @@ use crate::references::References;
 use crate::requests::Standing;
 use crate::rows::Rows;
 use handle_ledger::{HeldRow, NodeRow};
-use process_ledgers::{BufferItems, ClearItems, DeathItems, Processes};
+use process_ledgers::Processes;
 use std::alloc::{AllocError, Global};
 
 /// What the report says of each process: the sections from `handles` to `clears`, and the rows of
@@ -65,12 +68,12 @@ impl ProcessSections<u64> {
     {
         let references = both(handles_of(alloc, handles), nodes_of(alloc, processes));
         let buffers = both(
-            gathered::<Unclosed<BufferItems<'_>>>(alloc, unfreed),
-            places_of::<Strays<BufferItems<'_>>>(alloc, processes),
+            gathered::<Unclosed<BufferPairs>>(alloc, unfreed),
+            places_of::<Strays<BufferPairs>>(alloc, processes),
         );
         let pairs = both(
-            open_and_stray_of::<DeathItems<'_>>(alloc, processes),
-            open_and_stray_of::<ClearItems<'_>>(alloc, processes),
+            open_and_stray_of::<DeathPairs>(alloc, processes),
+            open_and_stray_of::<ClearPairs>(alloc, processes),
         );
         let others = both(
             places_of::<Standing>(alloc, processes),

@@ -7,10 +7,9 @@ use Rattle.std.proofs.lemmas.List.Folds.{find-append}
 use Rattle.std.proofs.lemmas.Option.{cond_some, same_Some}
 use Rattle.std.specs.List.{cons_option, find}
 use Rattle.std.specs.Option.{is_none, option_map, option_or}
-use Rattle.event_core.specs.declared.pending.PendingItem.{PendingItem}
 use Rattle.pending_ledger.specs.Pending.{closes, is_close, place_of}
 use Rattle.summary_law.specs.Readings.{read_each}
-use Rattle.record_tables.specs.Buffers.{Address, same_address, delivery_at, free_at, FreedDelivery, first_free, delivery_read, BufferRow, row_of_delivery, is_held_at, last_held_from, last_held, AreEarlier}
+use Rattle.record_tables.specs.Buffers.{Address, AddressEvent, same_address, delivery_at, free_at, FreedDelivery, first_free, delivery_read, BufferRow, row_of_delivery, is_held_at, last_held_from, last_held, AreEarlier}
 
 -- ---- addresses
 
@@ -67,11 +66,11 @@ set_same (y ∷ xs) (suc i) x e = ap (λ zs. y ∷ zs) (set_same xs i x e)
 -- ---- one more delivery, and one more free
 
 -- a delivery, and what frees it
-abbrev found_as : PendingItem Address → Option ℕ → FreedDelivery
+abbrev found_as : AddressEvent → Option ℕ → FreedDelivery
 found_as item freed = record { delivery = item; freed = freed }
 
 -- what is read of an item
-abbrev read_as : Bool → PendingItem Address → Option ℕ → Option FreedDelivery
+abbrev read_as : Bool → AddressEvent → Option ℕ → Option FreedDelivery
 read_as closes item freed = cond closes None (Some (found_as item freed))
 
 abbrev put_first : Option FreedDelivery → List FreedDelivery → List FreedDelivery
@@ -85,7 +84,7 @@ module _ (address : Address) (place : ℕ) where
   abbrev pub new_delivery : FreedDelivery
   new_delivery = record { delivery = delivery_at address place; freed = None }
 
-  not_freed : (other : Address) (items : List (PendingItem Address))
+  not_freed : (other : Address) (items : List AddressEvent)
       → first_free other (items ++ delivery_at address place ∷ []) ≡ first_free other items
   not_freed other items =
       let found = find (closes same_address other) items in
@@ -94,45 +93,45 @@ module _ (address : Address) (place : ℕ) where
       ∙ ap (λ (b : Bool). option_or found (cond b (Some (delivery_at address place)) None)) (and_right (same_address other address) false refl)
       ∙ or_none found)
 
-  pub one_delivery : (before items : List (PendingItem Address))
+  pub one_delivery : (before items : List AddressEvent)
       → read_each delivery_read before (items ++ delivery_at address place ∷ []) ≡ read_each delivery_read before items ++ new_delivery ∷ []
   one_delivery before [] = refl
   one_delivery before (x ∷ items) =
       let next = before ++ x ∷ [] in
-      ap₂ put_first (ap (read_as (is_close x.change) x) (not_freed x.key items))
+      ap₂ put_first (ap (read_as (is_close x.1.change) x) (not_freed x.0 items))
       (one_delivery next items)
       ∙ cons-append (delivery_read before x items) (read_each delivery_read next items) (new_delivery ∷ [])
 
-  maybe_freed : (found : Option (PendingItem Address)) (b : Bool)
+  maybe_freed : (found : Option AddressEvent) (b : Bool)
       → option_map place_of (option_or found (cond (b && true) (Some (free_at address place)) None))
       ≡ option_or (option_map place_of found) (cond b (Some place) None)
   maybe_freed None true = refl
   maybe_freed None false = refl
   maybe_freed (Some x) b = refl
 
-  one_freed : (x : PendingItem Address) (free : Option ℕ) (b : Bool)
+  one_freed : (x : AddressEvent) (free : Option ℕ) (b : Bool)
       → found_as x (option_or free (cond b (Some place) None)) ≡ cond (b && is_none free) (found_as x (Some place)) (found_as x free)
   one_freed x None true = refl
   one_freed x None false = refl
   one_freed x (Some q) true = refl
   one_freed x (Some q) false = refl
 
-  pub one_free : (before items : List (PendingItem Address))
+  pub one_free : (before items : List AddressEvent)
       → read_each delivery_read before (items ++ free_at address place ∷ []) ≡ map freed_by (read_each delivery_read before items)
   one_free before [] = refl
   one_free before (x ∷ items) =
       let next = before ++ x ∷ [] in
       let later = read_each delivery_read next items in
-      let found = find (closes same_address x.key) items in
-      let free : first_free x.key (items ++ free_at address place ∷ [])
-      ≡ option_or (first_free x.key items) (cond (same_address x.key address) (Some place) None)
-      = ap (option_map place_of) (find-append (closes same_address x.key) items (free_at address place ∷ []))
-      ∙ maybe_freed found (same_address x.key address) in
-      let here : found_as x (first_free x.key (items ++ free_at address place ∷ [])) ≡ freed_by (found_as x (first_free x.key items))
-      = ap (found_as x) free ∙ one_freed x (first_free x.key items) (same_address x.key address) in
-      elim (is_close x.change) as (λ b.
-      put_first (read_as b x (first_free x.key (items ++ free_at address place ∷ []))) (read_each delivery_read next (items ++ free_at address place ∷ []))
-      ≡ map freed_by (put_first (read_as b x (first_free x.key items)) later)) [
+      let found = find (closes same_address x.0) items in
+      let free : first_free x.0 (items ++ free_at address place ∷ [])
+      ≡ option_or (first_free x.0 items) (cond (same_address x.0 address) (Some place) None)
+      = ap (option_map place_of) (find-append (closes same_address x.0) items (free_at address place ∷ []))
+      ∙ maybe_freed found (same_address x.0 address) in
+      let here : found_as x (first_free x.0 (items ++ free_at address place ∷ [])) ≡ freed_by (found_as x (first_free x.0 items))
+      = ap (found_as x) free ∙ one_freed x (first_free x.0 items) (same_address x.0 address) in
+      elim (is_close x.1.change) as (λ b.
+      put_first (read_as b x (first_free x.0 (items ++ free_at address place ∷ []))) (read_each delivery_read next (items ++ free_at address place ∷ []))
+      ≡ map freed_by (put_first (read_as b x (first_free x.0 items)) later)) [
         | true ↦ one_free next items
         | false ↦ ap₂ (λ (d : FreedDelivery) (ds : List FreedDelivery). d ∷ ds) here (one_free next items)
       ]
@@ -155,16 +154,16 @@ module _ (address : Address) (place : ℕ) where
 
   held_here : (d : FreedDelivery) (b : Bool) → is_held_at address d ≡ b
       → is_held_at address (cond b (record d { freed = Some place }) d) ≡ false
-  held_here d true e = and_right (same_address d.delivery.key address) false refl
+  held_here d true e = and_right (same_address d.delivery.0 address) false refl
   held_here d false e = e
 
   held_else : (q : Address) (d : FreedDelivery) → same_address address q ≡ false → (b : Bool) → is_held_at address d ≡ b
       → is_held_at q (cond b (record d { freed = Some place }) d) ≡ is_held_at q d
   held_else q d apart true e =
-      let same : d.delivery.key ≡ address
-      = same_is d.delivery.key address ((and_parts (same_address d.delivery.key address) (is_none d.freed) e).0) in
-      let other : same_address d.delivery.key q ≡ false = subst (λ (a : Address). same_address a q ≡ false) (sym same) apart in
-      and_left (same_address d.delivery.key q) false other ∙ sym (and_left (same_address d.delivery.key q) (is_none d.freed) other)
+      let same : d.delivery.0 ≡ address
+      = same_is d.delivery.0 address ((and_parts (same_address d.delivery.0 address) (is_none d.freed) e).0) in
+      let other : same_address d.delivery.0 q ≡ false = subst (λ (a : Address). same_address a q ≡ false) (sym same) apart in
+      and_left (same_address d.delivery.0 q) false other ∙ sym (and_left (same_address d.delivery.0 q) (is_none d.freed) other)
   held_else q d apart false e = refl
 
   last_here : (n : ℕ) (ds : List FreedDelivery) → last_held_from n address (map freed_by ds) ≡ None
@@ -191,25 +190,25 @@ module _ (address : Address) (place : ℕ) where
   -- ---- the one before at the same address
 
   pub earlier-more : (before : List FreedDelivery) (indices : List (Option ℕ)) (ds : List FreedDelivery) (index : Option ℕ) (d : FreedDelivery)
-      → AreEarlier before indices ds → (d.freed ≡ None → index ≡ last_held d.delivery.key (before ++ ds))
+      → AreEarlier before indices ds → (d.freed ≡ None → index ≡ last_held d.delivery.0 (before ++ ds))
       → AreEarlier before (indices ++ index ∷ []) (ds ++ d ∷ [])
   earlier-more before [] [] index d all is =
-      ((λ none. is none ∙ ap (last_held d.delivery.key) (append-nil before)), tt)
+      ((λ none. is none ∙ ap (last_held d.delivery.0) (append-nil before)), tt)
   earlier-more before (i ∷ indices) (x ∷ ds) index d all is = (
     all.0,
     earlier-more (before ++ x ∷ []) indices ds index d all.1
-        (λ none. is none ∙ ap (last_held d.delivery.key) (sym (append_assoc before (x ∷ []) ds))),
+        (λ none. is none ∙ ap (last_held d.delivery.0) (sym (append_assoc before (x ∷ []) ds))),
   )
   earlier-more before [] (x ∷ ds) index d all is = absurd all
   earlier-more before (i ∷ indices) [] index d all is = absurd all
 
   still_first : (before : List FreedDelivery) (index : Option ℕ) (d : FreedDelivery)
-      → (d.freed ≡ None → index ≡ last_held d.delivery.key before) → (b : Bool) → is_held_at address d ≡ b
+      → (d.freed ≡ None → index ≡ last_held d.delivery.0 before) → (b : Bool) → is_held_at address d ≡ b
       → (cond b (record d { freed = Some place }) d).freed ≡ None
-      → index ≡ last_held (cond b (record d { freed = Some place }) d).delivery.key (map freed_by before)
+      → index ≡ last_held (cond b (record d { freed = Some place }) d).delivery.0 (map freed_by before)
   still_first before index d is true e none = absurd cc
   still_first before index d is false e none =
-      let key = d.delivery.key in
+      let key = d.delivery.0 in
       let unfreed : is_none d.freed ≡ true = ap is_none none in
       let apart : same_address key address ≡ false
       = false_from_ne_true (same_address key address)
@@ -230,14 +229,14 @@ module _ (address : Address) (place : ℕ) where
 
   pub earlier-at : (before : List FreedDelivery) (indices : List (Option ℕ)) (front : List FreedDelivery) (d : FreedDelivery) (back : List FreedDelivery)
       (index : Option ℕ) → AreEarlier before indices (front ++ d ∷ back) → slice_get indices (length front) ≡ Some index → d.freed ≡ None
-      → index ≡ last_held d.delivery.key (before ++ front)
+      → index ≡ last_held d.delivery.0 (before ++ front)
   earlier-at before [] [] d back index all e none = absurd all
   earlier-at before (i ∷ indices) [] d back index all e none =
-      same_Some index i (sym e) ∙ all.0 none ∙ ap (last_held d.delivery.key) (sym (append-nil before))
+      same_Some index i (sym e) ∙ all.0 none ∙ ap (last_held d.delivery.0) (sym (append-nil before))
   earlier-at before [] (x ∷ front) d back index all e none = absurd all
   earlier-at before (i ∷ indices) (x ∷ front) d back index all e none =
       earlier-at (before ++ x ∷ []) indices front d back index all.1 e none
-      ∙ ap (last_held d.delivery.key) (append_assoc before (x ∷ []) front)
+      ∙ ap (last_held d.delivery.0) (append_assoc before (x ∷ []) front)
 
   -- ---- freeing one after another, from the last one on
 
@@ -348,8 +347,8 @@ module _ (address : Address) (place : ℕ) where
       = cond-true (is_held_at address last) (record last { freed = Some place }) last there.held in
       let new_is : new_row ≡ row_of_delivery (freed_by last)
       = ap (λ (r : BufferRow). record r { freed = Some place }) row_last ∙ ap row_of_delivery (sym freed_last) in
-      let parts = and_parts (same_address last.delivery.key address) (is_none last.freed) there.held in
-      let key_is : last.delivery.key ≡ address = same_is last.delivery.key address parts.0 in
+      let parts = and_parts (same_address last.delivery.0 address) (is_none last.freed) there.held in
+      let key_is : last.delivery.0 ≡ address = same_is last.delivery.0 address parts.0 in
       let next : index ≡ last_held address front
       = earlier-at [] indices front last rest index (subst (AreEarlier [] indices) whole earlier)
       (ap (slice_get indices) (sym at) ∙ index_is) (none_is last.freed parts.1)

@@ -4,9 +4,8 @@ use Rattle.std.proofs.Common.{List, [], ◌∷◌, ◌++◌, length, map, set, s
 use Rattle.std.proofs.lemmas.List.{length-map, map-append}
 use Rattle.std.proofs.lemmas.Option.{slice_get-map, slice_get_cases}
 use Rattle.std.specs.Option.{option_map, option_or}
-use Rattle.event_core.specs.declared.pending.PendingItem.{PendingItem}
 use Rattle.indexmap.specs.IndexMap.{get}
-use Rattle.record_tables.specs.Buffers.{Address, same_address, delivery_at, free_at, FreedDelivery, deliveries_of, BufferRow, row_of_delivery, row_of_buffer, last_held, AreEarlier, earlier_of, BuffersSum, Frees}
+use Rattle.record_tables.specs.Buffers.{Address, AddressEvent, same_address, delivery_at, free_at, FreedDelivery, deliveries_of, BufferRow, row_of_delivery, row_of_buffer, last_held, AreEarlier, earlier_of, BuffersSum, Frees}
 use Rattle.record_tables.specs.declared.buffers.Buffer.{Buffer}
 use Rattle.record_tables.specs.declared.buffers.Buffers.{Buffers}
 use Rattle.record_tables.proofs.BufferLaws.{all_so_far, earlier-freed, earlier-more, freed_by, FreesSoFar, last-freed, last-more, new_delivery, none_so_far, one_delivery, one_free, one_so_far}
@@ -18,7 +17,7 @@ abbrev indices_in : Buffers → List (Option ℕ)
 indices_in buffers = map earlier_of buffers.list.all.items
 
 -- there is a buffer for each delivery
-as_many : (buffers : Buffers) (items : List (PendingItem Address)) → BuffersSum buffers items
+as_many : (buffers : Buffers) (items : List AddressEvent) → BuffersSum buffers items
     → length buffers.list.all.items ≡ length (deliveries_of items)
 as_many buffers items sums =
     sym (length-map buffers.list.all.items row_of_buffer) ∙ ap length sums.rows ∙ length-map (deliveries_of items) row_of_delivery
@@ -32,7 +31,7 @@ module _ (address : Address) (place : ℕ) where
       → row_of_buffer buffer ≡ row_of_delivery (new_delivery address place) → buffer.earlier ≡ get same_address old.latest address
       → index ≡ length old.list.all.items
       → ((q : Address) → get same_address new.latest q ≡ cond (same_address address q) (Some index) (get same_address old.latest q))
-      → (items : List (PendingItem Address)) → BuffersSum old items → BuffersSum new (items ++ delivery_at address place ∷ [])
+      → (items : List AddressEvent) → BuffersSum old items → BuffersSum new (items ++ delivery_at address place ∷ [])
   one_more_buffer old new buffer index pushed row earlier at latest items sums =
       let ds = deliveries_of items in
       let d = new_delivery address place in
@@ -55,7 +54,7 @@ module _ (address : Address) (place : ℕ) where
   -- after so many turns of the free `next` is still to be freed, and what is before it
   pub record FreeTurns (initial now : Buffers) (next : Option ℕ) (turns : ℕ) : Type 0 where
     pub latest : (q : Address) → get same_address now.latest q ≡ cond (same_address address q) None (get same_address initial.latest q)
-    pub so : (items : List (PendingItem Address)) → BuffersSum initial items
+    pub so : (items : List AddressEvent) → BuffersSum initial items
         → FreesSoFar address place (deliveries_of items) (rows_in now) next turns × (indices_in now ≡ indices_in initial)
 
   pub no_turn : (initial now : Buffers) (next : Option ℕ) → next ≡ get same_address initial.latest address → now.list ≡ initial.list
@@ -99,7 +98,7 @@ module _ (address : Address) (place : ℕ) where
 
   pub all_turns : (initial now : Buffers) (next : Option ℕ) (turns : ℕ) → FreeTurns initial now next turns
       → (next ≡ None) ⊎ (length initial.list.all.items ≤ turns)
-      → (items : List (PendingItem Address)) → BuffersSum initial items → BuffersSum now (items ++ free_at address place ∷ [])
+      → (items : List AddressEvent) → BuffersSum initial items → BuffersSum now (items ++ free_at address place ∷ [])
   all_turns initial now next turns turned ended items sums =
       let ds = deliveries_of items in
       let here = turned.so items sums in

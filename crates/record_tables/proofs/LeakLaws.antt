@@ -2,10 +2,9 @@
 use Rattle.std.proofs.Common.{◌≡◌, ◌&&◌, ◌||◌, not, Bool, true, false, cond, Option, Some, None, refl, sym, ap, ◌∙◌, List, [], ◌∷◌, ◌++◌, map}
 use Rattle.std.specs.List.{cons_option, filter, find, list_any}
 use Rattle.std.specs.Option.{is_none, option_map}
-use Rattle.event_core.specs.declared.pending.PendingItem.{PendingItem}
 use Rattle.pending_ledger.specs.Pending.{closes, is_close, is_unclosed_item, place_of}
 use Rattle.summary_law.specs.Readings.{chosen, read_each}
-use Rattle.record_tables.specs.Buffers.{Address, same_address, FreedDelivery, delivery_place, delivery_read, first_free, is_leaked}
+use Rattle.record_tables.specs.Buffers.{Address, AddressEvent, same_address, FreedDelivery, delivery_place, delivery_read, first_free, is_leaked}
 
 none_found : {X Y : Type 0} (made : X → Y) (test : X → Bool) (xs : List X) → is_none (option_map made (find test xs)) ≡ not (list_any test xs)
 none_found made test [] = refl
@@ -15,12 +14,12 @@ none_found made test (x ∷ xs) =
       | false ↦ none_found made test xs
     ]
 
-one_leaked : (b : Bool) (d : FreedDelivery) (ds : List FreedDelivery) (rest : List (PendingItem Address)) → map delivery_place (filter is_leaked ds) ≡ map place_of rest
+one_leaked : (b : Bool) (d : FreedDelivery) (ds : List FreedDelivery) (rest : List AddressEvent) → map delivery_place (filter is_leaked ds) ≡ map place_of rest
     → is_leaked d ≡ b → map delivery_place (cond b (d ∷ filter is_leaked ds) (filter is_leaked ds)) ≡ map place_of (cons_option (cond b (Some d.delivery) None) rest)
-one_leaked true d ds rest same e = ap (λ l. d.delivery.place ∷ l) same
+one_leaked true d ds rest same e = ap (λ l. place_of d.delivery ∷ l) same
 one_leaked false d ds rest same e = same
 
-pub leaked : (before items : List (PendingItem Address))
+pub leaked : (before items : List AddressEvent)
     → map delivery_place (filter is_leaked (read_each delivery_read before items))
     ≡ map place_of (read_each (chosen (is_unclosed_item same_address)) before items)
 leaked before [] = refl
@@ -28,10 +27,10 @@ leaked before (x ∷ items) =
     let next = before ++ x ∷ [] in
     let ds = read_each delivery_read next items in
     let rest = read_each (chosen (is_unclosed_item same_address)) next items in
-    let d : FreedDelivery = record { delivery = x; freed = first_free x.key items } in
-    let test = not (list_any (closes same_address x.key) items) in
-    let is : is_leaked d ≡ test = none_found place_of (closes same_address x.key) items in
-    elim (is_close x.change) as (λ b.
+    let d : FreedDelivery = record { delivery = x; freed = first_free x.0 items } in
+    let test = not (list_any (closes same_address x.0) items) in
+    let is : is_leaked d ≡ test = none_found place_of (closes same_address x.0) items in
+    elim (is_close x.1.change) as (λ b.
     map delivery_place (filter is_leaked (cons_option (cond b None (Some d)) ds)) ≡ map place_of (cons_option (cond (not b && test) (Some x) None) rest)) [
       | true ↦ leaked next items
       | false ↦

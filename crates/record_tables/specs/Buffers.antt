@@ -3,7 +3,7 @@
 use Rattle.std.specs.Prelude.{◌≡◌, ℕ, ◌+◌, ◌==◌, ◌&&◌, if◌then◌else◌, Bool, Option, Some, None, is_none, option_map}
 use Rattle.std.specs.Prelude.{List, [], ◌∷◌, ◌++◌, map, find, slice_get, slice_set}
 use Rattle.std.specs.Option.{option_or}
-use Rattle.event_core.specs.declared.pending.PendingItem.{PendingItem}
+use Rattle.event_core.specs.declared.pending.KeyEvent.{KeyEvent}
 use Rattle.event_core.specs.declared.pending.PendingChange.TheVariants.{Open, Close}
 use Rattle.indexmap.specs.IndexMap.{get}
 use Rattle.pending_ledger.specs.Pending.{closes, is_close, place_of}
@@ -15,39 +15,43 @@ use Rattle.record_tables.specs.declared.buffers.Buffers.{Buffers}
 abbrev pub Address : Type 0
 Address = ℕ × ℕ
 
+-- a delivery or a free: the address that it opens or closes, and by which record
+abbrev pub AddressEvent : Type 0
+AddressEvent = Address × KeyEvent
+
 -- whether two addresses are the same one of the same process
 abbrev pub same_address : Address → Address → Bool
 same_address a b = (a.0 == b.0) && (a.1 == b.1)
 
 -- a delivery at an address, by the record at this place
-abbrev pub delivery_at : Address → ℕ → PendingItem Address
-delivery_at address place = record { place = place; key = address; change = Open }
+abbrev pub delivery_at : Address → ℕ → AddressEvent
+delivery_at address place = (address, record { place = place; change = Open })
 
 -- a free of an address, by the record at this place
-abbrev pub free_at : Address → ℕ → PendingItem Address
-free_at address place = record { place = place; key = address; change = Close }
+abbrev pub free_at : Address → ℕ → AddressEvent
+free_at address place = (address, record { place = place; change = Close })
 
 -- a delivery, and the place of the record that frees its buffer, if one does
 pub record FreedDelivery : Type 0 where
-  pub delivery : PendingItem Address
+  pub delivery : AddressEvent
   pub freed : Option ℕ
 
 -- the place of the first of these records that frees the address
-abbrev pub first_free : Address → List (PendingItem Address) → Option ℕ
+abbrev pub first_free : Address → List AddressEvent → Option ℕ
 first_free address later = option_map place_of (find (closes same_address address) later)
 
 -- a delivery with the first later record that frees its address; nothing of a free
-abbrev pub delivery_read : List (PendingItem Address) → PendingItem Address → List (PendingItem Address) → Option FreedDelivery
+abbrev pub delivery_read : List AddressEvent → AddressEvent → List AddressEvent → Option FreedDelivery
 delivery_read before item later =
-    if is_close item.change then None else Some (record { delivery = item; freed = first_free item.key later })
+    if is_close item.1.change then None else Some (record { delivery = item; freed = first_free item.0 later })
 
 -- the deliveries among these deliveries and frees, each with the record that frees it
-abbrev pub deliveries_of : List (PendingItem Address) → List FreedDelivery
+abbrev pub deliveries_of : List AddressEvent → List FreedDelivery
 deliveries_of items = read_all delivery_read items
 
 -- where a delivery is
 abbrev pub delivery_place : FreedDelivery → ℕ
-delivery_place found = found.delivery.place
+delivery_place found = place_of found.delivery
 
 -- whether no record frees it
 abbrev pub is_leaked : FreedDelivery → Bool
@@ -75,7 +79,7 @@ pub record AreBufferColumns (buffer : Buffer) (columns : List (Option ℕ)) : Ty
 
 -- whether a delivery is at this address and nothing frees it
 abbrev pub is_held_at : Address → FreedDelivery → Bool
-is_held_at address found = same_address found.delivery.key address && is_leaked found
+is_held_at address found = same_address found.delivery.0 address && is_leaked found
 
 -- the index of the last delivery that is held at this address, where the first one has the index n
 abbrev pub last_held_from : ℕ → Address → List FreedDelivery → Option ℕ
@@ -92,7 +96,7 @@ last_held address deliveries = last_held_from 0 address deliveries
 abbrev pub AreEarlier : List FreedDelivery → List (Option ℕ) → List FreedDelivery → Type 0
 AreEarlier before [] [] = Unit {0}
 AreEarlier before (index ∷ indices) (found ∷ later) =
-    (found.freed ≡ None → index ≡ last_held found.delivery.key before) × AreEarlier (before ++ found ∷ []) indices later
+    (found.freed ≡ None → index ≡ last_held found.delivery.0 before) × AreEarlier (before ++ found ∷ []) indices later
 AreEarlier before [] (found ∷ later) = ⊥
 AreEarlier before (index ∷ indices) [] = ⊥
 
@@ -102,15 +106,15 @@ earlier_of buffer = buffer.earlier
 
 -- the value has a buffer for each delivery among these deliveries and frees, with the record that frees it, and finds
 -- those that are held at an address
-pub record BuffersSum (buffers : Buffers) (items : List (PendingItem Address)) : Type 0 where
+pub record BuffersSum (buffers : Buffers) (items : List AddressEvent) : Type 0 where
   pub rows : map row_of_buffer buffers.list.all.items ≡ map row_of_delivery (deliveries_of items)
   pub latest : (address : Address) → get same_address buffers.latest address ≡ last_held address (deliveries_of items)
   pub earlier : AreEarlier [] (map earlier_of buffers.list.all.items) (deliveries_of items)
 
 -- whatever deliveries and frees the old value has the buffers of, the new one has those of these with this one after them
-abbrev pub SumsOneMore : Buffers → PendingItem Address → Buffers → Type 0
+abbrev pub SumsOneMore : Buffers → AddressEvent → Buffers → Type 0
 SumsOneMore old item new =
-    (items : List (PendingItem Address)) → BuffersSum old items → BuffersSum new (items ++ item ∷ [])
+    (items : List AddressEvent) → BuffersSum old items → BuffersSum new (items ++ item ∷ [])
 
 -- the buffer at this index is freed by the record at this place, and the index of the one before it is given
 pub record Frees (old : Buffers) (index place : ℕ) (new : Buffers) (given : Option ℕ) : Type 0 where

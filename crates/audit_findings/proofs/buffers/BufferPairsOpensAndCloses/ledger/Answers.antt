@@ -5,7 +5,7 @@ use Rattle.pending_ledger.specs.Sums.{PendingSums}
 use Rattle.process_ledgers.specs.Items.{buffer_item_of}
 use Rattle.process_ledgers.specs.Processes.{events_in, items_of_process}
 use Rattle.audit_findings.proofs.EventLists.{items_made}
-use Rattle.audit_findings.proofs.buffers.BufferItemsOpensAndCloses.ledger.Goals as goal
+use Rattle.audit_findings.proofs.buffers.BufferPairsOpensAndCloses.ledger.Goals as goal
 
 pub returns : goal.returns
 returns c events process of =
