@@ -1,6 +1,6 @@
 use Rattle.std.specs.Prelude.{◌≡◌, ℕ, ◌+◌, ◌*◌, ◌^◌, ◌==◌, ◌&&◌, Bool, true, false, if◌then◌else◌, List, [], ◌∷◌, ◌++◌, Option, Some, None, Result, Ok, Err, IsSomeAnd, find, map, option_map, codes}
 use Rattle.std.specs.List.{list_any}
-use Rattle.std.specs.Option.{option_map_or}
+use Rattle.std.specs.Option.{option_map_or, unwrap_or}
 use Rattle.binder_code.specs.Code.{number, letter, size, direction}
 use Rattle.binder_code.specs.contracts.record_kind.Kind.{the_type}
 use Rattle.binder_code.specs.declared.protocol.Protocol.{Protocol}
@@ -105,7 +105,7 @@ row_of kind = find (is_kind kind) lines
 
 -- a kind's name: the header's own (`linux/android/binder.h`), or `OPAQUE` for an opaque record
 abbrev pub name_of : Kind → List ℕ
-name_of kind = option_map_or (λ row. row.name) (row_of kind) (codes "OPAQUE")
+name_of kind = unwrap_or (option_map (λ row. row.name) (row_of kind)) (codes "OPAQUE")
 
 -- the letter of a protocol's codes, `c` or `r` (`linux/android/binder.h`)
 abbrev pub letter_of : Protocol → ℕ

@@ -1,4 +1,4 @@
--- The lines of the header's tables, as the code has them. No public clause but that of `Line::all` names these definitions.
+-- The lines of the header's tables, as the code has them. No public clause names these definitions.
 use Rattle.std.specs.Prelude.{ℕ, ◌==◌, ◌&&◌, Bool, List, Result, find, option_map}
 use Rattle.std.specs.List.{list_any}
 use Rattle.binder_code.specs.Code.{number, size}
@@ -7,13 +7,13 @@ use Rattle.binder_code.specs.declared.code.CodeFault.{CodeFault}
 use Rattle.binder_code.specs.declared.record_kind.Kind.{Kind}
 use Rattle.binder_code.specs.declared.record_kind.Line.{Line}
 
--- what a line of the code says
-abbrev pub said : Line → Kind × ℕ × List ℕ
-said line = (line.kind, line.word, line.name.now)
+-- a line's kind, and the number and the size that its code word has
+abbrev pub spelled : Line → Kind × ℕ × ℕ
+spelled line = (line.kind, number line.word, size line.word)
 
--- what it has to say for a line of the header
-abbrev pub asked : Row → Kind × ℕ × List ℕ
-asked row = (row.kind, row.word, row.name)
+-- what they have to be for a line of the header
+abbrev pub spelled_as : Row → Kind × ℕ × ℕ
+spelled_as row = (row.kind, row.number, row.size)
 
 -- whether the code word of a line has this number
 abbrev pub is_numbered : ℕ → Line → Bool

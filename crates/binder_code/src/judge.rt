@@ -1,12 +1,12 @@
-ghost use Rattle.std.specs.Prelude.{◌≡◌, ◌↔◌, map, IfSome, IsSome};
+ghost use Rattle.std.specs.Prelude.{◌≡◌, ◌↔◌, map, Ok, IfSome, IsSome};
 ghost use Rattle.binder_code.specs.Commands.{IsOfProtocol, HasCode, ListsCode, ListsNumber, row_of, lines_of, kind_of, listing_of, letter_of, is_of, payload_direction};
 ghost use Rattle.binder_code.specs.Code.{number, size};
-ghost use Rattle.binder_code.specs.Lines.{said, asked, is_numbered, is_sized, listing_in};
+ghost use Rattle.binder_code.specs.Lines.{spelled, spelled_as, is_numbered, is_sized, listing_in};
 ghost use Rattle.binder_code.specs.declared.record_kind.Kind.{Kind};
 
 use crate::code::{Code, CodeFault};
 use crate::protocol::Protocol;
-use crate::record_kind::{Kind, Line};
+use crate::record_kind::{Kind, LISTED, Line};
 
 // The letter of the protocol's codes.
 fn letter(protocol: Protocol) -> u8
@@ -43,11 +43,13 @@ fn is_of(protocol: Protocol, code: Code) -> bool
 // The lines of the protocol's table.
 #[inline(always)]
 fn lines(protocol: Protocol) -> &'static [Line]
-    ensures { map said result.now ≡ map asked (lines_of protocol) }
+    ensures meant { map (λ line. kind_of protocol line.word) result.now
+        ≡ map (λ line. Ok line.kind) result.now }
+    ensures spelled { map spelled result.now ≡ map spelled_as (lines_of protocol) }
 {
     match protocol {
-        Protocol::Command => &Line::all()[..COMMANDS],
-        Protocol::Return => &Line::all()[COMMANDS..],
+        Protocol::Command => &LISTED[..COMMANDS],
+        Protocol::Return => &LISTED[COMMANDS..],
     }
 }
 

@@ -72,7 +72,7 @@ macro_rules! table {
 
 // All lines, in the order of the kinds. The command or return with the number n is the line n of
 // its table, or the one after it, since two returns have the number 2.
-const LISTED: [Line; 41] = table! {
+pub(crate) const LISTED: [Line; 41] = table! {
     BcTransaction 0x40406300 "BC_TRANSACTION"
     BcReply 0x40406301 "BC_REPLY"
     BcAcquireResult 0x40046302 "BC_ACQUIRE_RESULT"
@@ -118,11 +118,12 @@ const LISTED: [Line; 41] = table! {
 
 impl Line {
     ghost use Rattle.binder_code.specs.Commands.{lines};
-    ghost use Rattle.binder_code.specs.Lines.{said, asked};
 
     /// The lines of all listed kinds, in the order of the kinds.
     pub fn all() -> &'static [Line]
-        ensures { map said result.now ≡ map asked lines }
+        ensures kinds { map (λ line. line.kind) result.now ≡ map (λ row. row.kind) lines }
+        ensures words { map (λ line. line.word) result.now ≡ map (λ row. row.word) lines }
+        ensures names { map (λ line. line.name.now) result.now ≡ map (λ row. row.name) lines }
     {
         &LISTED
     }
@@ -130,7 +131,6 @@ impl Line {
 
 impl Kind {
     ghost use Rattle.binder_code.specs.Commands.{lines, row_of, name_of};
-    ghost use Rattle.binder_code.specs.Lines.{said, asked};
 
     /// Where its line is among all lines; after them for a record that the header does not list.
     pub fn place(self) -> usize
@@ -141,7 +141,10 @@ impl Kind {
 
     // The line of a listed kind.
     fn line(self) -> Option<&'static Line>
-        ensures { option_map (λ line. said line.now) result ≡ option_map asked (row_of self) }
+        ensures word { option_map (λ line. line.now.word) result
+            ≡ option_map (λ row. row.word) (row_of self) }
+        ensures name { option_map (λ line. line.now.name.now) result
+            ≡ option_map (λ row. row.name) (row_of self) }
     {
         Line::all().get(self.place())
     }

@@ -5,4 +5,4 @@ use Rattle.binder_code.proofs.judge.listing.Goals as goal
 
 pub returns : goal.returns
 returns c =
-    c.listing_in.ensures ∙ listing_same c.args.protocol c.lines.result.now c.lines.ensures (number c.args.code.0) (size c.args.code.0)
+    c.listing_in.ensures ∙ listing_same c.args.protocol c.lines.result.now c.lines.ensures.spelled (number c.args.code.0) (size c.args.code.0)

@@ -1,13 +1,9 @@
-use Rattle.std.proofs.Common.{Some, None, sym, ap, ◌∙◌}
-use Rattle.std.specs.Prelude.{option_map}
-use Rattle.binder_code.specs.Commands.{row_of}
-use Rattle.binder_code.specs.Lines.{said}
-use Rattle.binder_code.proofs.LinesOfKinds.{name_said}
+use Rattle.std.proofs.Common.{sym, ap, ◌∙◌}
+use Rattle.std.specs.Prelude.{option_map, unwrap_or, codes}
 use Rattle.binder_code.proofs.record_kind.Kind.table_name.Goals as goal
 
 pub returns-in-Some : goal.returns-in-Some
-returns-in-Some c =
-    name_said (Some c.in-Some.line) (row_of c.args.self) (ap (option_map (λ x. said x.now)) (sym c.in-Some.is) ∙ c.line.ensures)
+returns-in-Some c = ap (λ name. unwrap_or name (codes "OPAQUE")) (ap (option_map (λ line. line.now.name.now)) (sym c.in-Some.is) ∙ c.line.ensures.name)
 
 pub returns-in-None : goal.returns-in-None
-returns-in-None c = name_said None (row_of c.args.self) (ap (option_map (λ x. said x.now)) (sym c.in-None.is) ∙ c.line.ensures)
+returns-in-None c = ap (λ name. unwrap_or name (codes "OPAQUE")) (ap (option_map (λ line. line.now.name.now)) (sym c.in-None.is) ∙ c.line.ensures.name)
