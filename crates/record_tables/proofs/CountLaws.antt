@@ -11,7 +11,6 @@ use Rattle.summary_law.specs.Count.{Change, raises, lowers, keeps, is_raise, is_
 use Rattle.summary_law.specs.declared.count.Count.{Count}
 use Rattle.event_core.specs.declared.handle.HandleChange.{HandleChange}
 use Rattle.event_core.specs.declared.handle.HandleChange.TheVariants.{Raise, Lower}
-use Rattle.event_core.specs.declared.handle.HandleItem.{HandleItem}
 use Rattle.event_core.specs.declared.strength.Strength.{Strength}
 use Rattle.event_core.specs.declared.strength.Strength.TheVariants.{Strong, Weak}
 use Rattle.handle_ledger.specs.Handles.{handle_change, handle_count_change}
@@ -130,7 +129,7 @@ lower_more old new change is raised lowered left changes few sum =
 
 -- ---- generations
 
-few_changes : (change : HandleItem → Change) (items : List HandleItem) (item : HandleItem) → AreFew (items ++ item ∷ [])
+few_changes : (change : Strength × HandleChange → Change) (items : List (Strength × HandleChange)) (item : Strength × HandleChange) → AreFew (items ++ item ∷ [])
     → AreFew (map change items ++ change item ∷ [])
 few_changes change items item few =
     let more = length-append items (item ∷ []) in
@@ -138,14 +137,14 @@ few_changes change items item few =
     let same = length-map items change in
     omega (arith, few, more, long, same)
 
-changes_more : (strength : Strength) (items : List HandleItem) (item : HandleItem)
+changes_more : (strength : Strength) (items : List (Strength × HandleChange)) (item : Strength × HandleChange)
     → map (handle_change strength) items ++ handle_change strength item ∷ [] ≡ map (handle_change strength) (items ++ item ∷ [])
 changes_more strength items item = sym (map-append (handle_change strength) items (item ∷ []))
 
 pub counts_strong : (old new : Generation) (change : HandleChange) → TakesOneMore old.strong (handle_count_change change) new.strong
     → new.weak ≡ old.weak → CountsEffect old (Takes Strong change) new
 counts_strong old new change taken same items few sums =
-    let item : HandleItem = record { handle = old.handle; strength = Strong; change = change } in
+    let item : Strength × HandleChange = (Strong, change) in
     record {
       strong = subst (TakenSum new.strong) (changes_more Strong items item)
           (taken (map (handle_change Strong) items) (few_changes (handle_change Strong) items item few) sums.strong);
@@ -156,7 +155,7 @@ counts_strong old new change taken same items few sums =
 pub counts_weak : (old new : Generation) (change : HandleChange) → TakesOneMore old.weak (handle_count_change change) new.weak
     → new.strong ≡ old.strong → CountsEffect old (Takes Weak change) new
 counts_weak old new change taken same items few sums =
-    let item : HandleItem = record { handle = old.handle; strength = Weak; change = change } in
+    let item : Strength × HandleChange = (Weak, change) in
     record {
       strong = subst (λ (t : Taken). TakenSum t (map (handle_change Strong) (items ++ item ∷ []))) (sym same)
           (subst (TakenSum old.strong) (changes_more Strong items item) (kept_taken old.strong (map (handle_change Strong) items) sums.strong));
@@ -165,7 +164,7 @@ counts_weak old new change taken same items few sums =
     }
 
 -- a generation with the same counts has those of the same items
-pub same_counts : (old new : Generation) (items : List HandleItem) → new.strong ≡ old.strong → new.weak ≡ old.weak
+pub same_counts : (old new : Generation) (items : List (Strength × HandleChange)) → new.strong ≡ old.strong → new.weak ≡ old.weak
     → GenerationSum old items → GenerationSum new items
 same_counts old new items strong weak sums = record {
   strong = subst (λ (t : Taken). TakenSum t (map (handle_change Strong) items)) (sym strong) sums.strong;

@@ -3,7 +3,6 @@ use Rattle.std.specs.Prelude.{◌≡◌, ◌≢◌, ℕ, ◌+◌, ◌<◌, ◌^�
 use Rattle.std.specs.Prelude.{List, [], ◌∷◌, ◌++◌, map, count_by, length}
 use Rattle.std.specs.Option.{option_to_list}
 use Rattle.event_core.specs.declared.handle.HandleChange.{HandleChange}
-use Rattle.event_core.specs.declared.handle.HandleItem.{HandleItem}
 use Rattle.event_core.specs.declared.strength.Strength.{Strength}
 use Rattle.event_core.specs.declared.strength.Strength.TheVariants.{Strong, Weak}
 use Rattle.handle_ledger.specs.Handles.{handle_change}
@@ -20,11 +19,9 @@ taken_by Names = None
 taken_by (Takes strength change) = Some (strength, change)
 taken_by (Holds strength) = None
 
--- the item of a handle's ledger that an effect is, if it changes a count
-abbrev pub items_by : ℕ → Effect → List HandleItem
-items_by handle Names = []
-items_by handle (Takes strength change) = record { handle = handle; strength = strength; change = change } ∷ []
-items_by handle (Holds strength) = []
+-- the change of a count that an effect is, if it is one
+abbrev pub counted_by : Effect → List (Strength × HandleChange)
+counted_by effect = option_to_list (taken_by effect)
 
 -- What these changes come to: how many raise the count, how many lower it, and what is left, which is the sum of the
 -- count less its low. So of changes that never go below 0, the low of which is 0, it is the sum.
@@ -44,16 +41,16 @@ abbrev pub TakesOneMore : Taken → Change → Taken → Type 0
 TakesOneMore old change new =
     (changes : List Change) → AreFew (changes ++ change ∷ []) → TakenSum old changes → TakenSum new (changes ++ change ∷ [])
 
--- the generation has the counts of these items, which all are of it
-pub record GenerationSum (generation : Generation) (items : List HandleItem) : Type 0 where
-  pub strong : TakenSum generation.strong (map (handle_change Strong) items)
-  pub weak : TakenSum generation.weak (map (handle_change Weak) items)
+-- the generation has the counts of these changes, which all are of it
+pub record GenerationSum (generation : Generation) (changes : List (Strength × HandleChange)) : Type 0 where
+  pub strong : TakenSum generation.strong (map (handle_change Strong) changes)
+  pub weak : TakenSum generation.weak (map (handle_change Weak) changes)
 
--- whatever items the generation has the counts of, it then has those of these with the item of this effect, if it is one
+-- whatever changes the generation has the counts of, it then has those of these with this effect after them
 abbrev pub CountsEffect : Generation → Effect → Generation → Type 0
 CountsEffect old effect new =
-    (items : List HandleItem) → AreFew (items ++ items_by old.handle effect) → GenerationSum old items
-    → GenerationSum new (items ++ items_by old.handle effect)
+    (changes : List (Strength × HandleChange)) → AreFew (changes ++ counted_by effect) → GenerationSum old changes
+    → GenerationSum new (changes ++ counted_by effect)
 
 -- nothing is left of a generation, neither what its process took nor what deliveries hold, and its handle is not 0
 pub record IsEmpty (generation : Generation) : Type 0 where

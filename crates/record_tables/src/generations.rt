@@ -263,8 +263,14 @@ impl Generations {
     ) -> Result<(u32, u32, u32), ListingError> {
         let latest = self.latest.get(&(upid, handle)).copied();
         let index = match latest {
-            Some(index) if !self.has_ended(index) || !effect.gives() => index,
-            _ => self.begin(upid, handle, latest, place)?,
+            None => self.begin(upid, handle, 1, place)?,
+            Some(index) => match self.list.get(index) {
+                Some(ended) if ended.end.is_some() && effect.gives() => {
+                    let number = ended.number.saturating_add(1);
+                    self.begin(upid, handle, number, place)?
+                }
+                _ => index,
+            },
         };
         let Some(generation) = self.list.get_mut(index) else {
             return Ok((index, 0, 0));
@@ -274,37 +280,18 @@ impl Generations {
         Ok((index, before, generation.strong.left))
     }
 
-    /// Begins a generation of a handle after its `latest` one, and returns the index.
+    /// Begins the generation of a handle that has this number there, and returns the index.
     fn begin(
         &mut self,
         upid: u32,
         handle: u32,
-        latest: Option<u32>,
+        number: u32,
         place: u32,
     ) -> Result<u32, ListingError> {
-        let number = self.number_of(latest).saturating_add(1);
         let generation = Generation::new(upid, handle, number, place);
         let index = self.list.push(generation)?;
         self.latest.insert((upid, handle), index)?;
         Ok(index)
-    }
-
-    /// The number of a generation among those of its handle; 0 if there is no generation.
-    fn number_of(&self, index: Option<u32>) -> u32 {
-        match index {
-            Some(index) => match self.list.get(index) {
-                Some(generation) => generation.number,
-                None => 0,
-            },
-            None => 0,
-        }
-    }
-
-    fn has_ended(&self, index: u32) -> bool {
-        match self.list.get(index) {
-            Some(generation) => generation.end.is_some(),
-            None => false,
-        }
     }
 
     /// Takes back a reference that a delivery held.
