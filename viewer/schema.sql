@@ -472,13 +472,16 @@ INSERT INTO about VALUES
   ('node_interface', 'inferred', 'the interface that most calls to a node name'),
   ('node_service', 'inferred', 'a node that is a service, and its name; rests_on says whether bytes say so'),
   ('listing', 'bytes', 'a line of ./listing'),
-  ('call', 'rule', 'a call, by the rules of REPORT.md, proved for the list of its thread; delivery is inferred'),
-  ('delivery', 'rule', 'a buffer that a process got, and the free that gave it back; send is inferred'),
+  ('call', 'rule', 'a call, by the rules of REPORT.md; place, closer and verdict are proved for the list of its thread;'
+    || ' delivery is inferred'),
+  ('delivery', 'rule', 'a buffer that a process got; place and freed_by, which gave it back, are proved for the list of'
+    || ' deliveries and frees; send is inferred'),
   ('reference', 'rule', 'a reference that is taken or let go, with the counts after it'),
   ('level', 'rule', 'what each process holds at most in each of 16 slices'),
   ('status', 'bytes', 'the number of a BR_REPLY with TF_STATUS_CODE'),
   ('report', 'proved', 'the report, row by row and word by word; section head has its heads'),
-  ('handle', 'inferred', 'a generation of a handle: a span in which it means one object, as its references tell'),
+  ('handle', 'inferred', 'a generation of a handle: a span in which it means one object, as its references tell;'
+    || ' acquired to decrefs, strong and weak are proved for the list of its records'),
   ('send', 'inferred', 'a transaction or reply that was sent, and what became of it'),
   ('who', 'side', 'the name and the number of a process'),
   ('peer', 'inferred', 'the nodes that a generation of a handle was seen to lead to'),
