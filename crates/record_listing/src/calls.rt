@@ -1,29 +1,30 @@
 //! Calls from their openers to their closers.
 
+ghost use Rattle.std.specs.Prelude.{OnOk};
+ghost use Rattle.record_listing.specs.Calls.{SaysClosed, FollowsOneMore};
+
+use call_stacks::{CallEvent, Calls};
 use capture_frame::{Frame, Thread};
-use event_core::{Bracket, Mark, bracket_of, mark_of};
-use record_fields::{Item, is_oneway, thread_of};
+use event_core::{Bracket, bracket_of};
+use record_fields::{is_oneway, thread_of};
 use record_view::Record;
+use std::alloc::{AllocError, Global};
+use summary_law::Summary;
 
 /// A call that is followed from its opener on.
-#[derive(Clone, Copy)]
+#[derive(Drop)]
 pub(crate) struct Followed {
     thread: Thread,
-    /// How many calls of the thread are open, counted from this one.
-    depth: u64,
-    last: Option<Mark>,
+    /// The calls of the thread from this one on.
+    calls: Calls<CallEvent>,
 }
 
 impl Followed {
-    /// The call that a record opens, if it opens one.
-    pub(crate) fn from(frame: Frame<'_>, record: Record<'_>) -> Option<Followed> {
-        match bracket_of(None, record.kind, is_oneway(record)) {
-            Bracket::Call | Bracket::Served => Some(Followed {
-                thread: thread_of(frame),
-                depth: 0,
-                last: None,
-            }),
-            _ => None,
+    /// The call that a record opens, before the record is followed.
+    pub(crate) fn new(alloc: Global, frame: Frame<'_>) -> Followed {
+        Followed {
+            thread: thread_of(frame),
+            calls: Calls::empty(alloc),
         }
     }
 
@@ -33,23 +34,33 @@ impl Followed {
     }
 
     /// Takes the next record of the thread.
-    pub(crate) fn follow(&mut self, item: Item<'_>) {
-        let kind = item.record.kind;
-        let oneway = is_oneway(item.record);
-        match bracket_of(self.last, kind, oneway) {
-            Bracket::Call | Bracket::Served => self.depth = self.depth.saturating_add(1),
-            Bracket::Reply | Bracket::Sent | Bracket::Error => {
-                self.depth = self.depth.saturating_sub(1);
-            }
-            Bracket::Refused | Bracket::Neither => {}
-        }
-        if let Some(mark) = mark_of(kind, oneway) {
-            self.last = Some(mark);
-        }
+    pub(crate) fn follow(&mut self, event: CallEvent) -> Result<(), AllocError>
+        ensures { OnOk result (FollowsOneMore self.old event self.new) }
+    {
+        self.calls.follow(event)
     }
 
-    /// Whether its closer has come.
-    pub(crate) fn is_closed(&self) -> bool {
-        self.depth == 0
+    /// Whether nothing that the thread opened from the call on is open.
+    pub(crate) fn is_closed(&self) -> bool
+        ensures { SaysClosed self.now result }
+    {
+        self.calls.open_calls().is_empty()
+    }
+}
+
+/// Whether a record opens a call.
+pub(crate) fn is_opener(event: CallEvent) -> bool {
+    matches!(
+        bracket_of(None, event.kind, event.oneway),
+        Bracket::Call | Bracket::Served
+    )
+}
+
+/// What a record is to the calls of its thread.
+pub(crate) fn event_of(record: Record<'_>) -> CallEvent {
+    CallEvent {
+        place: record.place,
+        kind: record.kind,
+        oneway: is_oneway(record),
     }
 }

@@ -3,7 +3,7 @@
 ghost use Rattle.std.specs.Prelude.{◌+◌, ◌<◌, ◌^◌, length};
 
 use crate::asked::{Asked, Form, Sought, covers};
-use crate::calls::Followed;
+use crate::calls::{Followed, event_of, is_opener};
 use crate::columns::push_columns;
 use crate::line::{push_counted, push_line};
 use crate::output::Output;
@@ -346,15 +346,15 @@ fn list_called<W: Write>(
 /// Whether a record belongs to a call that is looked for: it is the opener, the closer, or a record
 /// of the same thread between them.
 fn is_of_call(seen: &mut Seen, frame: Frame<'_>, item: Item<'_>) -> Result<bool, AllocError> {
-    if let Some(followed) = Followed::from(frame, item.record)
-        && take_covered(&mut seen.open, item)
-    {
-        seen.followed.push(followed)?;
+    let event = event_of(item.record);
+    if is_opener(event) && take_covered(&mut seen.open, item) {
+        let alloc = *seen.followed.allocator();
+        seen.followed.push(Followed::new(alloc, frame))?;
     }
     let mut is_of_one = false;
     for followed in seen.followed.iter_mut() {
         if followed.is_of(frame) {
-            followed.follow(item);
+            followed.follow(event)?;
             is_of_one = true;
         }
     }
