@@ -1,7 +1,7 @@
 //! Lists the records of a capture of Android Binder traffic.
 #![tactic(auto)]
 
-use record_listing::ended;
+use listing_lines::ended;
 use std::env;
 use std::process::ExitCode;
 

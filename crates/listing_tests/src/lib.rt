@@ -1,4 +1,4 @@
-//! Tests of `record_listing` that no run of the program can make: readers and writers that fail.
+//! Tests of `listing_lines` that no run of the program can make: readers and writers that fail.
 #![tactic(auto)]
 
 #[cfg(test)]

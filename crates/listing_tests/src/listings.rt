@@ -1,7 +1,7 @@
 //! Listings of parts by readers, to writers.
 
 use crate::devices::{Refusing, Source};
-use record_listing::{Asked, Form, ListingError, Sought, list_parts};
+use listing_lines::{Asked, Form, ListingError, Sought, list_parts};
 use std::alloc::{AllocError, Global};
 use std::io::{ErrorKind, Write};
 use std::process::Abort;

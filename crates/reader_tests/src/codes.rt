@@ -1,7 +1,9 @@
 //! Code words that the header's macros make, and words next to them.
 
 use crate::expect::{holds, same};
-use binder_code::{Code, CodeFault, Kind, Line, Protocol, TransactionFlags, kind, laws, unknown_bits};
+use binder_code::{
+    Code, CodeFault, Kind, Line, Protocol, TransactionFlags, kind, laws, unknown_bits,
+};
 use bitflags::Flags;
 use std::process::Abort;
 

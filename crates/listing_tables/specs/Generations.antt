@@ -1,0 +1,81 @@
+-- The counts of the raw table generation, by the definitions of handle_ledger (docs/REPORT.md).
+use Rattle.std.specs.Prelude.{◌≡◌, ◌≢◌, ℕ, ◌+◌, ◌<◌, ◌^◌, pos, ◌-ℤ◌, Option, Some, None, IsSome, slice_get}
+use Rattle.std.specs.Prelude.{List, [], ◌∷◌, ◌++◌, map, count_by, length}
+use Rattle.std.specs.Option.{option_to_list}
+use Rattle.event_core.specs.declared.handle.HandleChange.{HandleChange}
+use Rattle.event_core.specs.declared.strength.Strength.{Strength}
+use Rattle.event_core.specs.declared.strength.Strength.TheVariants.{Strong, Weak}
+use Rattle.handle_ledger.specs.Handles.{handle_change}
+use Rattle.summary_law.specs.Count.{Change, IsCount, is_lower, is_raise}
+use Rattle.summary_law.specs.declared.count.Count.{Count}
+use Rattle.listing_tables.specs.declared.generations.Effect.{Effect}
+use Rattle.listing_tables.specs.declared.generations.Effect.TheVariants.{Names, Takes, Holds}
+use Rattle.listing_tables.specs.declared.generations.Generation.{Generation}
+use Rattle.listing_tables.specs.declared.generations.Taken.{Taken}
+
+-- which count an effect changes, and how
+abbrev pub taken_by : Effect → Option (Strength × HandleChange)
+taken_by Names = None
+taken_by (Takes strength change) = Some (strength, change)
+taken_by (Holds strength) = None
+
+-- the change of a count that an effect is, if it is one
+abbrev pub counted_by : Effect → List (Strength × HandleChange)
+counted_by effect = option_to_list (taken_by effect)
+
+-- What these changes come to: how many raise the count, how many lower it, and what is left, which is the sum of the
+-- count less its low. So of changes that never go below 0, the low of which is 0, it is the sum.
+pub record TakenSum (taken : Taken) (changes : List Change) : Type 0 where
+  pub raised : taken.raised ≡ count_by is_raise changes
+  pub lowered : taken.lowered ≡ count_by is_lower changes
+  pub count : Count
+  pub counts : IsCount count changes
+  pub left : pos taken.left ≡ count.sum -ℤ count.low
+
+-- fewer than 2^32 changes
+abbrev pub AreFew : {A : Type 0} → List A → Type 0
+AreFew changes = length changes < 2 ^ 32
+
+-- whatever changes the old counts are of, the new ones are of these with this one after them
+abbrev pub TakesOneMore : Taken → Change → Taken → Type 0
+TakesOneMore old change new =
+    (changes : List Change) → AreFew (changes ++ change ∷ []) → TakenSum old changes → TakenSum new (changes ++ change ∷ [])
+
+-- the generation has the counts of these changes, which all are of it
+pub record GenerationSum (generation : Generation) (changes : List (Strength × HandleChange)) : Type 0 where
+  pub strong : TakenSum generation.strong (map (handle_change Strong) changes)
+  pub weak : TakenSum generation.weak (map (handle_change Weak) changes)
+
+-- whatever changes the generation has the counts of, it then has those of these with this effect after them
+abbrev pub CountsEffect : Generation → Effect → Generation → Type 0
+CountsEffect old effect new =
+    (changes : List (Strength × HandleChange)) → AreFew (changes ++ counted_by effect) → GenerationSum old changes
+    → GenerationSum new (changes ++ counted_by effect)
+
+-- nothing is left of a generation, neither what its process took nor what deliveries hold, and its handle is not 0
+pub record IsEmpty (generation : Generation) : Type 0 where
+  pub strong : generation.strong.left ≡ 0
+  pub weak : generation.weak.left ≡ 0
+  pub held_strong : generation.held_strong ≡ 0
+  pub held_weak : generation.held_weak ≡ 0
+  pub handle : generation.handle ≢ 0
+
+-- a generation that ends here is empty
+abbrev pub EndsEmpty : Generation → Generation → Type 0
+EndsEmpty old new = old.end ≡ None → IsSome new.end → IsEmpty new
+
+-- neither what the process took nor the end changes
+pub record KeepsTaken (old new : Generation) : Type 0 where
+  pub strong : new.strong ≡ old.strong
+  pub weak : new.weak ≡ old.weak
+  pub end : new.end ≡ old.end
+
+-- columns 5 and 8 to 13 of a row of the table are the end and the counts
+pub record AreGenerationColumns (generation : Generation) (columns : List (Option ℕ)) : Type 0 where
+  pub end : slice_get columns 5 ≡ Some generation.end
+  pub acquired : slice_get columns 8 ≡ Some (Some generation.strong.raised)
+  pub released : slice_get columns 9 ≡ Some (Some generation.strong.lowered)
+  pub increfs : slice_get columns 10 ≡ Some (Some generation.weak.raised)
+  pub decrefs : slice_get columns 11 ≡ Some (Some generation.weak.lowered)
+  pub strong : slice_get columns 12 ≡ Some (Some generation.strong.left)
+  pub weak : slice_get columns 13 ≡ Some (Some generation.weak.left)

@@ -1,0 +1,157 @@
+//! The buffers that processes get by deliveries, each with the record that frees it.
+
+ghost use Rattle.std.specs.Prelude.{◌≡◌, map, slice_get, [], OnOk, IfOk};
+ghost use Rattle.listing_tables.specs.Buffers.{BuffersSum, Frees, SumsOneMore, delivery_at, free_at, row_of_buffer};
+
+use crate::numbered::Numbered;
+use event_core::Strength;
+use indexmap::IndexMap;
+use listing_fields::{ListingError, Outcome};
+use std::alloc::Global;
+
+/// A buffer that a process got by a delivery.
+#[derive(Clone, Copy)]
+pub(crate) struct Buffer {
+    /// The place of its delivery.
+    pub place: u32,
+    pub sender: i32,
+    pub size: u64,
+    /// The place of the record that frees it, and the sequence of its frame.
+    pub freed: Option<u32>,
+    pub freed_in: u64,
+    /// The index of its path.
+    pub path: u32,
+    /// How many buffers that came the same way its process holds right after it.
+    pub held: u32,
+    /// The index of the buffer before it at its address, if that was not freed.
+    pub earlier: Option<u32>,
+    pub references: References,
+}
+
+impl Buffer {
+    /// How many sequences after this one it is freed.
+    pub(crate) fn freed_after(&self, sequence: u64) -> Option<u64> {
+        match self.freed {
+            Some(_) => Some(self.freed_in.wrapping_sub(sequence)),
+            None => None,
+        }
+    }
+}
+
+/// The references that a buffer holds: where they begin in the list of all, and how many they are.
+#[derive(Clone, Copy)]
+pub(crate) struct References {
+    pub first: u32,
+    pub count: u32,
+}
+
+/// A reference that a buffer holds: the index of a generation.
+#[derive(Clone, Copy)]
+pub(crate) struct Reference {
+    pub generation: u32,
+    pub strength: Strength,
+}
+
+/// All buffers, in the order of their deliveries.
+#[derive(Drop)]
+pub(crate) struct Buffers {
+    list: Numbered<Buffer>,
+    /// For each process and address, the index of the latest buffer, if that is not freed.
+    latest: IndexMap<(u32, u64), u32>,
+    /// The indices of the buffers that are freed, in the order in which they are.
+    pub freed: Numbered<u32>,
+    /// The references that they hold, in their order.
+    pub references: Numbered<Reference>,
+}
+
+impl Buffers {
+    pub(crate) fn new(alloc: Global) -> Buffers
+        ensures { BuffersSum result [] }
+    {
+        Buffers {
+            list: Numbered::new(alloc),
+            latest: IndexMap::new(alloc),
+            freed: Numbered::new(alloc),
+            references: Numbered::new(alloc),
+        }
+    }
+
+    /// The buffer at this index.
+    pub(crate) fn get(&self, index: u32) -> Option<Buffer>
+        ensures { result ≡ slice_get self.now.list.all.items index }
+    {
+        self.list.get(index)
+    }
+
+    /// The buffer that is freed as this one of all, counted from 0.
+    pub(crate) fn freed_at(&self, at: u32) -> Option<Buffer> {
+        self.get(self.freed.get(at)?)
+    }
+
+    /// Takes a buffer that is delivered at an address of a process, and returns its index.
+    pub(crate) fn deliver(&mut self, key: (u32, u64), buffer: Buffer) -> Result<u32, ListingError>
+        ensures { OnOk result (SumsOneMore self.old (delivery_at key buffer.place) self.new) }
+    {
+        let index = self.list.next()?;
+        let earlier = self.latest.insert(key, index)?;
+        self.list.push(Buffer {
+            freed: None,
+            earlier,
+            ..buffer
+        })
+    }
+
+    /// Frees all buffers at an address of a process that are not freed, by the record at this place
+    /// in the frame of this sequence.
+    pub(crate) fn free(&mut self, key: (u32, u64), place: u32, sequence: u64) -> Outcome
+        ensures { OnOk result (SumsOneMore self.old (free_at key place) self.new) }
+    {
+        let mut next = self.latest.swap_remove(&key);
+        for _ in 0..self.list.all.len() {
+            let Some(index) = next else {
+                break;
+            };
+            next = self.free_one(index, place, sequence)?;
+        }
+        Ok(())
+    }
+
+    /// Frees a buffer, and returns the index of the one before it at its address.
+    fn free_one(
+        &mut self,
+        index: u32,
+        place: u32,
+        sequence: u64,
+    ) -> Result<Option<u32>, ListingError>
+        ensures { IfOk result (Frees self.old index place self.new) }
+    {
+        let at = index as usize;
+        if at >= self.list.all.len() {
+            return Ok(None);
+        }
+        let buffer = self.list.all[at];
+        self.list.all[at] = Buffer {
+            freed: Some(place),
+            freed_in: sequence,
+            ..buffer
+        };
+        self.freed.push(index)?;
+        Ok(buffer.earlier)
+    }
+
+    /// Notes the path of a buffer, and how many buffers of that path are held.
+    pub(crate) fn keep_path(&mut self, index: u32, path: u32, held: u32)
+        ensures { map row_of_buffer self.new.list.all.items ≡
+            map row_of_buffer self.old.list.all.items }
+    {
+        let at = index as usize;
+        if at < self.list.all.len() {
+            let buffer = self.list.all[at];
+            self.list.all[at] = Buffer {
+                path,
+                held,
+                ..buffer
+            };
+        }
+    }
+}

@@ -1,0 +1,313 @@
+//! The generations of handles: the spans in which a handle of a process means one object.
+
+ghost use Rattle.std.specs.Prelude.{◌≡◌, []};
+ghost use Rattle.event_core.specs.Handles.{handle_effect};
+ghost use Rattle.handle_ledger.specs.Handles.{handle_count_change};
+ghost use Rattle.listing_tables.specs.Generations.{AreGenerationColumns, CountsEffect, EndsEmpty, GenerationSum, KeepsTaken, TakesOneMore, taken_by};
+ghost use Rattle.listing_tables.specs.declared.generations.Effect.TheVariants.{Takes};
+
+use crate::buffers::Reference;
+use crate::numbered::Numbered;
+use crate::rows::{RowWriter, column};
+use binder_code::Kind;
+use event_core::{HandleChange, Strength};
+use indexmap::IndexMap;
+use listing_fields::{ListingError, Outcome};
+use std::alloc::Global;
+use std::io::Write;
+
+/// What a record does to a handle that it names.
+#[derive(Clone, Copy)]
+pub(crate) enum Effect {
+    Names,
+    /// The process takes a reference, or lets go of one.
+    Takes(Strength, HandleChange),
+    /// A delivery has an object of it, and so holds a reference.
+    Holds(Strength),
+}
+
+impl Effect {
+    /// What a record of this kind does.
+    pub(crate) fn of(kind: Kind) -> Effect
+        ensures { taken_by result ≡ handle_effect kind }
+    {
+        match kind {
+            Kind::BcAcquire => Effect::Takes(Strength::Strong, HandleChange::Raise),
+            Kind::BcRelease => Effect::Takes(Strength::Strong, HandleChange::Lower),
+            Kind::BcIncrefs => Effect::Takes(Strength::Weak, HandleChange::Raise),
+            Kind::BcDecrefs => Effect::Takes(Strength::Weak, HandleChange::Lower),
+            _ => Effect::Names,
+        }
+    }
+
+    /// Whether it gives the process a reference.
+    fn gives(self) -> bool {
+        matches!(
+            self,
+            Effect::Takes(_, HandleChange::Raise) | Effect::Holds(_)
+        )
+    }
+}
+
+/// What a process takes of a generation by one strength.
+#[derive(Clone, Copy)]
+pub(crate) struct Taken {
+    /// How often it takes a reference, and how often it lets go of one.
+    pub raised: u32,
+    pub lowered: u32,
+    /// How many references it has. The driver ignores a record that lets go of none.
+    pub left: u32,
+}
+
+impl Taken {
+    fn after(self, change: HandleChange) -> Taken
+        ensures { TakesOneMore self (handle_count_change change) result }
+    {
+        match change {
+            HandleChange::Raise => Taken {
+                raised: self.raised.saturating_add(1),
+                left: self.left.saturating_add(1),
+                ..self
+            },
+            HandleChange::Lower => Taken {
+                lowered: self.lowered.saturating_add(1),
+                left: self.left.saturating_sub(1),
+                ..self
+            },
+        }
+    }
+}
+
+/// A node, as its process knows it.
+#[derive(Clone, Copy, PartialEq, Eq)]
+pub(crate) struct Node {
+    pub upid: u32,
+    pub ptr: u64,
+    pub cookie: u64,
+}
+
+/// What is known of the node that a generation means.
+#[derive(Clone, Copy)]
+pub(crate) enum Known {
+    Nothing,
+    One(Node),
+    Several,
+}
+
+/// A generation of a handle.
+#[derive(Clone, Copy)]
+pub(crate) struct Generation {
+    pub upid: u32,
+    pub handle: u32,
+    pub number: u32,
+    pub begin: u32,
+    pub end: Option<u32>,
+    pub given_by: Option<u32>,
+    pub held_since: Option<u32>,
+    pub strong: Taken,
+    pub weak: Taken,
+    pub held_strong: u32,
+    pub held_weak: u32,
+    pub node: Known,
+}
+
+impl Generation {
+    /// The one that begins at this place, before what the record there does.
+    fn new(upid: u32, handle: u32, number: u32, place: u32) -> Generation
+        ensures { GenerationSum result [] }
+    {
+        let none = Taken {
+            raised: 0,
+            lowered: 0,
+            left: 0,
+        };
+        Generation {
+            upid,
+            handle,
+            number,
+            begin: place,
+            end: None,
+            given_by: None,
+            held_since: None,
+            strong: none,
+            weak: none,
+            held_strong: 0,
+            held_weak: 0,
+            node: Known::Nothing,
+        }
+    }
+
+    /// Counts what the record at this place does.
+    fn apply(&mut self, effect: Effect, place: u32)
+        ensures counts { CountsEffect self.old effect self.new }
+        ensures ends { EndsEmpty self.old self.new }
+    {
+        match effect {
+            Effect::Names => {}
+            Effect::Takes(strength, change) => self.take(strength, change, place),
+            Effect::Holds(strength) => self.hold(strength, place),
+        }
+    }
+
+    /// Takes a record by which the process takes a reference or lets go of one.
+    fn take(&mut self, strength: Strength, change: HandleChange, place: u32)
+        ensures counts { CountsEffect self.old (Takes strength change) self.new }
+        ensures ends { EndsEmpty self.old self.new }
+    {
+        self.count(strength, change);
+        self.held_since = if self.strong.left == 0 {
+            None
+        } else {
+            self.held_since.or(Some(place))
+        };
+        self.end_if_empty(place);
+    }
+
+    fn count(&mut self, strength: Strength, change: HandleChange)
+        ensures counts { CountsEffect self.old (Takes strength change) self.new }
+        ensures kept { self.new.end ≡ self.old.end }
+    {
+        match strength {
+            Strength::Strong => self.strong = self.strong.after(change),
+            Strength::Weak => self.weak = self.weak.after(change),
+        }
+    }
+
+    /// Takes a delivery that holds a reference.
+    fn hold(&mut self, strength: Strength, place: u32)
+        ensures { KeepsTaken self.old self.new }
+    {
+        match strength {
+            Strength::Strong => self.held_strong = self.held_strong.saturating_add(1),
+            Strength::Weak => self.held_weak = self.held_weak.saturating_add(1),
+        }
+        self.given_by = self.given_by.or(Some(place));
+    }
+
+    /// Takes back a reference that a delivery held.
+    fn let_go(&mut self, strength: Strength, place: u32)
+        ensures ends { EndsEmpty self.old self.new }
+    {
+        match strength {
+            Strength::Strong => self.held_strong = self.held_strong.saturating_sub(1),
+            Strength::Weak => self.held_weak = self.held_weak.saturating_sub(1),
+        }
+        self.end_if_empty(place);
+    }
+
+    /// Ends here if nothing of it is held. One of handle 0, the context manager's, never ends.
+    fn end_if_empty(&mut self, place: u32)
+        ensures kept { self.new ≡ record self.old { end = self.new.end } }
+        ensures ends { EndsEmpty self.old self.new }
+    {
+        let counts = [
+            self.strong.left,
+            self.weak.left,
+            self.held_strong,
+            self.held_weak,
+        ];
+        if self.end.is_none() && self.handle != 0 && counts == [0, 0, 0, 0] {
+            self.end = Some(place);
+        }
+    }
+
+    /// Its row in the table generation, where it has this number among all.
+    fn columns(&self, number: u64) -> [Option<u64>; 16]
+        ensures { AreGenerationColumns self.now result }
+    {
+        [
+            Some(number),
+            Some(u64::from(self.upid)),
+            Some(u64::from(self.handle)),
+            Some(u64::from(self.number)),
+            Some(u64::from(self.begin)),
+            column(self.end),
+            column(self.given_by),
+            column(self.held_since),
+            Some(u64::from(self.strong.raised)),
+            Some(u64::from(self.strong.lowered)),
+            Some(u64::from(self.weak.raised)),
+            Some(u64::from(self.weak.lowered)),
+            Some(u64::from(self.strong.left)),
+            Some(u64::from(self.weak.left)),
+            Some(u64::from(self.held_strong)),
+            Some(u64::from(self.held_weak)),
+        ]
+    }
+}
+
+/// All generations so far.
+#[derive(Drop)]
+pub(crate) struct Generations {
+    pub list: Numbered<Generation>,
+    /// For each process and handle, the index of the latest generation.
+    latest: IndexMap<(u32, u32), u32>,
+}
+
+impl Generations {
+    pub(crate) fn new(alloc: Global) -> Generations {
+        Generations {
+            list: Numbered::new(alloc),
+            latest: IndexMap::new(alloc),
+        }
+    }
+
+    /// Takes a record that names a handle. Returns the index of the generation, and how many strong
+    /// references the process had of it and has now.
+    pub(crate) fn name(
+        &mut self,
+        upid: u32,
+        handle: u32,
+        effect: Effect,
+        place: u32,
+    ) -> Result<(u32, u32, u32), ListingError> {
+        let latest = self.latest.get(&(upid, handle)).copied();
+        let index = match latest {
+            None => self.begin(upid, handle, 1, place)?,
+            Some(index) => match self.list.get(index) {
+                Some(ended) if ended.end.is_some() && effect.gives() => {
+                    let number = ended.number.saturating_add(1);
+                    self.begin(upid, handle, number, place)?
+                }
+                _ => index,
+            },
+        };
+        let Some(generation) = self.list.get_mut(index) else {
+            return Ok((index, 0, 0));
+        };
+        let before = generation.strong.left;
+        generation.apply(effect, place);
+        Ok((index, before, generation.strong.left))
+    }
+
+    /// Begins the generation of a handle that has this number there, and returns the index.
+    fn begin(
+        &mut self,
+        upid: u32,
+        handle: u32,
+        number: u32,
+        place: u32,
+    ) -> Result<u32, ListingError> {
+        let generation = Generation::new(upid, handle, number, place);
+        let index = self.list.push(generation)?;
+        self.latest.insert((upid, handle), index)?;
+        Ok(index)
+    }
+
+    /// Takes back a reference that a delivery held.
+    pub(crate) fn let_go(&mut self, reference: Reference, place: u32) {
+        if let Some(generation) = self.list.get_mut(reference.generation) {
+            generation.let_go(reference.strength, place);
+        }
+    }
+
+    /// Writes the rows of the table generation.
+    pub(crate) fn write<W: Write>(&self, rows: &mut RowWriter<'_, W>) -> Outcome {
+        let mut number = 0u64;
+        for generation in &self.list.all {
+            number = number.saturating_add(1);
+            rows.push(&generation.columns(number))?;
+        }
+        Ok(())
+    }
+}

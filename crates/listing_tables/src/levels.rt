@@ -1,0 +1,191 @@
+//! What each process holds at most in each of 16 slices of the capture.
+
+ghost use Rattle.std.specs.Prelude.{◌<◌};
+
+use crate::rows::RowWriter;
+use indexmap::IndexMap;
+use listing_fields::{ListingError, Outcome};
+use std::alloc::Global;
+use std::io::Write;
+
+/// How many slices there are.
+const SLICES: u8 = 16;
+
+/// The highest number that is written: SQLite has no higher one.
+const MOST: u128 = 9_223_372_036_854_775_807;
+
+/// What a process holds, by its number among the columns.
+#[derive(Clone, Copy)]
+pub(crate) enum Resource {
+    Buffers,
+    Bytes,
+    References,
+    Calls,
+    Served,
+}
+
+/// How much of a resource a process holds, and the index of the latest slice in which that changed.
+#[derive(Clone, Copy)]
+struct Level {
+    now: u128,
+    latest: usize,
+}
+
+/// A slice in which a level changes: the most, and the level at the end of the slice, both as they
+/// are written.
+#[derive(Clone, Copy)]
+struct Slice {
+    upid: u32,
+    number: u8,
+    resource: u8,
+    most: u64,
+    end: u64,
+}
+
+/// What all processes hold.
+#[derive(Drop)]
+pub(crate) struct Levels {
+    /// The sequences of the first and of the last frame of the capture.
+    span: (u64, u64),
+    /// The number of the slice that is gone through.
+    number: u8,
+    /// By process and resource.
+    levels: IndexMap<(u32, u8), Level>,
+    slices: Vec<Slice>,
+}
+
+impl Levels {
+    /// Nothing yet.
+    pub(crate) fn new(alloc: Global) -> Levels {
+        Levels {
+            span: (0, 0),
+            number: 0,
+            levels: IndexMap::new(alloc),
+            slices: Vec::new(alloc),
+        }
+    }
+
+    /// Sets the sequences of the first and of the last frame of the capture.
+    pub(crate) fn set_span(&mut self, span: (u64, u64)) {
+        self.span = span;
+    }
+
+    /// Goes to the slice of a frame.
+    pub(crate) fn go_to(&mut self, sequence: u64) {
+        let (first, last) = self.span;
+        let gone = u128::from(sequence.saturating_sub(first)) * 16;
+        let all = u128::from(last.saturating_sub(first)) + 1;
+        self.number = (gone / all).min(15) as u8;
+    }
+
+    /// A process holds more, by this much. The changes of a resource come in the order of the
+    /// records that make them.
+    pub(crate) fn raise(&mut self, upid: u32, resource: Resource, by: u64) -> Outcome {
+        let now = self.now(upid, resource).saturating_add(u128::from(by));
+        self.set(upid, resource, now)
+    }
+
+    /// A process holds less, by this much.
+    pub(crate) fn lower(&mut self, upid: u32, resource: Resource, by: u64) -> Outcome {
+        let now = self.now(upid, resource).saturating_sub(u128::from(by));
+        self.set(upid, resource, now)
+    }
+
+    /// What a process holds.
+    fn now(&self, upid: u32, resource: Resource) -> u128 {
+        match self.levels.get(&(upid, resource as u8)) {
+            Some(level) => level.now,
+            None => 0,
+        }
+    }
+
+    fn set(&mut self, upid: u32, resource: Resource, now: u128) -> Outcome {
+        let key = (upid, resource as u8);
+        let index = match self.levels.get(&key).copied() {
+            Some(level) if self.is_now(level.latest) => level.latest,
+            Some(level) => self.begin(key, level.now)?,
+            None => self.begin(key, 0)?,
+        };
+        self.levels.insert(key, Level { now, latest: index })?;
+        if let Some(slice) = self.slices.as_mut_slice().get_mut(index) {
+            slice.most = slice.most.max(told(now));
+            slice.end = told(now);
+        }
+        Ok(())
+    }
+
+    /// Whether the slice at this index is of the number that is gone through.
+    fn is_now(&self, index: usize) -> bool {
+        match self.slices.as_slice().get(index) {
+            Some(slice) => slice.number == self.number,
+            None => false,
+        }
+    }
+
+    /// Begins a slice of a process and a resource that is at this level, and returns its index.
+    fn begin(&mut self, key: (u32, u8), level: u128) -> Result<usize, ListingError> {
+        let index = self.slices.len();
+        self.slices.push(Slice {
+            upid: key.0,
+            number: self.number,
+            resource: key.1,
+            most: told(level),
+            end: told(level),
+        })?;
+        Ok(index)
+    }
+
+    /// Writes the rows of the table level, for this many processes.
+    pub(crate) fn write<W: Write>(
+        &mut self,
+        processes: u32,
+        rows: &mut RowWriter<'_, W>,
+    ) -> Outcome {
+        self.slices
+            .sort_unstable_by_key(|slice| (slice.upid, slice.number, slice.resource));
+        let mut next = 0usize;
+        for index in 0..processes {
+            next = self.write_process(index.saturating_add(1), next, rows)?;
+        }
+        Ok(())
+    }
+
+    /// Writes the rows of a process, whose slices begin at the index `next`, and returns the index
+    /// after them.
+    fn write_process<W: Write>(
+        &self,
+        upid: u32,
+        next: usize,
+        rows: &mut RowWriter<'_, W>,
+    ) -> Result<usize, ListingError> {
+        let mut next = next;
+        let mut held = [0u64; 5];
+        for number in 0..SLICES {
+            let mut most = held;
+            for resource in 0..5u8 {
+                if let Some(slice) = self.slices.as_slice().get(next)
+                    && (slice.upid, slice.number, slice.resource) == (upid, number, resource)
+                {
+                    most[resource as usize] = slice.most;
+                    held[resource as usize] = slice.end;
+                    next = next.saturating_add(1);
+                }
+            }
+            rows.push(&[
+                Some(u64::from(upid)),
+                Some(u64::from(number)),
+                Some(most[0]),
+                Some(most[1]),
+                Some(most[2]),
+                Some(most[3]),
+                Some(most[4]),
+            ])?;
+        }
+        Ok(next)
+    }
+}
+
+/// A number as it is written.
+fn told(number: u128) -> u64 {
+    number.min(MOST) as u64
+}

@@ -1,0 +1,433 @@
+//! The lists that the walk makes of the records, of which the tables from call on are written: the
+//! records that leave a mark, thread by thread; messages; generations of handles; and what each
+//! process holds.
+
+ghost use Rattle.listing_tables.specs.Calls.{AreColumns};
+
+use crate::buffers::{Buffer, Buffers, Reference, References};
+use crate::calls::{Call, CallStep, all_calls, verdict_number};
+use crate::generations::{Effect, Generations};
+use crate::held::HeldCounts;
+use crate::keys::key_of;
+use crate::levels::{Levels, Resource};
+use crate::messages::{Detail, Message, Messages, Path, Sent, Settled, unknown_path};
+use crate::numbered::Numbered;
+use crate::rows::{RowWriter, column};
+use crate::spans::Spans;
+use binder_code::Kind;
+use call_stacks::Verdict;
+use event_core::{Strength, mark_of};
+use listing_fields::{EachObject, Item, ListingError, Named, Outcome, is_oneway, is_reply};
+use object_view::Sort;
+use std::alloc::Global;
+use std::collections::VecDeque;
+use std::io::Write;
+use transaction_view::{Entry, Transaction};
+
+/// What has come of the records so far.
+#[derive(Drop)]
+pub(crate) struct Lists {
+    /// Of each thread, the records that leave a mark.
+    steps: Vec<Vec<CallStep>>,
+    /// Of each thread, the sends that wait to be confirmed, by their index.
+    waiting: Vec<VecDeque<u32>>,
+    pub messages: Messages,
+    pub buffers: Buffers,
+    pub generations: Generations,
+    pub levels: Levels,
+    /// In the order of their openers. They are found when all records are there.
+    pub calls: Numbered<Call>,
+    alloc: Global,
+}
+
+/// Where a record is, and whose it is.
+#[derive(Clone, Copy)]
+pub(crate) struct Origin {
+    pub place: u32,
+    pub sequence: u64,
+    pub device: u32,
+    /// The number of its process in the frames.
+    pub process: u32,
+    pub upid: u32,
+    pub utid: u32,
+}
+
+impl Lists {
+    /// Nothing yet.
+    pub(crate) fn new(alloc: Global) -> Lists {
+        Lists {
+            steps: Vec::new(alloc),
+            waiting: Vec::new(alloc),
+            messages: Messages::new(alloc),
+            buffers: Buffers::new(alloc),
+            generations: Generations::new(alloc),
+            levels: Levels::new(alloc),
+            calls: Numbered::new(alloc),
+            alloc,
+        }
+    }
+
+    /// Takes a frame, before its records.
+    pub(crate) fn add_frame(&mut self, sequence: u64, utid: u32) -> Outcome {
+        self.levels.go_to(sequence);
+        if self.steps.len() as u64 == u64::from(utid.saturating_sub(1)) {
+            self.steps.push(Vec::new(self.alloc))?;
+            self.waiting.push(VecDeque::new(self.alloc))?;
+        }
+        Ok(())
+    }
+
+    /// Takes a record, and what it names.
+    pub(crate) fn add_item(&mut self, origin: Origin, item: Item<'_>, named: Named) -> Outcome {
+        let kind = item.record.kind;
+        let oneway = is_oneway(item.record) && !is_reply(kind);
+        let generation = self.name_handle(origin, kind, named.handle)?;
+        self.add_step(origin, kind, oneway)?;
+        let Some(transaction) = Transaction::of(item.record) else {
+            return self.settle(origin, kind, named.address);
+        };
+        let detail = match kind {
+            Kind::BrTransaction | Kind::BrTransactionSecCtx | Kind::BrReply => {
+                self.delivery_of(origin, transaction, item.entry, oneway)?
+            }
+            _ => self.send_of(origin, transaction, item.entry, generation)?,
+        };
+        let key = key_of(transaction, item.entry, origin.device);
+        self.add_message(origin, kind, oneway, key, detail)
+    }
+
+    /// Keeps a record for the calls of its thread, if it leaves a mark.
+    fn add_step(&mut self, origin: Origin, kind: Kind, oneway: bool) -> Outcome {
+        if mark_of(kind, oneway).is_none() {
+            return Ok(());
+        }
+        let before = self.messages.list.next()?;
+        let at = origin.utid.saturating_sub(1) as usize;
+        if let Some(steps) = self.steps.as_mut_slice().get_mut(at) {
+            steps.push(CallStep {
+                place: origin.place,
+                before,
+                kind,
+                oneway,
+            })?;
+        }
+        Ok(())
+    }
+
+    fn add_message(
+        &mut self,
+        origin: Origin,
+        kind: Kind,
+        oneway: bool,
+        key: u64,
+        detail: Detail,
+    ) -> Outcome {
+        self.messages.list.push(Message {
+            sequence: origin.sequence,
+            key,
+            place: origin.place,
+            utid: origin.utid,
+            kind,
+            oneway,
+            call: None,
+            partner: None,
+            detail,
+        })?;
+        Ok(())
+    }
+
+    /// Names a handle, and returns the index of its generation.
+    fn name_handle(
+        &mut self,
+        origin: Origin,
+        kind: Kind,
+        handle: Option<u32>,
+    ) -> Result<Option<u32>, ListingError> {
+        let Some(handle) = handle else {
+            return Ok(None);
+        };
+        let upid = origin.upid;
+        let effect = Effect::of(kind);
+        let (index, before, now) = self.generations.name(upid, handle, effect, origin.place)?;
+        if before < now {
+            self.levels.raise(upid, Resource::References, 1)?;
+        } else if now < before {
+            self.levels.lower(upid, Resource::References, 1)?;
+        }
+        Ok(Some(index))
+    }
+
+    /// Names the handles of the objects of an attachment. A delivery holds a reference by each.
+    fn name_objects(&mut self, origin: Origin, entry: Entry<'_>, delivered: bool) -> Outcome {
+        for attached in EachObject::of(entry) {
+            if let Ok(object) = attached.found
+                && let Some(handle) = object.handle()
+            {
+                let strength = match object.sort {
+                    Sort::WeakHandle => Strength::Weak,
+                    _ => Strength::Strong,
+                };
+                let effect = if delivered {
+                    Effect::Holds(strength)
+                } else {
+                    Effect::Names
+                };
+                let (generation, _, _) = self
+                    .generations
+                    .name(origin.upid, handle, effect, origin.place)?;
+                if delivered {
+                    let reference = Reference {
+                        generation,
+                        strength,
+                    };
+                    self.buffers.references.push(reference)?;
+                }
+            }
+        }
+        Ok(())
+    }
+
+    /// What is known of a send, which waits to be confirmed.
+    fn send_of(
+        &mut self,
+        origin: Origin,
+        transaction: Transaction<'_>,
+        entry: Option<Entry<'_>>,
+        generation: Option<u32>,
+    ) -> Result<Detail, ListingError> {
+        if let Some(entry) = entry {
+            self.name_objects(origin, entry, false)?;
+        }
+        let index = self.messages.list.next()?;
+        let at = origin.utid.saturating_sub(1) as usize;
+        if let Some(waiting) = self.waiting.as_mut_slice().get_mut(at) {
+            waiting.push_back(index)?;
+        }
+        Ok(Detail::Sent(Sent {
+            process: origin.process,
+            code: transaction.code(),
+            handle: transaction.target_handle(),
+            settled: Settled::Waiting,
+            generation,
+            fits: 0,
+            certain: false,
+        }))
+    }
+
+    /// What is known of a delivery. Its path is that of a reply to an unknown call until the calls
+    /// are found.
+    fn delivery_of(
+        &mut self,
+        origin: Origin,
+        transaction: Transaction<'_>,
+        entry: Option<Entry<'_>>,
+        oneway: bool,
+    ) -> Result<Detail, ListingError> {
+        let first = self.buffers.references.next()?;
+        if let Some(entry) = entry {
+            self.name_objects(origin, entry, true)?;
+        }
+        let count = self.buffers.references.next()?.saturating_sub(first);
+        let path = match transaction.carrier.kind {
+            Kind::BrReply => unknown_path(origin.upid),
+            _ => Path {
+                upid: origin.upid,
+                sort: u8::from(oneway),
+                code: transaction.code(),
+                target: transaction.target_ptr(),
+                cookie: transaction.cookie(),
+            },
+        };
+        let size = transaction.data_size();
+        self.levels.raise(origin.upid, Resource::Buffers, 1)?;
+        self.levels.raise(origin.upid, Resource::Bytes, size)?;
+        let buffer = Buffer {
+            place: origin.place,
+            sender: transaction.sender_pid(),
+            size,
+            freed: None,
+            freed_in: 0,
+            path: self.messages.index_of(path)?,
+            held: 0,
+            earlier: None,
+            references: References { first, count },
+        };
+        let key = (origin.upid, transaction.buffer());
+        Ok(Detail::Delivered(self.buffers.deliver(key, buffer)?))
+    }
+
+    /// Takes a record that confirms a send, refuses one, or frees a buffer.
+    fn settle(&mut self, origin: Origin, kind: Kind, address: Option<u64>) -> Outcome {
+        match kind {
+            Kind::BrDeadReply | Kind::BrFailedReply | Kind::BrFrozenReply => {
+                self.settle_first(origin.utid, Settled::Refused(origin.place));
+                self.add_message(origin, kind, false, 0, Detail::Failed)
+            }
+            Kind::BrTransactionComplete
+            | Kind::BrOnewaySpamSuspect
+            | Kind::BrTransactionPendingFrozen => {
+                self.settle_first(origin.utid, Settled::Confirmed(origin.place));
+                Ok(())
+            }
+            Kind::BcFreeBuffer => match address {
+                Some(address) => self.free(origin, address),
+                None => Ok(()),
+            },
+            _ => Ok(()),
+        }
+    }
+
+    /// Settles the first send of a thread that waits for it.
+    fn settle_first(&mut self, utid: u32, settled: Settled) {
+        let at = utid.saturating_sub(1) as usize;
+        if let Some(waiting) = self.waiting.as_mut_slice().get_mut(at)
+            && let Some(index) = waiting.pop_front()
+        {
+            self.messages.settle(index, settled);
+        }
+    }
+
+    /// Frees all buffers at an address of a process that are not freed.
+    fn free(&mut self, origin: Origin, address: u64) -> Outcome {
+        let first = self.buffers.freed.next()?;
+        self.buffers
+            .free((origin.upid, address), origin.place, origin.sequence)?;
+        for at in first..self.buffers.freed.next()? {
+            if let Some(buffer) = self.buffers.freed_at(at) {
+                self.let_go(origin, &buffer)?;
+            }
+        }
+        Ok(())
+    }
+
+    /// Takes back what a buffer held that is freed.
+    fn let_go(&mut self, origin: Origin, buffer: &Buffer) -> Outcome {
+        let References { first, count } = buffer.references;
+        for number in 0..count {
+            if let Some(reference) = self.buffers.references.get(first.saturating_add(number)) {
+                self.generations.let_go(reference, origin.place);
+            }
+        }
+        self.levels.lower(origin.upid, Resource::Buffers, 1)?;
+        self.levels.lower(origin.upid, Resource::Bytes, buffer.size)
+    }
+
+    /// Finds the calls, once all records are there, and what follows from them. Then the messages
+    /// can be paired.
+    pub(crate) fn finish(&mut self, spans: &Spans) -> Outcome {
+        self.calls = all_calls(self.alloc, self.steps.as_slice())?;
+        self.steps.clear();
+        for index in 0..self.calls.next()? {
+            self.link(index);
+        }
+        self.follow_all(spans)
+    }
+
+    /// Notes which call its opener opens, and which its closer closes.
+    fn link(&mut self, index: u32) {
+        let Some(call) = self.calls.get(index) else {
+            return;
+        };
+        if let Some(message) = self.messages.list.get_mut(call.opener) {
+            message.call = Some(index);
+        }
+        if let Some(closer) = call.closer
+            && let Some(message) = self.messages.list.get_mut(closer.message)
+        {
+            message.call = Some(index);
+        }
+    }
+
+    /// Writes the rows of the table call.
+    pub(crate) fn write_calls<W: Write>(&self, rows: &mut RowWriter<'_, W>) -> Outcome {
+        for call in &self.calls.all {
+            if let Some(opener) = self.messages.list.get(call.opener) {
+                rows.push(&self.call_columns(call, &opener))?;
+            }
+        }
+        Ok(())
+    }
+
+    fn call_columns(&self, call: &Call, opener: &Message) -> [Option<u64>; 9]
+        ensures { AreColumns call.now result }
+    {
+        [
+            Some(u64::from(call.place)),
+            Some(opener.sequence),
+            Some(u64::from(opener.utid)),
+            Some(u64::from(call.served)),
+            Some(u64::from(call.depth)),
+            column(call.parent),
+            Some(verdict_number(call.verdict)),
+            column(call.end()),
+            self.closed_after(call, opener.sequence),
+        ]
+    }
+
+    /// How many sequences after this one a call is closed.
+    fn closed_after(&self, call: &Call, sequence: u64) -> Option<u64> {
+        let closer = self.messages.list.get(call.closer?.message)?;
+        Some(closer.sequence.wrapping_sub(sequence))
+    }
+
+    /// Goes through the messages again, now that their calls are known.
+    fn follow_all(&mut self, spans: &Spans) -> Outcome {
+        let mut counts = HeldCounts::new(self.alloc);
+        for index in 0..self.messages.list.next()? {
+            if let Some(message) = self.messages.list.get(index) {
+                let upid = spans.upid_of(message.utid);
+                self.follow_call(&message, upid)?;
+                if let Detail::Delivered(index) = message.detail
+                    && let Some(buffer) = self.buffers.get(index)
+                {
+                    let path = self.path_of(&message, buffer.path, upid)?;
+                    counts.let_go(&self.buffers, message.place);
+                    let held = counts.hold(path)?;
+                    self.buffers.keep_path(index, path, held);
+                }
+            }
+        }
+        Ok(())
+    }
+
+    /// Follows a call that a message opens or closes.
+    fn follow_call(&mut self, message: &Message, upid: u32) -> Outcome {
+        let Some(index) = message.call else {
+            return Ok(());
+        };
+        let Some(call) = self.calls.get(index) else {
+            return Ok(());
+        };
+        let resource = if call.served {
+            Resource::Served
+        } else {
+            Resource::Calls
+        };
+        self.levels.go_to(message.sequence);
+        if call.place == message.place {
+            self.levels.raise(upid, resource, 1)
+        } else {
+            self.levels.lower(upid, resource, 1)
+        }
+    }
+
+    /// The index of the path of a delivery, so far this one: for a reply, of that of the call that it
+    /// answers.
+    fn path_of(&mut self, message: &Message, path: u32, upid: u32) -> Result<u32, ListingError> {
+        if message.kind == Kind::BrReply
+            && let Some(index) = message.call
+            && let Some(call) = self.calls.get(index)
+            && matches!(call.verdict, Verdict::Answered)
+            && let Some(sent) = self.messages.sent(call.opener)
+        {
+            return self.messages.index_of(Path {
+                upid,
+                sort: 2,
+                code: sent.code,
+                target: u64::from(sent.handle),
+                cookie: 0,
+            });
+        }
+        Ok(path)
+    }
+}

@@ -1,0 +1,249 @@
+//! What threads send and get: the records that open and close calls, and what became of them.
+
+ghost use Rattle.listing_tables.specs.Buffers.{AreBufferColumns};
+
+use crate::buffers::{Buffer, Buffers};
+use crate::calls::Call;
+use crate::generations::Node;
+use crate::numbered::{Numbered, narrow};
+use crate::rows::{RowWriter, column};
+use crate::spans::number_at;
+use binder_code::Kind;
+use call_stacks::Verdict;
+use indexmap::IndexSet;
+use listing_fields::{ListingError, Outcome};
+use std::alloc::Global;
+use std::io::Write;
+
+/// A transaction or a reply that a thread sends or gets, or an error reply.
+#[derive(Clone, Copy)]
+pub(crate) struct Message {
+    pub sequence: u64,
+    /// By it the delivery of a send is recognised.
+    pub key: u64,
+    pub place: u32,
+    pub utid: u32,
+    pub kind: Kind,
+    /// Whether it is a transaction with TF_ONE_WAY.
+    pub oneway: bool,
+    /// The index of the call that it opens or closes.
+    pub call: Option<u32>,
+    /// The index of the delivery of a send, or of the send of a delivery.
+    pub partner: Option<u32>,
+    pub detail: Detail,
+}
+
+/// What is known of a send, or of a delivery.
+#[derive(Clone, Copy)]
+pub(crate) enum Detail {
+    Sent(Sent),
+    /// The index of the buffer that a delivery brings.
+    Delivered(u32),
+    /// It is an error reply.
+    Failed,
+}
+
+/// What is known of a send.
+#[derive(Clone, Copy)]
+pub(crate) struct Sent {
+    /// The number of its process in the frames.
+    pub process: u32,
+    pub code: u32,
+    pub handle: u32,
+    pub settled: Settled,
+    /// The index of the generation of its target.
+    pub generation: Option<u32>,
+    /// How many sends fit its delivery, and whether this one is certain.
+    pub fits: u8,
+    pub certain: bool,
+}
+
+/// What the driver said to a send, with the place of the record that says it.
+#[derive(Clone, Copy)]
+pub(crate) enum Settled {
+    Waiting,
+    Confirmed(u32),
+    Refused(u32),
+}
+
+/// What deliveries have in common that came the same way.
+#[derive(Clone, Copy, PartialEq, Eq, Hash)]
+pub(crate) struct Path {
+    pub upid: u32,
+    /// 0 a call, 1 a oneway transaction, 2 the reply to a known call, 3 another reply.
+    pub sort: u8,
+    pub code: u32,
+    /// The ptr of the target; for a reply to a known call the handle of that call.
+    pub target: u64,
+    pub cookie: u64,
+}
+
+/// The path of replies to unknown calls.
+pub(crate) fn unknown_path(upid: u32) -> Path {
+    Path {
+        upid,
+        sort: 3,
+        code: 0,
+        target: 0,
+        cookie: 0,
+    }
+}
+
+/// All messages, in the order of their places.
+#[derive(Drop)]
+pub(crate) struct Messages {
+    pub list: Numbered<Message>,
+    paths: IndexSet<Path>,
+}
+
+impl Messages {
+    pub(crate) fn new(alloc: Global) -> Messages {
+        Messages {
+            list: Numbered::new(alloc),
+            paths: IndexSet::new(alloc),
+        }
+    }
+
+    /// The index of a path.
+    pub(crate) fn index_of(&mut self, path: Path) -> Result<u32, ListingError> {
+        let (index, _) = self.paths.insert_full(path)?;
+        narrow(index as u64)
+    }
+
+    /// The node that transactions of this path go to. It is not for replies.
+    pub(crate) fn node_of(&self, path: u32) -> Option<Node> {
+        let path = self.paths.get_index(path as usize)?;
+        Some(Node {
+            upid: path.upid,
+            ptr: path.target,
+            cookie: path.cookie,
+        })
+    }
+
+    /// The send at this index.
+    pub(crate) fn sent(&self, index: u32) -> Option<Sent> {
+        match self.list.get(index)?.detail {
+            Detail::Sent(sent) => Some(sent),
+            _ => None,
+        }
+    }
+
+    fn set(&mut self, index: u32, detail: Detail) {
+        if let Some(message) = self.list.get_mut(index) {
+            message.detail = detail;
+        }
+    }
+
+    /// Notes what the driver said to a send.
+    pub(crate) fn settle(&mut self, index: u32, settled: Settled) {
+        if let Some(sent) = self.sent(index) {
+            self.set(index, Detail::Sent(Sent { settled, ..sent }));
+        }
+    }
+
+    /// Makes a send and a delivery partners.
+    pub(crate) fn couple(&mut self, send: u32, delivery: u32, fits: u8, certain: bool) {
+        let Some(sent) = self.sent(send) else {
+            return;
+        };
+        let sent = Sent {
+            fits,
+            certain,
+            ..sent
+        };
+        self.set(send, Detail::Sent(sent));
+        self.set_partner(send, delivery);
+        self.set_partner(delivery, send);
+    }
+
+    fn set_partner(&mut self, index: u32, partner: u32) {
+        if let Some(message) = self.list.get_mut(index) {
+            message.partner = Some(partner);
+        }
+    }
+
+    /// The place of the message at this index.
+    fn place_of(&self, index: Option<u32>) -> Option<u32> {
+        let message = self.list.get(index?)?;
+        Some(message.place)
+    }
+
+    /// Writes the rows of the table send.
+    pub(crate) fn write_sends<W: Write>(&self, rows: &mut RowWriter<'_, W>) -> Outcome {
+        for message in &self.list.all {
+            if let Detail::Sent(sent) = message.detail {
+                let partner = self.place_of(message.partner);
+                rows.push(&send_columns(message, sent, partner))?;
+            }
+        }
+        Ok(())
+    }
+
+    /// Writes the rows of the table delivery.
+    pub(crate) fn write_deliveries<W: Write>(
+        &self,
+        buffers: &Buffers,
+        calls: &Numbered<Call>,
+        rows: &mut RowWriter<'_, W>,
+    ) -> Outcome {
+        for message in &self.list.all {
+            if let Detail::Delivered(index) = message.detail
+                && let Some(buffer) = buffers.get(index)
+            {
+                let partner = self.place_of(message.partner);
+                rows.push(&delivery_columns(message, &buffer, calls, partner))?;
+            }
+        }
+        Ok(())
+    }
+}
+
+fn send_columns(message: &Message, sent: Sent, partner: Option<u32>) -> [Option<u64>; 9] {
+    let mut columns = [None; 9];
+    columns[0] = Some(u64::from(message.place));
+    columns[1] = Some(message.sequence);
+    columns[2] = Some(u64::from(message.utid));
+    if let Some(index) = sent.generation {
+        columns[3] = Some(number_at(index as usize));
+    }
+    match sent.settled {
+        Settled::Waiting => {}
+        Settled::Confirmed(place) => columns[4] = Some(u64::from(place)),
+        Settled::Refused(place) => columns[5] = Some(u64::from(place)),
+    }
+    if let Some(place) = partner {
+        columns[6] = Some(u64::from(place));
+        columns[7] = Some(u64::from(sent.certain));
+        columns[8] = Some(u64::from(sent.fits));
+    }
+    columns
+}
+
+fn delivery_columns(
+    message: &Message,
+    buffer: &Buffer,
+    calls: &Numbered<Call>,
+    partner: Option<u32>,
+) -> [Option<u64>; 8]
+    ensures { AreBufferColumns buffer.now result }
+{
+    [
+        Some(u64::from(buffer.place)),
+        Some(message.sequence),
+        Some(u64::from(message.utid)),
+        column(buffer.freed),
+        buffer.freed_after(message.sequence),
+        column(call_place(message, calls)),
+        column(partner),
+        Some(u64::from(buffer.held)),
+    ]
+}
+
+/// The place of the call that a delivery opens, or that it answers.
+fn call_place(message: &Message, calls: &Numbered<Call>) -> Option<u32> {
+    let call = calls.get(message.call?)?;
+    if message.kind == Kind::BrReply && !matches!(call.verdict, Verdict::Answered) {
+        return None;
+    }
+    Some(call.place)
+}

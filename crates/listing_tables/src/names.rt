@@ -1,0 +1,113 @@
+//! The names that records have, of interfaces and of services, and their tables.
+
+use crate::rows::RowWriter;
+use crate::spans::number_at;
+use indexmap::IndexSet;
+use listing_fields::{Item, ListingError, Outcome, interface_of, reply_name, service_of};
+use std::alloc::Global;
+use std::io::Write;
+
+/// The interfaces and the services that records name, as they lie in the data, in the order of the
+/// first records that name them. The first one of each has the number 1.
+#[derive(Drop)]
+pub(crate) struct Names {
+    interfaces: IndexSet<Vec<u8>>,
+    services: IndexSet<Vec<u8>>,
+    alloc: Global,
+}
+
+impl Names {
+    pub(crate) fn new(alloc: Global) -> Names {
+        Names {
+            interfaces: IndexSet::new(alloc),
+            services: IndexSet::new(alloc),
+            alloc,
+        }
+    }
+
+    /// The number of the interface that a transaction names, or of the name that a reply is.
+    pub(crate) fn interface(&mut self, item: Item<'_>) -> Result<Option<u64>, ListingError> {
+        match interface_of(item).or(reply_name(item)) {
+            Some(name) => number_in(self.alloc, &mut self.interfaces, name.bytes),
+            None => Ok(None),
+        }
+    }
+
+    /// The number of the service that a transaction to the manager of names is about.
+    pub(crate) fn service(&mut self, item: Item<'_>) -> Result<Option<u64>, ListingError> {
+        match service_of(item) {
+            Some(name) => number_in(self.alloc, &mut self.services, name.bytes),
+            None => Ok(None),
+        }
+    }
+
+    /// Writes the rows of the table interface.
+    pub(crate) fn write_interfaces<W: Write>(&self, rows: &mut RowWriter<'_, W>) -> Outcome {
+        write_names(&self.interfaces, rows)
+    }
+
+    /// Writes the rows of the table service.
+    pub(crate) fn write_services<W: Write>(&self, rows: &mut RowWriter<'_, W>) -> Outcome {
+        write_names(&self.services, rows)
+    }
+}
+
+/// The number of a name, which is taken in if it is new.
+fn number_in(
+    alloc: Global,
+    names: &mut IndexSet<Vec<u8>>,
+    name: &[u8],
+) -> Result<Option<u64>, ListingError> {
+    if let Some(index) = names.get_index_of(name) {
+        return Ok(Some(number_at(index)));
+    }
+    let number = number_at(names.len());
+    let mut bytes = Vec::new(alloc);
+    bytes.extend_from_slice(name)?;
+    names.insert(bytes)?;
+    Ok(Some(number))
+}
+
+fn write_names<W: Write>(names: &IndexSet<Vec<u8>>, rows: &mut RowWriter<'_, W>) -> Outcome {
+    let mut number = 0u64;
+    for bytes in names {
+        number = number.saturating_add(1);
+        push_name(rows, number, bytes.as_slice())?;
+    }
+    Ok(())
+}
+
+/// Writes a name: a row for each eight characters of it.
+fn push_name<W: Write>(rows: &mut RowWriter<'_, W>, number: u64, bytes: &[u8]) -> Outcome {
+    let mut count = 0u64;
+    let mut letters = 0u64;
+    // The bytes that are 0 are halves of units of UTF-16.
+    for byte in bytes {
+        if *byte != 0 {
+            letters |= u64::from(*byte) << (8 * (count % 8));
+            count = count.saturating_add(1);
+            if count % 8 == 0 {
+                push_letters(rows, number, count, letters)?;
+                letters = 0;
+            }
+        }
+    }
+    if letters == 0 {
+        return Ok(());
+    }
+    push_letters(rows, number, count.saturating_add(7), letters)
+}
+
+/// Writes the characters up to this count, at most eight of them.
+fn push_letters<W: Write>(
+    rows: &mut RowWriter<'_, W>,
+    number: u64,
+    count: u64,
+    letters: u64,
+) -> Outcome {
+    rows.push(&[
+        Some(number),
+        Some((count / 8).saturating_sub(1)),
+        Some(letters),
+    ])
+}

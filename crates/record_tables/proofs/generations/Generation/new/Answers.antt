@@ -1,5 +1,0 @@
-use Rattle.record_tables.proofs.CountLaws.{none_taken}
-use Rattle.record_tables.proofs.generations.Generation.new.Goals as goal
-
-pub returns : goal.returns
-returns c = record { strong = none_taken; weak = none_taken }
