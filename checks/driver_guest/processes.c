@@ -5,6 +5,7 @@
 #include <signal.h>
 #include <stdio.h>
 #include <stdlib.h>
+#include <string.h>
 #include <sys/prctl.h>
 #include <sys/syscall.h>
 #include <sys/wait.h>
@@ -85,7 +86,21 @@ void in_directory(const char *name)
 	directory = name;
 }
 
-/* When the books were saved, and where the devices are mapped. */
+/* Where the process has mapped devices. A program on libgbinder does not say so itself. */
+static void write_mappings(FILE *file, pid_t process)
+{
+	char path[40], line[512], device[64];
+	unsigned long long address;
+	snprintf(path, sizeof path, "/proc/%d/maps", process);
+	FILE *maps = fopen(path, "r");
+	while (maps && fgets(line, sizeof line, maps))
+		if (strstr(line, "binder") &&
+		    sscanf(line, "%llx-%*s %*s %*s %*s %*s /dev/%63s", &address, device) == 2)
+			fprintf(file, "%d %s %#llx\n", process, device, address);
+	if (maps) fclose(maps);
+}
+
+/* When the books were saved, and where the devices are mapped: newer kernels write where in the mapping a buffer is. */
 static void write_moment(const char *suffix)
 {
 	char path[300];
@@ -98,6 +113,7 @@ static void write_moment(const char *suffix)
 	for (int i = 0; i < shared->mappings && i < 1024; i++)
 		fprintf(file, "%d %s %#llx\n", shared->mapping[i].process, shared->mapping[i].device,
 			(unsigned long long)shared->mapping[i].address);
+	for (int i = 0; i < shared->processes; i++) write_mappings(file, shared->process[i]);
 	if (fclose(file)) fail(path);
 }
 
