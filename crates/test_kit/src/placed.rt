@@ -32,7 +32,7 @@ impl Placed for BufferItem {
     ghost place_in = { buffer_place };
 
     fn place(self) -> u64 {
-        self.pending().place
+        self.pending().1.place
     }
 }
 

@@ -12,21 +12,28 @@ macro_rules! item {
     };
 }
 
-/// A handle, its strong count and low, and its weak count and low.
+/// A strong count and its low, a weak count and its low.
+macro_rules! counts {
+    ($strong:literal, $strong_low:literal, $weak:literal, $weak_low:literal) => {
+        HandleCounts {
+            strong: Count {
+                sum: $strong,
+                low: $strong_low,
+            },
+            weak: Count {
+                sum: $weak,
+                low: $weak_low,
+            },
+        }
+    };
+}
+
+/// A handle with its counts.
 macro_rules! row {
     ($handle:literal, $strong:literal, $strong_low:literal, $weak:literal, $weak_low:literal) => {
         (
             $handle,
-            HandleCounts {
-                strong: Count {
-                    sum: $strong,
-                    low: $strong_low,
-                },
-                weak: Count {
-                    sum: $weak,
-                    low: $weak_low,
-                },
-            },
+            counts!($strong, $strong_low, $weak, $weak_low),
         )
     };
 }
@@ -71,12 +78,12 @@ const HELD: &[((u32, bool), u64)] = &[
     ((7, true), 1),
 ];
 
-/// A row, and how many strong and how many weak references are held.
+/// A handle with its counts, and how many strong and how many weak references are held.
 macro_rules! held_row {
-    ($row:expr, $strong:literal, $weak:literal) => {
+    ($handle:literal, $counts:expr, $strong:literal, $weak:literal) => {
         HeldRow {
-            handle: $row.0,
-            taken: $row.1,
+            handle: $handle,
+            taken: $counts,
             held_strong: $strong,
             held_weak: $weak,
         }
@@ -84,16 +91,16 @@ macro_rules! held_row {
 }
 
 const HELD_ROWS: &[HeldRow] = &[
-    held_row!(row!(0, 0, 0, 0, 0), 1, 0),
-    held_row!(row!(1, 1, 0, 0, 0), 0, 0),
-    held_row!(row!(2, -2, -2, 0, 0), 0, 0),
-    held_row!(row!(3, 0, 0, 1, 0), 0, 0),
-    held_row!(row!(4, 0, 0, -1, -1), 0, 0),
-    held_row!(row!(5, 1, 0, -1, -1), 2, 1),
-    held_row!(row!(6, 0, -1, 0, 0), 0, 0),
-    held_row!(row!(7, 0, 0, 0, 0), 0, 2),
-    held_row!(row!(8, 0, 0, 0, 0), 1, 0),
-    held_row!(row!(4294967295, 0, 0, 1, 0), 0, 0),
+    held_row!(0, counts!(0, 0, 0, 0), 1, 0),
+    held_row!(1, counts!(1, 0, 0, 0), 0, 0),
+    held_row!(2, counts!(-2, -2, 0, 0), 0, 0),
+    held_row!(3, counts!(0, 0, 1, 0), 0, 0),
+    held_row!(4, counts!(0, 0, -1, -1), 0, 0),
+    held_row!(5, counts!(1, 0, -1, -1), 2, 1),
+    held_row!(6, counts!(0, -1, 0, 0), 0, 0),
+    held_row!(7, counts!(0, 0, 0, 0), 0, 2),
+    held_row!(8, counts!(0, 0, 0, 0), 1, 0),
+    held_row!(4294967295, counts!(0, 0, 1, 0), 0, 0),
 ];
 
 /// The items have these rows, without and with what is held.
