@@ -67,17 +67,19 @@ fn kind_at(protocol: Protocol, place: usize, code: Code) -> Option<Kind>
     }
 }
 
-// The kind of a listed code word, from the line at its number or the one after that. Most records
-// of a capture have such a code word.
+// The kind of most listed code words, with one look at the line that their number names. Two
+// returns have the number 2, so a return with a greater number is one line after its number. The
+// second of the two, BR_TRANSACTION_SEC_CTX, is not found here.
 #[inline(always)]
 fn of_word(protocol: Protocol, code: Code) -> Option<Kind>
     ensures { IfSome result (λ kind. kind_of protocol code.0 ≡ Ok kind) }
 {
-    let place = code.number() as usize;
-    match kind_at(protocol, place, code) {
-        Some(kind) => Some(kind),
-        None => kind_at(protocol, place + 1, code),
-    }
+    let number = code.number() as usize;
+    let place = match protocol {
+        Protocol::Return if number > 2 => number + 1,
+        _ => number,
+    };
+    kind_at(protocol, place, code)
 }
 
 // Whether the line has the number of this code word.
@@ -120,7 +122,10 @@ fn listing(protocol: Protocol, code: Code) -> Result<Kind, CodeFault>
     listing_in(lines(protocol), code)
 }
 
-// What a code word means in a frame of the protocol, by its fields.
+// What a code word means in a frame of the protocol, by its fields. Few records come here. As a
+// call it leaves the reader of a record small enough to be inlined in the loops over records.
+#[cold]
+#[inline(never)]
 fn by_fields(protocol: Protocol, code: Code) -> Result<Kind, CodeFault>
     ensures { result ≡ kind_of protocol code.0 }
 {
