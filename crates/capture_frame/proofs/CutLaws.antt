@@ -12,12 +12,12 @@ use Rattle.capture_frame.specs.Frames.{frame_at, frame_parser}
 use Rattle.capture_frame.specs.Parts.{frames_if, header_at, last_of}
 use Rattle.capture_frame.specs.ReadOn.{Parsed}
 use Rattle.capture_frame.specs.State.{Steps, frames_after}
-use Rattle.capture_frame.specs.Tests.{fault_at, at_place}
+use Rattle.capture_frame.specs.Tests.{fault_at}
 use Rattle.capture_frame.specs.Units.{placed, units_of}
 use Rattle.capture_frame.proofs.FrameLaws.{frame_widths, frames_fill, frames_placed}
 use Rattle.capture_frame.proofs.FrameListLaws.{added, bodies-push, starts_of}
 use Rattle.capture_frame.proofs.HeaderLaws.{header_long}
-use Rattle.capture_frame.proofs.ReadOnLaws.{IsThere, all_moved, first_moved, moved, moves, units_moved, units_there}
+use Rattle.capture_frame.proofs.ReadOnLaws.{IsThere, all_moved, at_place-moves, map_none, moved, moves, units_moved, units_there}
 
 -- ---- a part
 
@@ -59,14 +59,6 @@ pushed_next part base before last reader new old places found has (unit, view, i
 }
 
 -- ---- at the end of a part
-
-at_place-moves : {U : Type 0} (n place : ℕ) (found : Result U FaultKind) → at_place (n + place) found ≡ first_moved n (at_place place found)
-at_place-moves n place (Ok unit) = refl
-at_place-moves n place (Err kind) = refl
-
-none_moved : (n : ℕ) (fault : Option Fault) → None ≡ option_map (moved n) fault → fault ≡ None
-none_moved n None is = refl
-none_moved n (Some fault) is = let no : ⊥ = cc in absurd no
 
 some_moved : (n : ℕ) (found : Option Fault) (fault : Fault) → Some fault ≡ option_map (moved n) found
     → (n ≤ fault.place) × (found ≡ Some (fault_at fault.kind (fault.place - n)))
@@ -127,7 +119,7 @@ module _ (part : List ℕ) (base : ℕ) (before last : Option ℕ) (reader : Par
 
   pub pushed_end : reader.fault ≡ None → IsPushed part before last (kept row old) (kept new_row places)
   pushed_end good = record {
-    good = none_moved base (cut_of_part before part).fault (sym good ∙ fault_moved part base before last reader old places has);
+    good = map_none (moved base) (cut_of_part before part).fault (sym (fault_moved part base before last reader old places has) ∙ good);
     are_added = are_added;
     longer = longer;
     last_is = ap (λ (us : List PlacedFrame). last_of last (units_of us)) (sym none) ∙ has.last_is

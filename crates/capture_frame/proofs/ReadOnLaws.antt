@@ -5,10 +5,11 @@ use Rattle.std.proofs.lemmas.List.Elements.{All-nil, All-cons, All-weaker}
 use Rattle.std.proofs.lemmas.List.Kept.{AllPairs-cons}
 use Rattle.std.proofs.lemmas.List.Sums.{sum_by-cons}
 use Rattle.capture_frame.specs.declared.fault.Fault.{Fault}
+use Rattle.capture_frame.specs.declared.fault.FaultKind.{FaultKind}
 use Rattle.capture_frame.specs.Calls.{Calls, no_more, one_more, GiveInOrder}
 use Rattle.capture_frame.specs.ReadOn.{Parser, Parsed, at_end, at_fault, with_unit, unit_or_fault, read_on, parsed_by}
 use Rattle.capture_frame.specs.Readers.{Steps, GivesUnit, last_result}
-use Rattle.capture_frame.specs.Tests.{fault_at}
+use Rattle.capture_frame.specs.Tests.{fault_at, at_place}
 use Rattle.capture_frame.specs.Units.{Placed, placed_at, placed, units_of, IsBytes}
 use Rattle.capture_frame.proofs.NumberLaws.{IsBytes-drop}
 use Rattle.capture_frame.proofs.Pairs.{pairs_nil}
@@ -102,6 +103,15 @@ moved n fault = fault_at fault.kind (n + fault.place)
 abbrev pub first_moved : {U : Type 0} → ℕ → Result U Fault → Result U Fault
 first_moved n (Ok unit) = Ok unit
 first_moved n (Err fault) = Err (moved n fault)
+
+-- what was not there is not there after a move either
+pub map_none : {A B : Type 0} (f : A → B) (a : Option A) → option_map f a ≡ None → a ≡ None
+map_none f None none = refl
+map_none {A} {B} f (Some x) none = let wrong : Some (f x) ≡ None = none in absurd (cc)
+
+pub at_place-moves : {U : Type 0} (n place : ℕ) (found : Result U FaultKind) → at_place (n + place) found ≡ first_moved n (at_place place found)
+at_place-moves n place (Ok unit) = refl
+at_place-moves n place (Err kind) = refl
 
 abbrev pub all_moved : {U : Type 0} → ℕ → Parsed U → Parsed U
 all_moved n found = record { units = map (moved_unit n) found.units; fault = option_map (moved n) found.fault }

@@ -1,12 +1,10 @@
 -- The elements after the last one that passes a test.
 use Rattle.std.proofs.Common.{◌≡◌, ◌||◌, Bool, true, false, cond, List, [], ◌∷◌, ◌++◌, refl, ap, ◌∙◌}
+use Rattle.std.proofs.Math.Bool.{or-false}
 use Rattle.std.proofs.lemmas.Bool.{or_right}
 use Rattle.std.proofs.lemmas.List.Folds.{list_any-append}
 use Rattle.std.specs.List.{list_any}
 use Rattle.pending_ledger.specs.KeyEvents.{after_last}
-
-pub or_false : (b : Bool) → (b || false) ≡ b
-or_false b = elim b as (λ v. (v || false) ≡ v) [ true ↦ refl | false ↦ refl ]
 
 module _ {X : Type 0} (test : X → Bool) where
   pub after_last-none : (xs : List X) → list_any test xs ≡ false → after_last test xs ≡ xs
@@ -18,7 +16,7 @@ module _ {X : Type 0} (test : X → Bool) where
   after_last-append [] ys none = after_last-none ys none
   after_last-append (x ∷ xs) ys none =
       let same : list_any test ((x ∷ xs) ++ ys) ≡ list_any test (x ∷ xs)
-      = list_any-append test (x ∷ xs) ys ∙ ap (λ b. list_any test (x ∷ xs) || b) none ∙ or_false (list_any test (x ∷ xs)) in
+      = list_any-append test (x ∷ xs) ys ∙ ap (λ b. list_any test (x ∷ xs) || b) none ∙ or-false (list_any test (x ∷ xs)) in
       let split : cond (list_any test (x ∷ xs)) (after_last test (xs ++ ys)) (x ∷ (xs ++ ys))
       ≡ cond (list_any test (x ∷ xs)) (after_last test xs) (x ∷ xs) ++ ys
       = elim (list_any test (x ∷ xs)) as (λ b. cond b (after_last test (xs ++ ys)) (x ∷ (xs ++ ys)) ≡ cond b (after_last test xs) (x ∷ xs) ++ ys)

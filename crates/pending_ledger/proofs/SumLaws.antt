@@ -1,6 +1,7 @@
 -- What a ledger of one key, or of one cookie, keeps through an `add` and a `join`.
 use Rattle.std.proofs.Common.{◌≡◌, ℕ, ◌+◌, ◌||◌, Bool, true, false, cond, List, [], ◌∷◌, ◌++◌, length, map, drop, Option, Some, None, filter_map, refl}
 use Rattle.std.proofs.Common.{sym, ap, ◌∙◌, arith, length-append, ◌-◌, take, take_all, length-drop}
+use Rattle.std.proofs.Math.Bool.{or-false}
 use Rattle.std.proofs.lemmas.Bool.{or_right}
 use Rattle.std.proofs.lemmas.List.{map-append}
 use Rattle.std.proofs.lemmas.List.Elements.{filter_map-append}
@@ -13,7 +14,7 @@ use Rattle.event_core.specs.declared.request.RequestChange.{RequestChange}
 use Rattle.event_core.specs.declared.request.RequestChange.TheVariants.{Request, Clear, Dead}
 use Rattle.event_core.specs.declared.request.RequestItem.{RequestItem}
 use Rattle.pending_ledger.proofs.KeyLaws.{open_places-append, open_places-anew, last_or-append, unmet_places-append, unmet_after}
-use Rattle.pending_ledger.proofs.LastLaws.{or_false, after_last-append, after_last-anew, after_last-none, after_last-suffix}
+use Rattle.pending_ledger.proofs.LastLaws.{after_last-append, after_last-anew, after_last-none, after_last-suffix}
 use Rattle.pending_ledger.specs.declared.opens.Opens.{Opens}
 use Rattle.pending_ledger.specs.declared.strays.Strays.{Strays}
 use Rattle.pending_ledger.specs.KeyEvents.{event_place, event_change, is_closing, after_last, open_places, unmet_places, first_change, met_count}
@@ -32,7 +33,7 @@ opened_sums old new events event opens pushed kept sums =
     record {
       places = pushed ∙ ap (λ t. t ++ event.place ∷ []) sums.places ∙ ap (λ t. open_places events ++ t) (sym alone)
           ∙ sym (open_places-append events (event ∷ []) none);
-      has_close = kept ∙ sums.has_close ∙ sym (or_false (list_any is_closing events)) ∙ ap (λ b. list_any is_closing events || b) (sym none)
+      has_close = kept ∙ sums.has_close ∙ sym (or-false (list_any is_closing events)) ∙ ap (λ b. list_any is_closing events || b) (sym none)
           ∙ sym (list_any-append is_closing events (event ∷ []));
     }
 
@@ -57,7 +58,7 @@ open_joined earlier later joined first second still both kept mine theirs =
     record {
       places = both ∙ ap (λ t. t ++ later.places) mine.places ∙ ap (λ t. open_places first ++ t) theirs.places
           ∙ sym (open_places-append first second none);
-      has_close = kept ∙ mine.has_close ∙ sym (or_false (list_any is_closing first)) ∙ ap (λ b. list_any is_closing first || b) (sym none)
+      has_close = kept ∙ mine.has_close ∙ sym (or-false (list_any is_closing first)) ∙ ap (λ b. list_any is_closing first || b) (sym none)
           ∙ sym (list_any-append is_closing first second);
     }
 

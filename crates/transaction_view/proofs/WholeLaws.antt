@@ -15,7 +15,7 @@ use Rattle.capture_frame.specs.Tests.{tested, at_place, fault_at, is_above}
 use Rattle.capture_frame.specs.Units.{Placed, placed_at}
 use Rattle.capture_frame.proofs.FrameLaws.{frame_widths, frame_stays}
 use Rattle.capture_frame.proofs.PartLaws.{IsWide}
-use Rattle.capture_frame.proofs.ReadOnLaws.{HasWidths, by_units, unit_here, fault_here, moved, moved_unit, first_moved, all_moved, moves}
+use Rattle.capture_frame.proofs.ReadOnLaws.{HasWidths, by_units, unit_here, fault_here, moved, moved_unit, map_none, at_place-moves, all_moved, moves}
 use Rattle.capture_frame.proofs.TestLaws.{found_there, fault_there}
 use Rattle.record_view.specs.Records.{RecordText, protocol_of, record_at, record_parser, records_of}
 use Rattle.record_view.proofs.RecordLaws as records
@@ -63,10 +63,6 @@ fault_held frame fault is =
 -- ---- a frame at another place
 
 module _ (n : ℕ) where
-  first_moves : {U : Type 0} (place : ℕ) (found : Result U FaultKind) → at_place (n + place) found ≡ first_moved n (at_place place found)
-  first_moves place (Ok unit) = refl
-  first_moves place (Err kind) = refl
-
   equal_moves : (p q : ℕ) → (n + p == n + q) ≡ (p == q)
   equal_moves p q = grind (arith, nat_tests)
 
@@ -108,10 +104,6 @@ module _ (n : ℕ) where
   either_moved (Some fault) b = refl
   either_moved None b = refl
 
-  none_moved : (fault : Option Fault) → option_map (moved n) fault ≡ None → fault ≡ None
-  none_moved None is = refl
-  none_moved (Some fault) is = absurd (cc)
-
   module _ (place : ℕ) (f : FrameText) where
     abbrev here : PlacedFrame
     here = placed_at place f
@@ -123,7 +115,7 @@ module _ (n : ℕ) where
     records_move =
         let further : commands_place (n + place) ≡ n + commands_place place = omega arith in
         ap (λ (p : ℕ). parsed_by (record_parser f.direction) tt p f.commands) further
-        ∙ moves (record_parser f.direction) (records.widths f.direction) n (λ _ p bytes. first_moves p (record_at (protocol_of f.direction) bytes)) tt (commands_place place) f.commands
+        ∙ moves (record_parser f.direction) (records.widths f.direction) n (λ _ p bytes. at_place-moves n p (record_at (protocol_of f.direction) bytes)) tt (commands_place place) f.commands
 
     abbrev by_tests : List ℕ → Bool → Option RecordText → EntryText → Result EntryText FaultKind
     by_tests bytes above owner e = tested ((nat_le 12 (length bytes), AttachShort) ∷ (nat_le (entry_length bytes) (length bytes), AttachShort)
@@ -228,7 +220,7 @@ pub good_anywhere : (place other : ℕ) (f : FrameText) → content_fault (place
 good_anywhere place other f good =
     let at : (p : ℕ) → content_fault (placed_at p f) ≡ option_map (moved p) (content_fault (placed_at 0 f)) =
     λ p. ap (λ (q : ℕ). content_fault (placed_at q f)) (let e : p ≡ p + 0 = omega arith in e) ∙ content_moves p 0 f in
-    at other ∙ ap (option_map (moved other)) (none_moved place (content_fault (placed_at 0 f)) (sym (at place) ∙ good))
+    at other ∙ ap (option_map (moved other)) (map_none (moved place) (content_fault (placed_at 0 f)) (sym (at place) ∙ good))
 
 first_good : (place : ℕ) (found : Result FrameText Fault) (frame : FrameText) → with_content place found ≡ Ok frame
     → (found ≡ Ok frame) × (content_fault (placed_at place frame) ≡ None)

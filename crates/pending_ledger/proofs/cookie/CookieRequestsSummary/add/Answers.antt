@@ -4,7 +4,7 @@ use Rattle.std.proofs.lemmas.List.Folds.{list_any-append}
 use Rattle.std.proofs.lemmas.Result.{on_ok_weaker}
 use Rattle.std.specs.List.{list_any}
 use Rattle.std.specs.Ordering.{eq_by_cmp, nat_cmp}
-use Rattle.pending_ledger.proofs.LastLaws.{or_false}
+use Rattle.std.proofs.Math.Bool.{or-false}
 use Rattle.pending_ledger.proofs.SumLaws.{is_alive, is_gone, handle_events-added, handle_events-gone, handles_short}
 use Rattle.pending_ledger.specs.Sums.{OpensSums, handle_event, handle_events, is_death}
 use Rattle.summary_law.specs.ByKey.{EachFits, SumsByKey}
@@ -32,7 +32,7 @@ returns-in-Some c =
     (λ adds items sums fits.
     let added = handle_events-added items item event is in
     record {
-      dead = sums.dead ∙ sym (or_false (list_any is_death items)) ∙ ap (λ b. list_any is_death items || b) (sym (is_alive item event is))
+      dead = sums.dead ∙ sym (or-false (list_any is_death items)) ∙ ap (λ b. list_any is_death items || b) (sym (is_alive item event is))
           ∙ sym (list_any-append is_death items (item ∷ []));
       handles = subst (SumsByKey nat_cmp OpensSums c.add.new.self.entries) (sym added)
           (adds (handle_events items) sums.handles (subst (EachFits eq IsShort) added (handles_short eq (items ++ item ∷ []) fits)));

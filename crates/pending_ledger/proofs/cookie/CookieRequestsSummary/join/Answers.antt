@@ -3,7 +3,7 @@ use Rattle.std.proofs.lemmas.Bool.{or_right}
 use Rattle.std.proofs.lemmas.List.Folds.{list_any-append}
 use Rattle.std.specs.List.{list_any}
 use Rattle.std.specs.Ordering.{eq_by_cmp, nat_cmp}
-use Rattle.pending_ledger.proofs.LastLaws.{or_false}
+use Rattle.std.proofs.Math.Bool.{or-false}
 use Rattle.pending_ledger.proofs.SumLaws.{handle_events-append, handle_events-anew, handles_short}
 use Rattle.pending_ledger.specs.Sums.{OpensSums, handle_events, is_death}
 use Rattle.summary_law.specs.ByKey.{EachFits, SumsByKey}
@@ -40,7 +40,7 @@ returns c = λ first second mine theirs fits.
     let none : list_any is_death second ≡ false = sym theirs.dead ∙ alive in
     let both = handle_events-append first second none in
     record {
-      dead = mine.dead ∙ sym (or_false (list_any is_death first)) ∙ ap (λ b. list_any is_death first || b) (sym none)
+      dead = mine.dead ∙ sym (or-false (list_any is_death first)) ∙ ap (λ b. list_any is_death first || b) (sym none)
           ∙ sym (list_any-append is_death first second);
       handles = subst (SumsByKey nat_cmp OpensSums c.in_ok-handles.handles.entries) (sym both)
           (c.in_ok-handles.ensures (handle_events first) (handle_events second) mine.handles theirs.handles
