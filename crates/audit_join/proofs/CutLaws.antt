@@ -26,7 +26,7 @@ use Rattle.audit_join.proofs.PlaceLaws.{in_this, in_later}
 use Rattle.transaction_view.proofs.WholeLaws.{content_moves, either_moved, whole_good, whole_bad}
 use Rattle.capture_frame.proofs.FrameLaws.{frames_placed, frames_fit, frames_fill}
 use Rattle.capture_frame.proofs.HeaderLaws.{header_long}
-use Rattle.capture_frame.proofs.ReadOnLaws.{IsBetween, moved, placed-append, placed_apart, placed_within}
+use Rattle.capture_frame.proofs.ReadOnLaws.{IsBetween, map_none, moved, placed-append, placed_apart, placed_within}
 
 -- ---- frames one after another
 
@@ -112,10 +112,6 @@ part_is : (last : Option ℕ) (part : List ℕ) → ArePartsOf part (cut_of_part
 part_is last part = part_by last part (header_at part) refl
 
 -- ---- all parts
-
-pub map_none : {A B : Type 0} (f : A → B) (a : Option A) → option_map f a ≡ None → a ≡ None
-map_none f None none = refl
-map_none {A} {B} f (Some x) none = let wrong : Some (f x) ≡ None = none in absurd (cc)
 
 map_some : {A B : Type 0} (f : A → B) (a : Option A) (y : B) → option_map f a ≡ Some y → (x : A) × (a ≡ Some x) × (y ≡ f x)
 map_some f None y is = absurd (cc)

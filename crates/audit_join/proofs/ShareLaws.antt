@@ -24,7 +24,7 @@ use Rattle.audit_join.specs.Pieces.{all_frames, ArePieces}
 use Rattle.audit_join.specs.Judged.{IsLeastOf}
 use Rattle.capture_frame.proofs.Pairs.{pairs_head}
 use Rattle.audit_findings.proofs.Rising.{pairs_before}
-use Rattle.audit_join.proofs.CutLaws.{map_none}
+use Rattle.capture_frame.proofs.ReadOnLaws.{map_none}
 use Rattle.audit_join.proofs.FaultLaws.{first_append, first_by}
 
 -- ---- the pieces of cut frames
