@@ -67,19 +67,25 @@ fn kind_at(protocol: Protocol, place: usize, code: Code) -> Option<Kind>
     }
 }
 
-// The kind of most listed code words, with one look at the line that their number names. Two
-// returns have the number 2, so a return with a greater number is one line after its number. The
-// second of the two, BR_TRANSACTION_SEC_CTX, is not found here.
+// The last number whose line is at its place. Two returns have the number 2, so the lines of later
+// ones are one further on.
+#[inline(always)]
+fn last_in_place(protocol: Protocol) -> u8 {
+    match protocol {
+        Protocol::Command => (COMMANDS - 1) as u8,
+        Protocol::Return => 2,
+    }
+}
+
+// The kind of most listed code words, with one look at the line that their number names. The second
+// return with the number 2, BR_TRANSACTION_SEC_CTX, is not found here.
 #[inline(always)]
 fn of_word(protocol: Protocol, code: Code) -> Option<Kind>
     ensures { IfSome result (λ kind. kind_of protocol code.0 ≡ Ok kind) }
 {
-    let number = code.number() as usize;
-    let place = match protocol {
-        Protocol::Return if number > 2 => number + 1,
-        _ => number,
-    };
-    kind_at(protocol, place, code)
+    let number = code.number();
+    let further = (number > last_in_place(protocol)) as usize;
+    kind_at(protocol, number as usize + further, code)
 }
 
 // Whether the line has the number of this code word.

@@ -77,6 +77,8 @@ fn check_part(part: &[u8], before: Option<u64>) -> Result<Option<u64>, Fault>
     Ok(last)
 }
 
+// A part of each loop over frames, since a call costs as much as the judging of two records.
+#[inline(always)]
 fn check_content(frame: Frame<'_>) -> Result<(), Fault>
     ensures { MatchResult result
         (λ _. content_fault (placed_frame frame.entry) ≡ None)
@@ -87,6 +89,7 @@ fn check_content(frame: Frame<'_>) -> Result<(), Fault>
 }
 
 /// Checks the records of one frame.
+#[inline(always)]
 fn check_records(frame: Frame<'_>) -> Result<(), Fault>
     ensures { MatchResult result
         (λ _. (records_of (placed_frame frame.entry)).fault ≡ None)
@@ -98,6 +101,7 @@ fn check_records(frame: Frame<'_>) -> Result<(), Fault>
 }
 
 /// Checks the entries of one frame, whose records have no fault.
+#[inline(always)]
 fn check_entries(frame: Frame<'_>) -> Result<(), Fault>
     requires { (records_of (placed_frame frame)).fault ≡ None }
     ensures { MatchResult result
