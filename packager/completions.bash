@@ -1,4 +1,4 @@
-# Completions of binder-audit, binder-listing, binder-record and binder-view for bash.
+# Completions of binder-audit, binder-listing, binder-methods, binder-record and binder-view for bash.
 
 # Offers these words.
 _binder_audit_words() { # WORD CHOICES
@@ -40,6 +40,11 @@ _binder_listing() { # COMMAND WORD BEFORE
   esac
 }
 
+_binder_methods() { # COMMAND WORD BEFORE
+  COMPREPLY=()
+  _binder_audit_options "$2" '--help'
+}
+
 _binder_record() { # COMMAND WORD BEFORE
   local word
   COMPREPLY=()
@@ -67,5 +72,6 @@ _binder_view() { # COMMAND WORD BEFORE
 
 complete -F _binder_audit binder-audit
 complete -F _binder_listing binder-listing
+complete -F _binder_methods binder-methods
 complete -F _binder_record binder-record
 complete -F _binder_view binder-view

@@ -1,5 +1,5 @@
-#compdef binder-audit binder-listing binder-record binder-view
-# Completions of binder-audit, binder-listing, binder-record and binder-view for zsh.
+#compdef binder-audit binder-listing binder-methods binder-record binder-view
+# Completions of binder-audit, binder-listing, binder-methods, binder-record and binder-view for zsh.
 
 local parts='*:part of the capture:_files'
 
@@ -45,6 +45,11 @@ case $service in
       '--table[write one raw table]:name:' \
       '(- *)--help[say what the options do]' \
       $parts
+    ;;
+  binder-methods)
+    _arguments \
+      '(- *)--help[say what the words mean]' \
+      '*:.aidl or .hal file, or folder:_files'
     ;;
   binder-record)
     local at=${words[(i)--]}
