@@ -1,4 +1,4 @@
-//! From a capture to its findings, or to its first fault.
+//! The findings of a capture in parts, or its first fault, made by several workers.
 #![tactic(auto)]
 
 mod audit_error;
