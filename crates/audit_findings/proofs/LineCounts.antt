@@ -50,13 +50,13 @@ module _ (words : List ℕ) where
     same_count : (other : ℕ) → word ≢ other → count_of (words ++ word ∷ []) other ≡ count_of words other
     same_count other apart =
         let more = sum_by_push (λ (w : ℕ). cond (eqb w other) 1 0) words word in
-        let none = ap (λ (is : Bool). let count : ℕ = cond is 1 0 in count) (ne_eqb word other apart) in
+        let none = ap (λ (is : Bool). cond {A = ℕ} is 1 0) (ne_eqb word other apart) in
         omega (arith, more, none)
 
     one_more : (other : ℕ) → word ≡ other → count_of (words ++ word ∷ []) other ≡ count_of words other + 1
     one_more other same =
         let more = sum_by_push (λ (w : ℕ). cond (eqb w other) 1 0) words word in
-        let one = ap (λ (is : Bool). let count : ℕ = cond is 1 0 in count) (eq-eqb word other same) in
+        let one = ap (λ (is : Bool). cond {A = ℕ} is 1 0) (eq-eqb word other same) in
         omega (arith, more, one)
 
     -- one word more counts for none of the others that it is not among
@@ -65,18 +65,19 @@ module _ (words : List ℕ) where
     others_stay (other ∷ others) absent =
         ap₂ (λ (n : ℕ) (ns : List ℕ). n ∷ ns) (same_count other (λ same. absent (inl same))) (others_stay others (λ there. absent (inr there)))
 
+    first_apart : (other : ℕ) (others : List ℕ) → AllPairs (λ (a b : ℕ). a ≢ b) (other ∷ others) → In word others → other ≢ word
+    first_apart other others apart there =
+        All-contains (λ (w : ℕ). other ≢ w) others word (pairs_head (λ (a b : ℕ). a ≢ b) other others apart) (contained others word there)
+
     -- and for the one that it is
     pub one_counts : (others : List ℕ) (place : ℕ) → AllPairs (λ (a b : ℕ). a ≢ b) others → slice_get others place ≡ Some word
         → map (count_of (words ++ word ∷ [])) others ≡ set (map (count_of words) others) place (get_or (map (count_of words) others) place 0 + 1)
     one_counts [] place apart at = cc
     one_counts (other ∷ others) zero apart at =
         let same : other ≡ word = cc in
-        ap₂ (λ (n : ℕ) (ns : List ℕ). n ∷ ns) (one_more other (sym same))
-        (others_stay others (λ there. All-contains (λ (w : ℕ). other ≢ w) others word (pairs_head (λ (a b : ℕ). a ≢ b) other others apart) (contained others word there) same))
+        ap₂ (λ (n : ℕ) (ns : List ℕ). n ∷ ns) (one_more other (sym same)) (others_stay others (λ there. first_apart other others apart there same))
     one_counts (other ∷ others) (suc place) apart at =
-        ap₂ (λ (n : ℕ) (ns : List ℕ). n ∷ ns)
-        (same_count other
-        (λ same. All-contains (λ (w : ℕ). other ≢ w) others word (pairs_head (λ (a b : ℕ). a ≢ b) other others apart) (contained others word (get_in others place word at)) (sym same)))
+        ap₂ (λ (n : ℕ) (ns : List ℕ). n ∷ ns) (same_count other (λ same. first_apart other others apart (get_in others place word at) (sym same)))
         (one_counts others place (pairs_tail (λ (a b : ℕ). a ≢ b) other others apart) at)
 
 -- counts added place by place count the words of both
@@ -99,9 +100,9 @@ word_at kind place word is other means =
     own_word None own = cc
     own_word (Some line) own = ap Some (sym (eqb-true word line.word own))
 
-pub within_lines : (place word : ℕ) → slice_get listed_words place ≡ Some word → place < LISTED
-within_lines place word at =
-    let inside = slice_get_within listed_words place word at in
+pub place_within : (kind : Kind) (place word : ℕ) → slice_get lines place ≡ row_of kind → kind ≢ Opaque → Means word kind → place < LISTED
+place_within kind place word is other means =
+    let inside = slice_get_within listed_words place word (word_at kind place word is other means) in
     let all = lines_long in
     omega (arith, inside, all)
 

@@ -102,13 +102,11 @@ fn push_listed(rows: &mut Vec<CodeRow>, counts: &[u64; LISTED]) -> Result<(), Al
         rows.new.items ≡ rows.old.items ++ listed_rows words) }
 {
     for (place, line) in Line::all().iter().enumerate() {
-        push_counted(
-            rows,
-            CodeRow {
-                word: line.word,
-                count: counts[place],
-            },
-        )?;
+        let row = CodeRow {
+            word: line.word,
+            count: counts[place],
+        };
+        push_counted(rows, row)?;
     }
     Ok(())
 }

@@ -6,7 +6,7 @@ use Rattle.summary_law.specs.Tally.{TallySums}
 use Rattle.summary_law.proofs.Members.{get_in}
 use Rattle.binder_code.proofs.WordKinds.{kind_of_meant}
 use Rattle.audit_findings.specs.CodeCounts.{listed_words}
-use Rattle.audit_findings.proofs.LineCounts.{counts-le-length, one_counts, others_stay, within_lines, word_at, words_apart}
+use Rattle.audit_findings.proofs.LineCounts.{counts-le-length, one_counts, others_stay, place_within, word_at, words_apart}
 use Rattle.audit_findings.proofs.OpaqueWords.{no_item, not_opaque, one_item, opaque_items, opaque_few, opaque_word}
 use Rattle.audit_findings.proofs.code_counts.CodeCounts.add.Goals as goal
 
@@ -30,16 +30,14 @@ returns-in-Opaque c =
     c.add.ensures
 
 pub bounds-self-place : goal.bounds-self-place
-bounds-self-place c =
-    within_lines c.place.result c.args.code.0 (word_at c.args.kind c.place.result c.args.code.0 c.place.ensures c.in_default.not-Opaque c.requires.meant)
+bounds-self-place c = place_within c.args.kind c.place.result c.args.code.0 c.place.ensures c.in_default.not-Opaque c.requires.meant
 
 pub bounds-self-place-in_default : goal.bounds-self-place-in_default
-bounds-self-place-in_default c =
-    within_lines c.place.result c.args.code.0 (word_at c.args.kind c.place.result c.args.code.0 c.place.ensures c.in_default.not-Opaque c.requires.meant)
+bounds-self-place-in_default c = place_within c.args.kind c.place.result c.args.code.0 c.place.ensures c.in_default.not-Opaque c.requires.meant
 
 pub offset_bounds-self-place : goal.offset_bounds-self-place
 offset_bounds-self-place c =
-    let inside = within_lines c.place.result c.args.code.0 (word_at c.args.kind c.place.result c.args.code.0 c.place.ensures c.in_default.not-Opaque c.requires.meant) in
+    let inside = place_within c.args.kind c.place.result c.args.code.0 c.place.ensures c.in_default.not-Opaque c.requires.meant in
     omega (arith, inside)
 
 pub overflow_add-self : goal.overflow_add-self
