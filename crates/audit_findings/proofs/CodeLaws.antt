@@ -63,7 +63,7 @@ module _ (key : ℕ) where
   one_longer true items = omega arith
   one_longer false items = omega arith
 
-  -- a tally of words has as many items of a word as there are of the word
+  -- a tally of words has an item of the key for each word that is the key
   items_of_word : (words : List ℕ) → count_of_key nat_cmp key (map word_item words) ≡ count_of words key
   items_of_word [] = refl
   items_of_word (word ∷ words) =

@@ -31,54 +31,55 @@ pub lines_long : length listed_words ≡ LISTED
 unfolding command_lines return_lines
 lines_long = refl
 
--- ---- how many words of some are of each of others
+-- ---- how often each of some keys is among words
 
 module _ (words : List ℕ) where
-  -- in two lists a word is as often as in both
-  pub counts-append : (more others : List ℕ) (k : ℕ)
-      → get_or (map (count_of (words ++ more)) others) k 0 ≡ get_or (map (count_of words) others) k 0 + get_or (map (count_of more) others) k 0
+  -- among the words of two lists a key is as often as among those of the first and those of the second
+  pub counts-append : (more keys : List ℕ) (k : ℕ)
+      → get_or (map (count_of (words ++ more)) keys) k 0 ≡ get_or (map (count_of words) keys) k 0 + get_or (map (count_of more) keys) k 0
   counts-append more [] k = refl
-  counts-append more (other ∷ others) zero = sum_by-append (λ (word : ℕ). cond (eqb word other) 1 0) words more
-  counts-append more (other ∷ others) (suc k) = counts-append more others k
+  counts-append more (key ∷ keys) zero = sum_by-append (λ (word : ℕ). cond (eqb word key) 1 0) words more
+  counts-append more (key ∷ keys) (suc k) = counts-append more keys k
 
-  pub counts-le-length : (others : List ℕ) (k : ℕ) → get_or (map (count_of words) others) k 0 ≤ length words
+  -- and at most as often as there are words
+  pub counts-le-length : (keys : List ℕ) (k : ℕ) → get_or (map (count_of words) keys) k 0 ≤ length words
   counts-le-length [] k = omega arith
-  counts-le-length (other ∷ others) zero = count_by-le-length (λ (word : ℕ). eqb word other) words
-  counts-le-length (other ∷ others) (suc k) = counts-le-length others k
+  counts-le-length (key ∷ keys) zero = count_by-le-length (λ (word : ℕ). eqb word key) words
+  counts-le-length (key ∷ keys) (suc k) = counts-le-length keys k
 
   module _ (word : ℕ) where
-    same_count : (other : ℕ) → word ≢ other → count_of (words ++ word ∷ []) other ≡ count_of words other
-    same_count other apart =
-        let more = sum_by_push (λ (w : ℕ). cond (eqb w other) 1 0) words word in
-        let none = ap (λ (is : Bool). cond {A = ℕ} is 1 0) (ne_eqb word other apart) in
+    other_key : (key : ℕ) → word ≢ key → count_of (words ++ word ∷ []) key ≡ count_of words key
+    other_key key apart =
+        let more = sum_by_push (λ (w : ℕ). cond (eqb w key) 1 0) words word in
+        let none = ap (λ (is : Bool). cond {A = ℕ} is 1 0) (ne_eqb word key apart) in
         omega (arith, more, none)
 
-    one_more : (other : ℕ) → word ≡ other → count_of (words ++ word ∷ []) other ≡ count_of words other + 1
-    one_more other same =
-        let more = sum_by_push (λ (w : ℕ). cond (eqb w other) 1 0) words word in
-        let one = ap (λ (is : Bool). cond {A = ℕ} is 1 0) (eq-eqb word other same) in
+    own_key : (key : ℕ) → word ≡ key → count_of (words ++ word ∷ []) key ≡ count_of words key + 1
+    own_key key same =
+        let more = sum_by_push (λ (w : ℕ). cond (eqb w key) 1 0) words word in
+        let one = ap (λ (is : Bool). cond {A = ℕ} is 1 0) (eq-eqb word key same) in
         omega (arith, more, one)
 
-    -- one word more counts for none of the others that it is not among
-    pub others_stay : (others : List ℕ) → ¬ In word others → map (count_of (words ++ word ∷ [])) others ≡ map (count_of words) others
-    others_stay [] absent = refl
-    others_stay (other ∷ others) absent =
-        ap₂ (λ (n : ℕ) (ns : List ℕ). n ∷ ns) (same_count other (λ same. absent (inl same))) (others_stay others (λ there. absent (inr there)))
+    -- one more word changes no count of other keys
+    pub other_keys_stay : (keys : List ℕ) → ¬ In word keys → map (count_of (words ++ word ∷ [])) keys ≡ map (count_of words) keys
+    other_keys_stay [] absent = refl
+    other_keys_stay (key ∷ keys) absent =
+        ap₂ (λ (n : ℕ) (ns : List ℕ). n ∷ ns) (other_key key (λ same. absent (inl same))) (other_keys_stay keys (λ there. absent (inr there)))
 
-    first_apart : (other : ℕ) (others : List ℕ) → AllPairs (λ (a b : ℕ). a ≢ b) (other ∷ others) → In word others → other ≢ word
-    first_apart other others apart there =
-        All-contains (λ (w : ℕ). other ≢ w) others word (pairs_head (λ (a b : ℕ). a ≢ b) other others apart) (contained others word there)
+    first_apart : (key : ℕ) (keys : List ℕ) → AllPairs (λ (a b : ℕ). a ≢ b) (key ∷ keys) → In word keys → key ≢ word
+    first_apart key keys apart there =
+        All-contains (λ (w : ℕ). key ≢ w) keys word (pairs_head (λ (a b : ℕ). a ≢ b) key keys apart) (contained keys word there)
 
-    -- and for the one that it is
-    pub one_counts : (others : List ℕ) (place : ℕ) → AllPairs (λ (a b : ℕ). a ≢ b) others → slice_get others place ≡ Some word
-        → map (count_of (words ++ word ∷ [])) others ≡ set (map (count_of words) others) place (get_or (map (count_of words) others) place 0 + 1)
-    one_counts [] place apart at = cc
-    one_counts (other ∷ others) zero apart at =
-        let same : other ≡ word = cc in
-        ap₂ (λ (n : ℕ) (ns : List ℕ). n ∷ ns) (one_more other (sym same)) (others_stay others (λ there. first_apart other others apart there same))
-    one_counts (other ∷ others) (suc place) apart at =
-        ap₂ (λ (n : ℕ) (ns : List ℕ). n ∷ ns) (same_count other (λ same. first_apart other others apart (get_in others place word at) (sym same)))
-        (one_counts others place (pairs_tail (λ (a b : ℕ). a ≢ b) other others apart) at)
+    -- and adds 1 at its own place, if all keys differ
+    pub own_key_counts : (keys : List ℕ) (place : ℕ) → AllPairs (λ (a b : ℕ). a ≢ b) keys → slice_get keys place ≡ Some word
+        → map (count_of (words ++ word ∷ [])) keys ≡ set (map (count_of words) keys) place (get_or (map (count_of words) keys) place 0 + 1)
+    own_key_counts [] place apart at = cc
+    own_key_counts (key ∷ keys) zero apart at =
+        let same : key ≡ word = cc in
+        ap₂ (λ (n : ℕ) (ns : List ℕ). n ∷ ns) (own_key key (sym same)) (other_keys_stay keys (λ there. first_apart key keys apart there same))
+    own_key_counts (key ∷ keys) (suc place) apart at =
+        ap₂ (λ (n : ℕ) (ns : List ℕ). n ∷ ns) (other_key key (λ same. first_apart key keys apart (get_in keys place word at) (sym same)))
+        (own_key_counts keys place (pairs_tail (λ (a b : ℕ). a ≢ b) key keys apart) at)
 
 -- counts added place by place count the words of both
 pub both_counted : (words more : List ℕ) (counts later joined : List ℕ) → CountListed counts words → CountListed later more → length joined ≡ LISTED

@@ -6,7 +6,7 @@ use Rattle.summary_law.specs.Tally.{TallySums}
 use Rattle.summary_law.proofs.Members.{get_in}
 use Rattle.binder_code.proofs.WordKinds.{kind_of_meant}
 use Rattle.audit_findings.specs.CodeCounts.{listed_words}
-use Rattle.audit_findings.proofs.LineCounts.{counts-le-length, one_counts, others_stay, place_within, word_at, words_apart}
+use Rattle.audit_findings.proofs.LineCounts.{counts-le-length, own_key_counts, other_keys_stay, place_within, word_at, words_apart}
 use Rattle.audit_findings.proofs.OpaqueWords.{no_item, not_opaque, one_item, opaque_items, opaque_few, opaque_word}
 use Rattle.audit_findings.proofs.code_counts.CodeCounts.add.Goals as goal
 
@@ -23,7 +23,7 @@ returns-in-Opaque c =
     let opaque = opaque_word word (kind_of_meant word c.args.kind c.requires.meant ∙ c.in-Opaque.is) in
     on_ok_weaker c.add.result
     (λ tally words sums short. record {
-      listed = sums.listed ∙ sym (others_stay words word listed_words (λ there. let listed = not_opaque word there in absurd cc));
+      listed = sums.listed ∙ sym (other_keys_stay words word listed_words (λ there. let listed = not_opaque word there in absurd cc));
       opaque = subst (TallySums nat_cmp c.add.new.self) (sym (one_item words word opaque))
           (tally (opaque_items words) sums.opaque (subst IsShort (one_item words word opaque) (opaque_few (words ++ word ∷ []) short)));
     })
@@ -55,6 +55,6 @@ returns-in_default c words sums short =
     let place = c.place.result in
     let at = word_at c.args.kind place word c.place.ensures c.in_default.not-Opaque c.requires.meant in
     record {
-      listed = ap (λ (counts : List ℕ). set counts place (get_or counts place 0 + 1)) sums.listed ∙ sym (one_counts words word listed_words place words_apart at);
+      listed = ap (λ (counts : List ℕ). set counts place (get_or counts place 0 + 1)) sums.listed ∙ sym (own_key_counts words word listed_words place words_apart at);
       opaque = subst (TallySums nat_cmp c.args.self.now.opaque) (sym (no_item words word (not_opaque word (get_in listed_words place word at)))) sums.opaque;
     }
