@@ -3,8 +3,8 @@ pub mod ObjectWalk
 pub mod FewLaws
 pub mod AttachedObjects
 pub mod SequenceLaws
-pub mod KindWords
-mod CodeCountLaws
+mod LineCounts
+mod OpaqueWords
 pub mod CodeLaws
 pub mod FrameLaws
 pub mod HeldLaws

@@ -1,15 +1,15 @@
 //! The counts of code words, while they are made.
 
-ghost use Rattle.std.specs.Prelude.{◌≡◌, ℕ, ◌+◌, ◌<◌, ◌≤◌, ◌^◌, ◌++◌, List, [], length, map, filter, slice_index_or, IfOk, OnOk, IsTrue};
-ghost use Rattle.binder_code.specs.Commands.{is_word_of, kind_of, listed, protocol_of_word};
+ghost use Rattle.std.specs.Prelude.{◌≡◌, ℕ, ◌+◌, ◌<◌, ◌^◌, ◌++◌, ◌∷◌, List, [], map, filter, slice_index, IfOk, OnOk};
+ghost use Rattle.binder_code.specs.Commands.{kind_of, protocol_of_word};
 ghost use Rattle.summary_law.specs.Fits.{IsShort};
 ghost use Rattle.summary_law.specs.Summary.{CanAdd, Adds, CanJoin, Joins};
-ghost use Rattle.audit_findings.specs.CodeCounts.{CountWords, CountListed, has_records, no_record, row_of, row_plus};
+ghost use Rattle.audit_findings.specs.CodeCounts.{CountWords, CountListed, has_records, listed_rows, row_of};
 ghost use Rattle.audit_findings.specs.Codes.{code_rows};
 ghost use Rattle.audit_findings.specs.RecordCounts.{times};
 
 use crate::codes::CodeRow;
-use binder_code::{Code, Kind};
+use binder_code::{Code, Kind, Line};
 use std::alloc::{AllocError, Global};
 use summary_law::{Summary, Tally};
 
@@ -17,8 +17,9 @@ use summary_law::{Summary, Tally};
 /// word, so these are counted by kind.
 #[derive(Drop)]
 pub(crate) struct CodeCounts {
-    /// The row of each listed kind, in the header's order; no rows before the first such record.
-    listed: Vec<CodeRow>,
+    /// How many records have the code word of each of the header's lines, in the order of the
+    /// lines.
+    listed: [u64; LISTED],
     /// The code words of opaque records, each with weight 0.
     opaque: Tally<u32>,
 }
@@ -26,15 +27,12 @@ pub(crate) struct CodeCounts {
 /// How many kinds the header lists.
 const LISTED: usize = Kind::Opaque as usize;
 
-/// The row of a kind before its first record.
-const NO_RECORD: CodeRow = CodeRow { word: 0, count: 0 };
-
 impl CodeCounts {
     pub fn empty(alloc: Global) -> Self
         ensures { CountWords result [] }
     {
         CodeCounts {
-            listed: Vec::new(alloc),
+            listed: [0; LISTED],
             opaque: Tally::empty(alloc),
         }
     }
@@ -48,7 +46,10 @@ impl CodeCounts {
     {
         match kind {
             Kind::Opaque => self.opaque.add((code.0, 0)),
-            _ => add_listed(&mut self.listed, kind, code.0),
+            _ => {
+                self.listed[kind.place()] += 1;
+                Ok(())
+            }
         }
     }
 
@@ -57,7 +58,8 @@ impl CodeCounts {
         requires { CanJoin CountWords IsShort self later }
         ensures { IfOk result (Joins CountWords IsShort self later) }
     {
-        let listed = join_listed(self.listed, later.listed.as_slice())?;
+        let mut listed = self.listed;
+        add_all(&mut listed, &later.listed);
         let opaque = self.opaque.join(later.opaque)?;
         Ok(CodeCounts { listed, opaque })
     }
@@ -66,10 +68,7 @@ impl CodeCounts {
     pub fn count(&self, kind: Kind) -> u64
         ensures { (words : List ℕ) → CountWords self.now words → result ≡ times kind words }
     {
-        match self.listed.get(place_of(kind)) {
-            Some(row) => row.count,
-            None => 0,
-        }
+        self.listed.get(kind.place()).copied().unwrap_or(0)
     }
 
     /// The rows of all words, rising.
@@ -79,94 +78,45 @@ impl CodeCounts {
     {
         let tallied = self.opaque.rows()?;
         let mut rows = Vec::new(alloc);
-        push_listed(&mut rows, self.listed.as_slice())?;
+        push_listed(&mut rows, &self.listed)?;
         push_opaque(&mut rows, tallied.as_slice())?;
         rows.sort_unstable_by_key(|row| row.word);
         Ok(rows)
     }
 }
 
-/// The index of a listed kind's row.
-fn place_of(kind: Kind) -> usize
-    ensures { slice_index_or listed result Kind.Opaque ≡ kind }
+/// Adds each of the later counts to the count at its place.
+fn add_all(counts: &mut [u64; LISTED], later: &[u64; LISTED])
+    requires few { (k : ℕ) → slice_index counts.old k + slice_index later.now k < 2 ^ 64 }
+    ensures { (k : ℕ) → slice_index counts.new k
+        ≡ slice_index counts.old k + slice_index later.now k }
 {
-    kind.place()
+    for (place, more) in later.iter().enumerate() {
+        counts[place] += *more;
+    }
 }
 
-/// Counts a record of a listed kind in the row of its kind.
-fn add_listed(rows: &mut Vec<CodeRow>, kind: Kind, word: u32) -> Result<(), AllocError>
-    requires of_kind { IsTrue (is_word_of kind word) }
-    requires few { CanAdd CountListed IsShort rows.old.items word }
-    ensures { OnOk result (Adds CountListed IsShort rows.old.items word rows.new.items) }
+/// Pushes a row for each line of the header whose code word came.
+fn push_listed(rows: &mut Vec<CodeRow>, counts: &[u64; LISTED]) -> Result<(), AllocError>
+    ensures { OnOk result ((words : List ℕ) → CountListed counts.now words →
+        rows.new.items ≡ rows.old.items ++ listed_rows words) }
 {
-    lengthen(rows, LISTED)?;
-    let place = place_of(kind);
-    let row = &mut rows[place];
-    row.word = word;
-    row.count += 1;
+    for (place, line) in Line::all().iter().enumerate() {
+        let row = CodeRow {
+            word: line.word,
+            count: counts[place],
+        };
+        push_counted(rows, row)?;
+    }
     Ok(())
 }
 
-/// The rows of the records that these count and of those that the later ones count.
-fn join_listed(mut rows: Vec<CodeRow>, later: &[CodeRow]) -> Result<Vec<CodeRow>, AllocError>
-    requires { CanJoin CountListed IsShort rows.items later.now }
-    ensures { IfOk result (λ joined.
-        Joins CountListed IsShort rows.items later.now joined.items) }
+/// Pushes the row if it counts any record.
+fn push_counted(rows: &mut Vec<CodeRow>, row: CodeRow) -> Result<(), AllocError>
+    ensures { OnOk result (rows.new.items ≡ rows.old.items ++ filter has_records (row ∷ [])) }
 {
-    lengthen(&mut rows, later.len())?;
-    add_rows(&mut rows, later);
-    Ok(rows)
-}
-
-/// Adds rows of no record until there are at least so many rows.
-fn lengthen(rows: &mut Vec<CodeRow>, least: usize) -> Result<(), AllocError>
-    ensures long { OnOk result (least ≤ length rows.new.items) }
-    ensures same { OnOk result ((k : ℕ) → slice_index_or rows.new.items k no_record
-        ≡ slice_index_or rows.old.items k no_record) }
-{
-    if least <= rows.len() {
-        return Ok(());
-    }
-    rows.resize(least, NO_RECORD)
-}
-
-/// Adds each of the later rows to the row at its place.
-fn add_rows(rows: &mut Vec<CodeRow>, later: &[CodeRow])
-    requires long { length later.now ≤ length rows.old.items }
-    requires few { (k : ℕ) → (slice_index_or rows.old.items k no_record).count
-        + (slice_index_or later.now k no_record).count < 2 ^ 64 }
-    ensures { (k : ℕ) → slice_index_or rows.new.items k no_record
-        ≡ row_plus (slice_index_or rows.old.items k no_record)
-        (slice_index_or later.now k no_record) }
-{
-    for (place, more) in later.iter().enumerate() {
-        rows[place] = plus(rows[place], *more);
-    }
-}
-
-/// The row of the records that two rows of one kind count.
-fn plus(row: CodeRow, more: CodeRow) -> CodeRow
-    requires { row.count + more.count < 2 ^ 64 }
-    ensures { result ≡ row_plus row more }
-{
-    if more.count > 0 {
-        CodeRow {
-            word: more.word,
-            count: row.count + more.count,
-        }
-    } else {
-        row
-    }
-}
-
-/// Pushes those of the rows that count a record.
-fn push_listed(rows: &mut Vec<CodeRow>, listed: &[CodeRow]) -> Result<(), AllocError>
-    ensures { OnOk result (rows.new.items ≡ rows.old.items ++ filter has_records listed.now) }
-{
-    for row in listed {
-        if row.count > 0 {
-            rows.push(*row)?;
-        }
+    if row.count > 0 {
+        rows.push(row)?;
     }
     Ok(())
 }

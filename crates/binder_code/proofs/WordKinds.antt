@@ -6,7 +6,6 @@ use Rattle.std.specs.Option.{option_map_or}
 use Rattle.std.specs.Result.{result_unwrap_or}
 use Rattle.binder_code.specs.Code.{number, letter, size, direction}
 use Rattle.binder_code.specs.Commands.{Row, command_lines, return_lines, lines, row_of, has_word, word_of, direction_of, letter_of, kind_of, protocol_of_word, IsOfProtocol, is_word_of, kind_of_word}
-use Rattle.binder_code.specs.CommandLaws.{kind_of-word}
 use Rattle.binder_code.specs.declared.code.CodeFault.{CodeFault}
 use Rattle.binder_code.specs.declared.protocol.Protocol.{Protocol}
 use Rattle.binder_code.specs.declared.record_kind.Kind.{Kind}
@@ -54,16 +53,6 @@ pub word_of_meant : (kind : Kind) (word : ℕ) → kind ≢ Opaque → Means wor
 word_of_meant kind word other means =
     let both = (kind_of-listed (protocol_of_word word) word kind (has_line kind other)).0 means in
     line_word (row_of kind) (protocol_of_word word) word (computed kind) both.0 both.1
-
-line_meant : (line : Option Row) (kind : Kind) (word : ℕ) → IfSome line (λ row. kind_of row.protocol row.word ≡ Ok kind)
-    → option_map_or (has_word word) line false ≡ true → Means word kind
-line_meant None kind word stated is = absurd cc
-line_meant (Some row) kind word stated is =
-    subst (λ (w : ℕ). Means w kind) (sym (eqb-true word row.word is)) (kind_of-by_word row.protocol row.word kind stated)
-
--- and a kind's word means the kind
-pub meant_by_word : (kind : Kind) (word : ℕ) → is_word_of kind word ≡ true → Means word kind
-meant_by_word kind word is = line_meant (row_of kind) kind word (kind_of-word kind) is
 
 -- ---- the kind of a word
 

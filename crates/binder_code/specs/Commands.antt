@@ -1,4 +1,4 @@
-use Rattle.std.specs.Prelude.{◌≡◌, ℕ, ◌+◌, ◌*◌, ◌^◌, ◌==◌, ◌&&◌, Bool, true, false, if◌then◌else◌, List, [], ◌∷◌, ◌++◌, Option, Some, None, Result, Ok, Err, IsSomeAnd, find, map, option_map, codes}
+use Rattle.std.specs.Prelude.{◌≡◌, ℕ, ◌+◌, ◌*◌, ◌^◌, ◌==◌, ◌&&◌, Bool, true, false, if◌then◌else◌, List, [], ◌∷◌, ◌++◌, Option, Some, None, Result, Ok, Err, IsSomeAnd, find, option_map, codes}
 use Rattle.std.specs.List.{list_any}
 use Rattle.std.specs.Option.{option_map_or, unwrap_or}
 use Rattle.binder_code.specs.Code.{number, letter, size, direction}
@@ -90,10 +90,6 @@ lines_of Return = return_lines
 -- the lines of both protocols
 abbrev pub lines : List Row
 lines = command_lines ++ return_lines
-
--- the listed kinds, in the order of the lines
-abbrev pub listed : List Kind
-listed = map (λ row. row.kind) lines
 
 -- whether a line is the kind's
 abbrev pub is_kind : Kind → Row → Bool
