@@ -1,5 +1,5 @@
 -- The counts of the raw table generation, by the definitions of handle_ledger (docs/REPORT.md).
-use Rattle.std.specs.Prelude.{◌≡◌, ◌≢◌, ℕ, ◌+◌, ◌<◌, ◌^◌, pos, ◌-ℤ◌, Option, Some, None, IsSome, slice_get}
+use Rattle.std.specs.Prelude.{◌≡◌, ◌≢◌, ℕ, ◌<◌, ◌^◌, pos, ◌-ℤ◌, Option, Some, None, IsSome, slice_get}
 use Rattle.std.specs.Prelude.{List, [], ◌∷◌, ◌++◌, map, count_by, length}
 use Rattle.std.specs.Option.{option_to_list}
 use Rattle.event_core.specs.declared.handle.HandleChange.{HandleChange}
