@@ -1,11 +1,11 @@
 -- What `Buffers` has after one more delivery, and after each turn of a free.
-use Rattle.std.proofs.Common.{◌≡◌, ℕ, ◌+◌, ◌<◌, ◌≤◌, ◌&&◌, ◌⊎◌, inl, inr, ⊎_elim, Bool, true, false, cond, Option, Some, None, refl, sym, ap, subst, ◌∙◌, arith}
-use Rattle.std.proofs.Common.{List, [], ◌∷◌, ◌++◌, length, map, set, slice_get, length-append}
+use Rattle.std.proofs.Common.{◌≡◌, ℕ, ◌+◌, ◌<◌, ◌≤◌, ◌&&◌, ◌⊎◌, ⊎_elim, Bool, true, false, cond, Option, Some, None, refl, sym, ap, subst, ◌∙◌, arith}
+use Rattle.std.proofs.Common.{List, [], ◌∷◌, ◌++◌, length, map, slice_get}
 use Rattle.std.proofs.lemmas.List.{length-map, map-append}
 use Rattle.std.proofs.lemmas.Option.{slice_get-map, slice_get_cases}
 use Rattle.std.specs.Option.{option_map, option_or}
 use Rattle.indexmap.specs.IndexMap.{get}
-use Rattle.listing_tables.specs.Buffers.{Address, AddressEvent, same_address, delivery_at, free_at, FreedDelivery, deliveries_of, BufferRow, row_of_delivery, row_of_buffer, last_held, AreEarlier, earlier_of, BuffersSum, Frees}
+use Rattle.listing_tables.specs.Buffers.{Address, AddressEvent, same_address, delivery_at, free_at, deliveries_of, BufferRow, row_of_delivery, row_of_buffer, last_held, AreEarlier, earlier_of, BuffersSum, Frees}
 use Rattle.listing_tables.specs.declared.buffers.Buffer.{Buffer}
 use Rattle.listing_tables.specs.declared.buffers.Buffers.{Buffers}
 use Rattle.listing_tables.proofs.BufferLaws.{all_so_far, earlier-freed, earlier-more, freed_by, FreesSoFar, last-freed, last-more, new_delivery, none_so_far, one_delivery, one_free, one_so_far}

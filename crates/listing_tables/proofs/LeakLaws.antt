@@ -1,10 +1,10 @@
 -- The deliveries that no record frees are those that no later free has the address of.
-use Rattle.std.proofs.Common.{◌≡◌, ◌&&◌, ◌||◌, not, Bool, true, false, cond, Option, Some, None, refl, sym, ap, ◌∙◌, List, [], ◌∷◌, ◌++◌, map}
+use Rattle.std.proofs.Common.{◌≡◌, ◌&&◌, ◌||◌, not, Bool, true, false, cond, Some, None, refl, ap, ◌∙◌, List, [], ◌∷◌, ◌++◌, map}
 use Rattle.std.specs.List.{cons_option, filter, find, list_any}
 use Rattle.std.specs.Option.{is_none, option_map}
 use Rattle.pending_ledger.specs.Pending.{closes, is_close, is_unclosed_item, place_of}
 use Rattle.summary_law.specs.Readings.{chosen, read_each}
-use Rattle.listing_tables.specs.Buffers.{Address, AddressEvent, same_address, FreedDelivery, delivery_place, delivery_read, first_free, is_leaked}
+use Rattle.listing_tables.specs.Buffers.{AddressEvent, same_address, FreedDelivery, delivery_place, delivery_read, first_free, is_leaked}
 
 none_found : {X Y : Type 0} (made : X → Y) (test : X → Bool) (xs : List X) → is_none (option_map made (find test xs)) ≡ not (list_any test xs)
 none_found made test [] = refl

@@ -13,7 +13,7 @@ use Rattle.event_core.specs.declared.marks.Bracket.{Bracket}
 use Rattle.event_core.specs.declared.marks.Bracket.TheVariants.{Call, Served, Reply, Sent, Error, Refused, Neither}
 use Rattle.event_core.specs.declared.marks.Mark.{Mark}
 use Rattle.event_core.specs.declared.marks.Mark.TheVariants.{Oneway, SentReply, Other}
-use Rattle.call_stacks.specs.Calls.{Bracketed, bracket_read, bracketed_of, bracketed_with, is_oneway_mark, is_refused, mark_after, refused_of, refused_send, strays_in}
+use Rattle.call_stacks.specs.Calls.{Bracketed, bracket_read, bracketed_of, bracketed_with, is_oneway_mark, is_refused, mark_after, refused_of}
 use Rattle.call_stacks.specs.Matching.{Side, opener, closer, neither, is_closer}
 use Rattle.call_stacks.specs.Verdicts.{side_of}
 use Rattle.call_stacks.specs.declared.findings.RefusedSend.{RefusedSend}

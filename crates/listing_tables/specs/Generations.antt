@@ -1,5 +1,5 @@
 -- The counts of the raw table generation, by the definitions of handle_ledger (docs/REPORT.md).
-use Rattle.std.specs.Prelude.{◌≡◌, ◌≢◌, ℕ, ◌+◌, ◌<◌, ◌^◌, pos, ◌-ℤ◌, Option, Some, None, IsSome, slice_get}
+use Rattle.std.specs.Prelude.{◌≡◌, ◌≢◌, ℕ, ◌<◌, ◌^◌, pos, ◌-ℤ◌, Option, Some, None, IsSome, slice_get}
 use Rattle.std.specs.Prelude.{List, [], ◌∷◌, ◌++◌, map, count_by, length}
 use Rattle.std.specs.Option.{option_to_list}
 use Rattle.event_core.specs.declared.handle.HandleChange.{HandleChange}
@@ -60,9 +60,18 @@ pub record IsEmpty (generation : Generation) : Type 0 where
   pub held_weak : generation.held_weak ≡ 0
   pub handle : generation.handle ≢ 0
 
--- a generation that ends here is empty
-abbrev pub EndsEmpty : Generation → Generation → Type 0
-EndsEmpty old new = old.end ≡ None → IsSome new.end → IsEmpty new
+-- A record at this place that takes or lets go of a reference ends the generation exactly if it is empty then. One that
+-- has ended keeps its end.
+pub record EndsIfEmpty (old : Generation) (place : ℕ) (new : Generation) : Type 0 where
+  pub ends : old.end ≡ None → IsEmpty new → new.end ≡ Some place
+  pub ends_empty : old.end ≡ None → IsSome new.end → IsEmpty new
+  pub keeps : IsSome old.end → new.end ≡ old.end
+
+-- what an effect of the record at this place does to the end: to name a generation or to hold it ends none
+abbrev pub EndsByEffect : Generation → Effect → ℕ → Generation → Type 0
+EndsByEffect old Names place new = new.end ≡ old.end
+EndsByEffect old (Takes strength change) place new = EndsIfEmpty old place new
+EndsByEffect old (Holds strength) place new = new.end ≡ old.end
 
 -- neither what the process took nor the end changes
 pub record KeepsTaken (old new : Generation) : Type 0 where

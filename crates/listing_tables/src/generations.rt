@@ -1,9 +1,10 @@
 //! The generations of handles: the spans in which a handle of a process means one object.
 
-ghost use Rattle.std.specs.Prelude.{◌≡◌, []};
+ghost use Rattle.std.specs.Prelude.{◌≡◌, ◌↔◌, [], IsTrue};
 ghost use Rattle.event_core.specs.Handles.{handle_effect};
 ghost use Rattle.handle_ledger.specs.Handles.{handle_count_change};
-ghost use Rattle.listing_tables.specs.Generations.{AreGenerationColumns, CountsEffect, EndsEmpty, GenerationSum, KeepsTaken, TakesOneMore, taken_by};
+ghost use Rattle.listing_tables.specs.Generations.{AreGenerationColumns, CountsEffect, GenerationSum, KeepsTaken};
+ghost use Rattle.listing_tables.specs.Generations.{EndsByEffect, EndsIfEmpty, IsEmpty, TakesOneMore, taken_by};
 ghost use Rattle.listing_tables.specs.declared.generations.Effect.TheVariants.{Takes};
 
 use crate::buffers::Reference;
@@ -140,7 +141,7 @@ impl Generation {
     /// Counts what the record at this place does.
     fn apply(&mut self, effect: Effect, place: u32)
         ensures counts { CountsEffect self.old effect self.new }
-        ensures ends { EndsEmpty self.old self.new }
+        ensures ends { EndsByEffect self.old effect place self.new }
     {
         match effect {
             Effect::Names => {}
@@ -152,7 +153,7 @@ impl Generation {
     /// Takes a record by which the process takes a reference or lets go of one.
     fn take(&mut self, strength: Strength, change: HandleChange, place: u32)
         ensures counts { CountsEffect self.old (Takes strength change) self.new }
-        ensures ends { EndsEmpty self.old self.new }
+        ensures ends { EndsIfEmpty self.old place self.new }
     {
         self.count(strength, change);
         self.held_since = if self.strong.left == 0 {
@@ -186,7 +187,7 @@ impl Generation {
 
     /// Takes back a reference that a delivery held.
     fn let_go(&mut self, strength: Strength, place: u32)
-        ensures ends { EndsEmpty self.old self.new }
+        ensures ends { EndsIfEmpty self.old place self.new }
     {
         match strength {
             Strength::Strong => self.held_strong = self.held_strong.saturating_sub(1),
@@ -195,20 +196,25 @@ impl Generation {
         self.end_if_empty(place);
     }
 
-    /// Ends here if nothing of it is held. One of handle 0, the context manager's, never ends.
+    /// Ends here if it is empty.
     fn end_if_empty(&mut self, place: u32)
         ensures kept { self.new ≡ record self.old { end = self.new.end } }
-        ensures ends { EndsEmpty self.old self.new }
+        ensures ends { EndsIfEmpty self.old place self.new }
     {
-        let counts = [
-            self.strong.left,
-            self.weak.left,
-            self.held_strong,
-            self.held_weak,
-        ];
-        if self.end.is_none() && self.handle != 0 && counts == [0, 0, 0, 0] {
+        if self.end.is_none() && self.is_empty() {
             self.end = Some(place);
         }
+    }
+
+    /// Whether nothing of it is held, and its handle is not 0: that is always the context manager.
+    fn is_empty(&self) -> bool
+        ensures { IsTrue result ↔ IsEmpty self.now }
+    {
+        self.handle != 0
+            && self.strong.left == 0
+            && self.weak.left == 0
+            && self.held_strong == 0
+            && self.held_weak == 0
     }
 
     /// Its row in the table generation, where it has this number among all.
@@ -261,23 +267,33 @@ impl Generations {
         effect: Effect,
         place: u32,
     ) -> Result<(u32, u32, u32), ListingError> {
-        let latest = self.latest.get(&(upid, handle)).copied();
-        let index = match latest {
-            None => self.begin(upid, handle, 1, place)?,
-            Some(index) => match self.list.get(index) {
-                Some(ended) if ended.end.is_some() && effect.gives() => {
-                    let number = ended.number.saturating_add(1);
-                    self.begin(upid, handle, number, place)?
-                }
-                _ => index,
-            },
-        };
+        let index = self.index_of(upid, handle, effect, place)?;
         let Some(generation) = self.list.get_mut(index) else {
             return Ok((index, 0, 0));
         };
         let before = generation.strong.left;
         generation.apply(effect, place);
         Ok((index, before, generation.strong.left))
+    }
+
+    /// The index of the generation that a record names. It begins there if it is the first one, or
+    /// if the one before has ended and the record gives a reference.
+    fn index_of(
+        &mut self,
+        upid: u32,
+        handle: u32,
+        effect: Effect,
+        place: u32,
+    ) -> Result<u32, ListingError> {
+        let Some(index) = self.latest.get(&(upid, handle)).copied() else {
+            return self.begin(upid, handle, 1, place);
+        };
+        match self.list.get(index) {
+            Some(ended) if ended.end.is_some() && effect.gives() => {
+                self.begin(upid, handle, ended.number.saturating_add(1), place)
+            }
+            _ => Ok(index),
+        }
     }
 
     /// Begins the generation of a handle that has this number there, and returns the index.

@@ -1,6 +1,5 @@
 use Rattle.std.proofs.Common.{refl}
 use Rattle.std.proofs.lemmas.Result.{on_ok_weaker}
-use Rattle.listing_tables.specs.declared.buffers.Buffers.{Buffers}
 use Rattle.listing_tables.proofs.BufferSums.{one_more_buffer}
 use Rattle.listing_tables.proofs.buffers.Buffers.deliver.Goals as goal
 

@@ -1,4 +1,4 @@
-use Rattle.std.proofs.Common.{ℕ, Option, Some, refl, subst, arith, inl, inr, rules}
+use Rattle.std.proofs.Common.{ℕ, Option, refl, subst, arith, inl, inr, rules}
 use Rattle.listing_tables.proofs.BufferSums.{all_turns, FreeTurns, no_turn, one_turn}
 use Rattle.listing_tables.proofs.buffers.Buffers.free.Goals as goal
 

@@ -1,8 +1,8 @@
-use Rattle.std.proofs.Common.{◌≡◌, Option, Some, slice_get, set, map, refl, ap, sym, ◌∙◌}
+use Rattle.std.proofs.Common.{◌≡◌, Some, slice_get, set, map, refl, ap, sym, ◌∙◌}
 use Rattle.std.proofs.lemmas.List.{map-set}
 use Rattle.std.proofs.lemmas.Option.{get_or_from_slice_get, slice_get-map}
 use Rattle.std.specs.Option.{option_map}
-use Rattle.listing_tables.specs.Buffers.{BufferRow, earlier_of, row_of_buffer}
+use Rattle.listing_tables.specs.Buffers.{earlier_of, row_of_buffer}
 use Rattle.listing_tables.specs.declared.buffers.Buffer.{Buffer}
 use Rattle.listing_tables.proofs.BufferLaws.{set_same}
 use Rattle.listing_tables.proofs.buffers.Buffers.free_one.Goals as goal
