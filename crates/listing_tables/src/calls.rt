@@ -2,7 +2,7 @@
 
 ghost use Rattle.std.specs.Bool.{OnTrue};
 ghost use Rattle.std.specs.List.Sorted.{IsPermutation, IsNonDecreasingBy};
-ghost use Rattle.std.specs.Prelude.{◌≡◌, ◌++◌, ◌∷◌, [], map, true, IfOk, OnOk};
+ghost use Rattle.std.specs.Prelude.{◌≡◌, ◌++◌, map, true, IfOk, OnOk};
 ghost use Rattle.summary_law.specs.Fits.{IsPlaced};
 ghost use Rattle.call_stacks.specs.Calls.{AreFindings};
 ghost use Rattle.listing_tables.specs.Calls.{step_place, step_reads, call_place, rows_of_all};
@@ -151,24 +151,10 @@ fn push_calls(
 {
     let mut open = Vec::new(alloc);
     for opener in openers {
-        push_call(calls, &mut open, opener, steps)?;
+        let call = nested(&mut open, call_of(opener, steps)?);
+        calls.push(call)?;
+        open.push(call)?;
     }
-    Ok(())
-}
-
-/// Takes a call of a thread, where these calls may be open.
-fn push_call(
-    calls: &mut Numbered<Call>,
-    open: &mut Vec<Call>,
-    opener: &Opener<CallStep>,
-    steps: &[CallStep],
-) -> Outcome
-    ensures { OnOk result (map row_of_call calls.new.all.items ≡
-        map row_of_call calls.old.all.items ++ row_of_opener opener.now ∷ []) }
-{
-    let call = nested(open, call_of(opener, steps)?);
-    calls.push(call)?;
-    open.push(call)?;
     Ok(())
 }
 

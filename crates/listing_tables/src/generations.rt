@@ -267,33 +267,23 @@ impl Generations {
         effect: Effect,
         place: u32,
     ) -> Result<(u32, u32, u32), ListingError> {
-        let index = self.index_of(upid, handle, effect, place)?;
+        let latest = self.latest.get(&(upid, handle)).copied();
+        let index = match latest {
+            None => self.begin(upid, handle, 1, place)?,
+            Some(index) => match self.list.get(index) {
+                Some(ended) if ended.end.is_some() && effect.gives() => {
+                    let number = ended.number.saturating_add(1);
+                    self.begin(upid, handle, number, place)?
+                }
+                _ => index,
+            },
+        };
         let Some(generation) = self.list.get_mut(index) else {
             return Ok((index, 0, 0));
         };
         let before = generation.strong.left;
         generation.apply(effect, place);
         Ok((index, before, generation.strong.left))
-    }
-
-    /// The index of the generation that a record names. It begins there if it is the first one, or
-    /// if the one before has ended and the record gives a reference.
-    fn index_of(
-        &mut self,
-        upid: u32,
-        handle: u32,
-        effect: Effect,
-        place: u32,
-    ) -> Result<u32, ListingError> {
-        let Some(index) = self.latest.get(&(upid, handle)).copied() else {
-            return self.begin(upid, handle, 1, place);
-        };
-        match self.list.get(index) {
-            Some(ended) if ended.end.is_some() && effect.gives() => {
-                self.begin(upid, handle, ended.number.saturating_add(1), place)
-            }
-            _ => Ok(index),
-        }
     }
 
     /// Begins the generation of a handle that has this number there, and returns the index.

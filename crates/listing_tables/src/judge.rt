@@ -86,10 +86,6 @@ impl Ending {
 
     /// Writes the row of the table capture, with this many records.
     pub(crate) fn write<W: Write>(self, records: u64, rows: &mut RowWriter<'_, W>) -> Outcome {
-        rows.push(&self.columns(records))
-    }
-
-    fn columns(self, records: u64) -> [Option<u64>; 11] {
         let mut columns = [None; 11];
         columns[0] = Some(LAYOUT);
         columns[1] = Some(self.parts);
@@ -106,7 +102,7 @@ impl Ending {
             columns[9] = Some(fault.place);
             columns[10] = Some(part);
         }
-        columns
+        rows.push(&columns)
     }
 }
 

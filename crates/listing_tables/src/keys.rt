@@ -36,25 +36,21 @@ fn sum_of(entry: Entry<'_>) -> u64 {
     }
 }
 
-/// The sum of the body of a transaction or a reply; 0 if it has one that is not in the capture.
-fn body_of(transaction: Transaction<'_>, entry: Option<Entry<'_>>) -> u64 {
+/// What the driver hands on unchanged of a transaction or a reply, as one number.
+pub(crate) fn key_of(transaction: Transaction<'_>, entry: Option<Entry<'_>>, device: u32) -> u64 {
     let is_empty = transaction.data_size() == 0 && transaction.offsets_size() == 0;
-    match entry {
+    let body = match entry {
         Some(entry) => sum_of(entry),
         None if is_empty => BEGIN,
         None => 0,
-    }
-}
-
-/// What the driver hands on unchanged of a transaction or a reply, as one number.
-pub(crate) fn key_of(transaction: Transaction<'_>, entry: Option<Entry<'_>>, device: u32) -> u64 {
+    };
     let numbers = [
         u64::from(device),
         u64::from(transaction.code()),
         u64::from(transaction.flags()),
         transaction.data_size(),
         transaction.offsets_size(),
-        body_of(transaction, entry),
+        body,
     ];
     let mut sum = BEGIN;
     for number in numbers {

@@ -101,22 +101,17 @@ impl Levels {
 
     fn set(&mut self, upid: u32, resource: Resource, now: u128) -> Outcome {
         let key = (upid, resource as u8);
-        let index = self.index_of(key)?;
+        let index = match self.levels.get(&key).copied() {
+            Some(level) if self.is_now(level.latest) => level.latest,
+            Some(level) => self.begin(key, level.now)?,
+            None => self.begin(key, 0)?,
+        };
         self.levels.insert(key, Level { now, latest: index })?;
         if let Some(slice) = self.slices.as_mut_slice().get_mut(index) {
             slice.most = slice.most.max(told(now));
             slice.end = told(now);
         }
         Ok(())
-    }
-
-    /// The index of the slice that is gone through, which begins if nothing changed in it yet.
-    fn index_of(&mut self, key: (u32, u8)) -> Result<usize, ListingError> {
-        match self.levels.get(&key).copied() {
-            Some(level) if self.is_now(level.latest) => Ok(level.latest),
-            Some(level) => self.begin(key, level.now),
-            None => self.begin(key, 0),
-        }
     }
 
     /// Whether the slice at this index is of the number that is gone through.
@@ -140,14 +135,14 @@ impl Levels {
         Ok(index)
     }
 
-    /// Brings the slices into the order of the rows, once all records are there.
-    pub(crate) fn sort(&mut self) {
+    /// Writes the rows of the table level, for this many processes.
+    pub(crate) fn write<W: Write>(
+        &mut self,
+        processes: u32,
+        rows: &mut RowWriter<'_, W>,
+    ) -> Outcome {
         self.slices
             .sort_unstable_by_key(|slice| (slice.upid, slice.number, slice.resource));
-    }
-
-    /// Writes the rows of the table level, for this many processes.
-    pub(crate) fn write<W: Write>(&self, processes: u32, rows: &mut RowWriter<'_, W>) -> Outcome {
         let mut next = 0usize;
         for index in 0..processes {
             next = self.write_process(index.saturating_add(1), next, rows)?;

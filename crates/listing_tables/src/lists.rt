@@ -292,11 +292,6 @@ impl Lists {
         let first = self.buffers.freed.next()?;
         self.buffers
             .free((origin.upid, address), origin.place, origin.sequence)?;
-        self.let_go_from(origin, first)
-    }
-
-    /// Takes back what the buffers held that are freed, from this one of all on.
-    fn let_go_from(&mut self, origin: Origin, first: u32) -> Outcome {
         for at in first..self.buffers.freed.next()? {
             if let Some(buffer) = self.buffers.freed_at(at) {
                 self.let_go(origin, &buffer)?;
@@ -333,9 +328,13 @@ impl Lists {
         let Some(call) = self.calls.get(index) else {
             return;
         };
-        self.messages.set_call(call.opener, index);
-        if let Some(closer) = call.closer {
-            self.messages.set_call(closer.message, index);
+        if let Some(message) = self.messages.list.get_mut(call.opener) {
+            message.call = Some(index);
+        }
+        if let Some(closer) = call.closer
+            && let Some(message) = self.messages.list.get_mut(closer.message)
+        {
+            message.call = Some(index);
         }
     }
 

@@ -156,13 +156,6 @@ impl Messages {
         self.set_partner(delivery, send);
     }
 
-    /// Notes the call that a message opens or closes.
-    pub(crate) fn set_call(&mut self, index: u32, call: u32) {
-        if let Some(message) = self.list.get_mut(index) {
-            message.call = Some(call);
-        }
-    }
-
     fn set_partner(&mut self, index: u32, partner: u32) {
         if let Some(message) = self.list.get_mut(index) {
             message.partner = Some(partner);

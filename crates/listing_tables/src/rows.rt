@@ -3,7 +3,7 @@
 ghost use Rattle.std.specs.Prelude.{◌≡◌};
 
 use listing_fields::{Outcome, write_error};
-use std::alloc::{AllocError, Global};
+use std::alloc::Global;
 use std::io::Write;
 
 /// How many bytes are collected before they are written.
@@ -28,11 +28,21 @@ impl<'w, W: Write> RowWriter<'w, W> {
     /// Takes a row: a mask, and then the numbers. The mask has a bit for each column that has a
     /// number, the lowest bit for the first column. There are 64 columns at most.
     pub(crate) fn push(&mut self, columns: &[Option<u64>]) -> Outcome {
-        push_row(&mut self.bytes, columns)?;
+        self.push_number(mask_of(columns))?;
+        for column in columns {
+            if let Some(number) = column {
+                self.push_number(*number)?;
+            }
+        }
         if self.bytes.len() < PIECE {
             return Ok(());
         }
         self.write_out()
+    }
+
+    fn push_number(&mut self, number: u64) -> Outcome {
+        self.bytes.extend_from_slice(&number.to_le_bytes())?;
+        Ok(())
     }
 
     /// Writes what is not written yet.
@@ -46,16 +56,6 @@ impl<'w, W: Write> RowWriter<'w, W> {
         self.bytes.clear();
         written.map_err(|error| write_error(&error))
     }
-}
-
-fn push_row(bytes: &mut Vec<u8>, columns: &[Option<u64>]) -> Result<(), AllocError> {
-    bytes.extend_from_slice(&mask_of(columns).to_le_bytes())?;
-    for column in columns {
-        if let Some(number) = column {
-            bytes.extend_from_slice(&number.to_le_bytes())?;
-        }
-    }
-    Ok(())
 }
 
 /// Which columns have a number.

@@ -120,14 +120,13 @@ impl Tables {
     /// Finds what is known only when all records are there.
     pub(crate) fn finish(&mut self, alloc: Global) -> Outcome {
         self.lists.finish(&self.spans)?;
-        self.lists.levels.sort();
         self.lists.pair(alloc)
     }
 
     /// Writes a table of the capture that was walked through, and that goes this far. Nothing is
     /// written of a table that is written while the walk goes on.
     pub fn write<W: Write>(
-        &self,
+        &mut self,
         alloc: Global,
         name: Name,
         ending: Ending,
@@ -139,12 +138,12 @@ impl Tables {
     }
 
     fn write_rows<W: Write>(
-        &self,
+        &mut self,
         name: Name,
         ending: Ending,
         rows: &mut RowWriter<'_, W>,
     ) -> Outcome {
-        let lists = &self.lists;
+        let lists = &mut self.lists;
         match name {
             Name::Frame | Name::Record | Name::Object => Ok(()),
             Name::Capture => ending.write(self.records, rows),
