@@ -1,5 +1,5 @@
 -- The counts of the raw table generation, by the definitions of handle_ledger (docs/REPORT.md).
-use Rattle.std.specs.Prelude.{◌≡◌, ◌≢◌, ℕ, ◌<◌, ◌^◌, pos, ◌-ℤ◌, Option, Some, None, IsSome, slice_get}
+use Rattle.std.specs.Prelude.{◌≡◌, ◌≢◌, ℕ, ◌+◌, ◌-◌, ◌<◌, ◌^◌, pos, ◌-ℤ◌, Option, Some, None, IsSome}
 use Rattle.std.specs.Prelude.{List, [], ◌∷◌, ◌++◌, map, count_by, length}
 use Rattle.std.specs.Option.{option_to_list}
 use Rattle.event_core.specs.declared.handle.HandleChange.{HandleChange}
@@ -67,24 +67,54 @@ pub record EndsIfEmpty (old : Generation) (place : ℕ) (new : Generation) : Typ
   pub ends_empty : old.end ≡ None → IsSome new.end → IsEmpty new
   pub keeps : IsSome old.end → new.end ≡ old.end
 
+-- the generation of this handle of this opening that has this number and begins at this place
+pub record IsGenerationOf (u h n place : ℕ) (generation : Generation) : Type 0 where
+  pub upid : generation.upid ≡ u
+  pub handle : generation.handle ≡ h
+  pub number : generation.number ≡ n
+  pub begin : generation.begin ≡ place
+
+-- it is the same generation
+abbrev pub IsSame : Generation → Generation → Type 0
+IsSame old new = IsGenerationOf old.upid old.handle old.number old.begin new
+
+-- deliveries hold what they held
+abbrev pub KeepsHeld : Generation → Generation → Type 0
+KeepsHeld old new = (new.held_strong ≡ old.held_strong) × (new.held_weak ≡ old.held_weak)
+
+-- deliveries hold one more reference of this strength, if they hold few
+abbrev pub HoldsOneMore : Strength → Generation → Generation → Type 0
+HoldsOneMore Strong old new =
+    (old.held_strong + 1 < 2 ^ 32 → new.held_strong ≡ old.held_strong + 1) × (new.held_weak ≡ old.held_weak)
+HoldsOneMore Weak old new =
+    (new.held_strong ≡ old.held_strong) × (old.held_weak + 1 < 2 ^ 32 → new.held_weak ≡ old.held_weak + 1)
+
+-- deliveries hold one reference of this strength fewer, if they hold any
+abbrev pub HoldsOneFewer : Strength → Generation → Generation → Type 0
+HoldsOneFewer Strong old new = (new.held_strong ≡ old.held_strong - 1) × (new.held_weak ≡ old.held_weak)
+HoldsOneFewer Weak old new = (new.held_strong ≡ old.held_strong) × (new.held_weak ≡ old.held_weak - 1)
+
 -- what an effect of the record at this place does to the end: to name a generation or to hold it ends none
 abbrev pub EndsByEffect : Generation → Effect → ℕ → Generation → Type 0
 EndsByEffect old Names place new = new.end ≡ old.end
 EndsByEffect old (Takes strength change) place new = EndsIfEmpty old place new
 EndsByEffect old (Holds strength) place new = new.end ≡ old.end
 
--- neither what the process took nor the end changes
-pub record KeepsTaken (old new : Generation) : Type 0 where
-  pub strong : new.strong ≡ old.strong
-  pub weak : new.weak ≡ old.weak
-  pub end : new.end ≡ old.end
+-- what an effect does to what deliveries hold
+abbrev pub HeldByEffect : Generation → Effect → Generation → Type 0
+HeldByEffect old Names new = KeepsHeld old new
+HeldByEffect old (Takes strength change) new = KeepsHeld old new
+HeldByEffect old (Holds strength) new = HoldsOneMore strength old new
 
--- columns 5 and 8 to 13 of a row of the table are the end and the counts
-pub record AreGenerationColumns (generation : Generation) (columns : List (Option ℕ)) : Type 0 where
-  pub end : slice_get columns 5 ≡ Some generation.end
-  pub acquired : slice_get columns 8 ≡ Some (Some generation.strong.raised)
-  pub released : slice_get columns 9 ≡ Some (Some generation.strong.lowered)
-  pub increfs : slice_get columns 10 ≡ Some (Some generation.weak.raised)
-  pub decrefs : slice_get columns 11 ≡ Some (Some generation.weak.lowered)
-  pub strong : slice_get columns 12 ≡ Some (Some generation.strong.left)
-  pub weak : slice_get columns 13 ≡ Some (Some generation.weak.left)
+-- what the process took does not change
+abbrev pub KeepsTaken : Generation → Generation → Type 0
+KeepsTaken old new = (new.strong ≡ old.strong) × (new.weak ≡ old.weak)
+
+-- the row of a generation that has this number among all, column by column
+abbrev pub generation_columns : ℕ → Generation → List (Option ℕ)
+generation_columns number generation =
+    Some number ∷ Some generation.upid ∷ Some generation.handle ∷ Some generation.number ∷ Some generation.begin
+    ∷ generation.end ∷ generation.given_by ∷ generation.held_since
+    ∷ Some generation.strong.raised ∷ Some generation.strong.lowered ∷ Some generation.weak.raised
+    ∷ Some generation.weak.lowered ∷ Some generation.strong.left ∷ Some generation.weak.left
+    ∷ Some generation.held_strong ∷ Some generation.held_weak ∷ []

@@ -3,8 +3,9 @@
 ghost use Rattle.std.specs.Prelude.{◌≡◌, ◌↔◌, [], IsTrue};
 ghost use Rattle.event_core.specs.Handles.{handle_effect};
 ghost use Rattle.handle_ledger.specs.Handles.{handle_count_change};
-ghost use Rattle.listing_tables.specs.Generations.{AreGenerationColumns, CountsEffect, GenerationSum, KeepsTaken};
-ghost use Rattle.listing_tables.specs.Generations.{EndsByEffect, EndsIfEmpty, IsEmpty, TakesOneMore, taken_by};
+ghost use Rattle.listing_tables.specs.Generations.{CountsEffect, GenerationSum, HeldByEffect, KeepsTaken, generation_columns};
+ghost use Rattle.listing_tables.specs.Generations.{EndsByEffect, EndsIfEmpty, HoldsOneFewer, HoldsOneMore, IsEmpty, IsGenerationOf};
+ghost use Rattle.listing_tables.specs.Generations.{IsSame, KeepsHeld, TakesOneMore, taken_by};
 ghost use Rattle.listing_tables.specs.declared.generations.Effect.TheVariants.{Takes};
 
 use crate::buffers::Reference;
@@ -115,7 +116,8 @@ pub(crate) struct Generation {
 impl Generation {
     /// The one that begins at this place, before what the record there does.
     fn new(upid: u32, handle: u32, number: u32, place: u32) -> Generation
-        ensures { GenerationSum result [] }
+        ensures named { IsGenerationOf upid handle number place result }
+        ensures counts { GenerationSum result [] }
     {
         let none = Taken {
             raised: 0,
@@ -142,6 +144,8 @@ impl Generation {
     fn apply(&mut self, effect: Effect, place: u32)
         ensures counts { CountsEffect self.old effect self.new }
         ensures ends { EndsByEffect self.old effect place self.new }
+        ensures same { IsSame self.old self.new }
+        ensures held { HeldByEffect self.old effect self.new }
     {
         match effect {
             Effect::Names => {}
@@ -154,6 +158,8 @@ impl Generation {
     fn take(&mut self, strength: Strength, change: HandleChange, place: u32)
         ensures counts { CountsEffect self.old (Takes strength change) self.new }
         ensures ends { EndsIfEmpty self.old place self.new }
+        ensures same { IsSame self.old self.new }
+        ensures held { KeepsHeld self.old self.new }
     {
         self.count(strength, change);
         self.held_since = if self.strong.left == 0 {
@@ -167,6 +173,8 @@ impl Generation {
     fn count(&mut self, strength: Strength, change: HandleChange)
         ensures counts { CountsEffect self.old (Takes strength change) self.new }
         ensures kept { self.new.end ≡ self.old.end }
+        ensures same { IsSame self.old self.new }
+        ensures held { KeepsHeld self.old self.new }
     {
         match strength {
             Strength::Strong => self.strong = self.strong.after(change),
@@ -176,7 +184,10 @@ impl Generation {
 
     /// Takes a delivery that holds a reference.
     fn hold(&mut self, strength: Strength, place: u32)
-        ensures { KeepsTaken self.old self.new }
+        ensures taken { KeepsTaken self.old self.new }
+        ensures kept { self.new.end ≡ self.old.end }
+        ensures same { IsSame self.old self.new }
+        ensures held { HoldsOneMore strength self.old self.new }
     {
         match strength {
             Strength::Strong => self.held_strong = self.held_strong.saturating_add(1),
@@ -188,6 +199,9 @@ impl Generation {
     /// Takes back a reference that a delivery held.
     fn let_go(&mut self, strength: Strength, place: u32)
         ensures ends { EndsIfEmpty self.old place self.new }
+        ensures same { IsSame self.old self.new }
+        ensures taken { KeepsTaken self.old self.new }
+        ensures held { HoldsOneFewer strength self.old self.new }
     {
         match strength {
             Strength::Strong => self.held_strong = self.held_strong.saturating_sub(1),
@@ -219,7 +233,7 @@ impl Generation {
 
     /// Its row in the table generation, where it has this number among all.
     fn columns(&self, number: u64) -> [Option<u64>; 16]
-        ensures { AreGenerationColumns self.now result }
+        ensures { result ≡ generation_columns number self.now }
     {
         [
             Some(number),
