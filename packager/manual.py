@@ -49,7 +49,7 @@ def escaped(text: str) -> str:
 def as_installed(text: str) -> str:
     """A text in which the programs are called as in a package."""
     text = re.sub(r"\./(audit|listing|record|view)\b", r"binder-\1", text)
-    return text.replace("viewer/methods", "binder-methods")
+    return text.replace("viewer/methods/table.py", "binder-methods")
 
 
 def marked(text: str) -> str:

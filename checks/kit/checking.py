@@ -1,0 +1,45 @@
+"""From the command line of a check to its status: what it compares, and how it reports what is wrong."""
+
+import argparse
+import pathlib
+import sys
+import tempfile
+from typing import Callable
+
+from checks.kit.programs import AUDITOR, BY_RATTLE
+
+Fail = Callable[[str], None]
+
+# An option without a value, as `check` takes it.
+FLAG = {"action": "store_true"}
+
+
+def compare(what: str, came: object, due: object, fail: Fail) -> None:
+    """Reports two answers, or two lists, that are not the same."""
+    if came != due:
+        fail(f"{what}: expected {str(due)[:400]}, came {str(came)[:400]}")
+
+
+def row(*cells: object) -> None:
+    """Prints a row of a table."""
+    print("| " + " | ".join(map(str, cells)) + " |", flush=True)
+
+
+def check(judge: Callable[[argparse.Namespace, pathlib.Path, Fail], None], **options: dict) -> None:
+    """Runs a check, from its command line to its status. `judge` gets the parsed command line, a folder that is removed
+    afterwards, and a function that takes failures. The command line may have these options, in the form of argparse,
+    and programs. If it names no program, `given.programs` has the built auditor, and that by Rattle's own compiler if
+    it is there."""
+    line = argparse.ArgumentParser(description=sys.modules["__main__"].__doc__, allow_abbrev=False,
+                                   formatter_class=argparse.RawDescriptionHelpFormatter)
+    line.add_argument("programs", metavar="PROGRAM", nargs="*", type=pathlib.Path, default=[AUDITOR, *[BY_RATTLE] * BY_RATTLE.exists()])
+    for name, how in options.items():
+        line.add_argument(f"--{name}", **how)
+    given = line.parse_args()
+    given.programs = [program.resolve() for program in given.programs]
+    failed: list[str] = []
+    with tempfile.TemporaryDirectory(prefix="checks-") as room:
+        judge(given, pathlib.Path(room), failed.append)
+    for what in failed:
+        print(f"checks/{pathlib.Path(sys.argv[0]).stem}: {what}", file=sys.stderr)
+    sys.exit(1 if failed else 0)

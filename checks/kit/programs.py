@@ -1,0 +1,56 @@
+"""Where the repository has what the checks run, and how they build what only they run."""
+
+import pathlib
+import shutil
+import subprocess
+
+from viewer.database.programs import build_programs
+
+CHECKS = pathlib.Path(__file__).resolve().parents[1]
+ROOT = CHECKS.parent
+AUDITOR = ROOT / "crates/binder_audit/out/binder_audit"
+BY_RATTLE = AUDITOR.with_suffix(".by-rattle")
+LISTING = ROOT / "crates/binder_listing/out/binder_listing"
+
+# The captures of the cases, and those of the real driver.
+CASES = ROOT / "crates/audit_cases/data"
+DRIVER = ROOT / "samples/driver"
+
+
+def compiled(room: pathlib.Path, source: str, *options: str) -> str:
+    """Compiles a C file of checks/ to a program, or to a library to preload. Returns its path."""
+    made = str(pathlib.Path(room, pathlib.Path(source).stem))
+    subprocess.run(["cc", "-O1", *options, "-o", made, CHECKS / source, "-ldl", "-lpthread"], check=True)
+    return made
+
+
+def preloadable(room: pathlib.Path, source: str) -> str:
+    """Compiles a C file to a library that can be preloaded into a program."""
+    return compiled(room, source, "-shared", "-fPIC")
+
+
+# ---- a folder in place of the repository
+
+
+def programs(room: pathlib.Path, auditor: pathlib.Path) -> pathlib.Path:
+    """A folder with `view` and what it calls. The auditor in it is the one that is checked."""
+    return folder_of(room / "programs", auditor, ROOT / "listing", crates=ROOT / "crates")
+
+
+def built_programs(room: pathlib.Path, auditor: pathlib.Path) -> pathlib.Path:
+    """The same without the scripts that look each time whether a program must be built: they look once here, and take
+    most of the time of a small capture."""
+    build_programs(ROOT)
+    crates = room / "built-crates"
+    crates.mkdir()
+    (crates / "run").write_text("#!/bin/sh\n")
+    (crates / "run").chmod(0o755)
+    return folder_of(room / "built", auditor, LISTING, crates)
+
+
+def folder_of(folder: pathlib.Path, auditor: pathlib.Path, listing: pathlib.Path, crates: pathlib.Path) -> pathlib.Path:
+    folder.mkdir()
+    shutil.copy(ROOT / "view", folder)
+    for name, target in (("viewer", ROOT / "viewer"), ("crates", crates), ("listing", listing), ("audit", auditor)):
+        (folder / name).symlink_to(target)
+    return folder

@@ -1,0 +1,78 @@
+"""Runs of the built program, under limits and several at once: what they answer, what they take, and what is due."""
+
+import os
+import subprocess
+import threading
+import time
+from concurrent.futures import ThreadPoolExecutor
+from typing import NamedTuple
+
+from checks.kit.second_reading import reading
+
+# The program's answer Memory: its status, standard output and standard error.
+MEMORY = 3, b"", b"fault Memory\n"
+
+# The longest that a run may take.
+SECONDS = 600
+
+
+# ---- runs
+
+
+def under(words, stack=None, address=None, processor=None):
+    """The command under limits: KiB of stack, bytes of address space, seconds of processor time."""
+    limits = {"-s": stack, "-v": address and address // 1024, "-S -t": processor}
+    setting = "".join(f"ulimit {letters} {limit} && " for letters, limit in limits.items() if limit)
+    return ["sh", "-c", setting + 'exec "$@"', "sh", *words]
+
+
+def answer(words, timeout=SECONDS, **options):
+    """The status of a command, its standard output and its standard error; None for a stream that the options
+    redirect."""
+    streams = {"stdout": subprocess.PIPE, "stderr": subprocess.PIPE, **options}
+    ended = subprocess.run(words, timeout=timeout, **streams)
+    return ended.returncode, ended.stdout, ended.stderr
+
+
+class Used(NamedTuple):
+    """What a run took: processor seconds, seconds by the clock, KiB of memory at its peak."""
+    processor: float
+    clock: float
+    peak: int
+
+
+def measured_run(words, **streams):
+    """The status of a command, and what it took, as the system says."""
+    begun = time.monotonic()
+    child = subprocess.Popen(words, **streams)
+    limit = threading.Timer(SECONDS, child.kill)
+    limit.start()
+    _, status, used = os.wait4(child.pid, 0)
+    limit.cancel()
+    child.returncode = os.waitstatus_to_exitcode(status)
+    return child.returncode, Used(used.ru_utime + used.ru_stime, time.monotonic() - begun, used.ru_maxrss)
+
+
+def at_once(count, work, things):
+    """The results of the work for each thing, with this many under way at once."""
+    with ThreadPoolExecutor(count) as pool:
+        return list(pool.map(work, things))
+
+
+# ---- answers
+
+
+def as_answer(status, lines):
+    """An answer of the second reading, in the form of `answer`."""
+    return status, "".join(f"{line}\n" for line in lines).encode(), b""
+
+
+def due(capture, first_fault=False):
+    """The answer that is due to a capture, by the second reading."""
+    return as_answer(*reading(capture, first_fault))
+
+
+def shown(answered):
+    """A wrong answer, in short."""
+    status, out, err = answered
+    return f"status {status}, {len(out)} bytes on standard output, {err[:80]!r} on standard error"

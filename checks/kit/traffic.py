@@ -1,0 +1,201 @@
+#!/usr/bin/env python3
+"""A large capture of made-up traffic, for the checks `limits`, `load` and others.
+
+    checks/run traffic -- BYTES FILE [DEVICES]    writes a capture of at most this many bytes into the file
+
+If more than one device is asked for, the capture has version 2, and each conversation is on one device. Forty processes
+of eight threads each talk to one another: calls, some of them served within others, oneway transactions, attachments,
+buffers that are freed or forgotten, references to handles and nodes, requests for death notifications with their clears
+and deaths, a few error replies, bad objects, unknown flags and gaps in the sequences. The same numbers give the same
+capture. `captures.py` has the frames and records.
+"""
+
+import random
+import sys
+
+from checks.kit.captures import *
+
+PROCESSES, THREADS, AT_ONCE = 40, 8, 60
+
+REFERENCES = ((BC_INCREFS, BC_DECREFS), (BC_ACQUIRE, BC_RELEASE))
+NODES = ((BR_INCREFS, BR_DECREFS, BC_INCREFS_DONE), (BR_ACQUIRE, BR_RELEASE, BC_ACQUIRE_DONE))
+OBJECTS = (BINDER, WEAK_BINDER, HANDLE, HANDLE, HANDLE, HANDLE, WEAK_HANDLE, FD, FDA, PTR)
+
+
+class World:
+    """The idle threads, and the buffers of each device that are free for deliveries."""
+
+    def __init__(self, devices):
+        self.random = random.Random(1)
+        self.devices = devices
+        self.idle = [(process, thread) for process in range(PROCESSES) for thread in range(THREADS)]
+        # By device and process. The addresses are the same on all devices.
+        self.buffers = [[[] for _ in range(PROCESSES)] for _ in range(devices)]
+        self.next_buffer = [[0x7000_0000_0000] * PROCESSES for _ in range(devices)]
+
+    def device(self):
+        """The device of a new conversation. For one device nothing is drawn, so that its traffic does not change."""
+        return self.random.randrange(self.devices) if self.devices > 1 else 0
+
+    def often(self, thousandths):
+        return self.random.random() * 1000 < thousandths
+
+    def thread(self, but=None):
+        """An idle thread of another process than `but`; None if none is found quickly."""
+        for _ in range(8):
+            if self.idle:
+                at = self.random.randrange(len(self.idle))
+                if self.idle[at][0] != but:
+                    self.idle[at], self.idle[-1] = self.idle[-1], self.idle[at]
+                    return self.idle.pop()
+        return None
+
+    def buffer(self, device, process):
+        if self.buffers[device][process]:
+            return self.buffers[device][process].pop()
+        self.next_buffer[device][process] += 0x1000
+        return self.next_buffer[device][process]
+
+    def data(self):
+        """The body of a transaction and its list of offsets: numbers, and here and there an object."""
+        body, listed = b"", b""
+        for _ in range(self.random.randint(1, 4)):
+            body += self.random.randbytes(8)
+            if self.often(300):
+                listed += u64(len(body) + (2 if self.often(1) else 0))
+                body += self.random.choice(OBJECTS)
+        return body, listed
+
+    def flags(self, known):
+        return known | 0x100 if self.often(1) else known
+
+    def free(self, device, process, buffer):
+        """The record that frees a buffer; for two in a thousand there is none."""
+        if self.often(2):
+            return []
+        self.buffers[device][process].append(buffer)
+        return each_long(BC_FREE_BUFFER, buffer)
+
+    def references(self):
+        """The records by which a write now and then takes a reference to a handle or lets one go."""
+        if not self.often(300):
+            return []
+        return each(self.random.choice(self.random.choice(REFERENCES)), self.random.randrange(120))
+
+
+def shown(world, records, kind, data, **fields):
+    """The records and after them a transaction of this data; and mostly its attachment entry."""
+    body, listed = data
+    at = sum(map(len, records))
+    records = records + [transaction(kind, sizes=(len(body), len(listed)), **fields)]
+    return records, [entry(at, body, listed)] if world.often(600) else []
+
+
+def call(world, device, client, depth=0):
+    """The frames of a call and its reply. Each has the direction, the thread, the records and the entries."""
+    target, code = world.random.randrange(40), world.random.randint(1, 60)
+    data = world.data()
+    kind = BC_TRANSACTION_SG if world.often(50) else BC_TRANSACTION
+    yield 1, client, *shown(world, world.references(), kind, data, target=target, code=code, flags=world.flags(0x10))
+    server = None if world.often(5) else world.thread(client[0])
+    if server is None:
+        yield 2, client, [record(BR_NOOP), record(BR_DEAD_REPLY)], []
+        return
+    yield 2, client, [record(BR_NOOP), record(BR_TRANSACTION_COMPLETE)], []
+    buffer, answered = world.buffer(device, server[0]), world.buffer(device, client[0])
+    nodes, thanks = [], []
+    if world.often(100):
+        take, let_go, done = world.random.choice(NODES)
+        which = 0x5000 + 0x40 * world.random.randrange(500), server[0]
+        nodes = [node(world.random.choice((take, let_go)), *which)]
+        thanks = [node(done, *which)]
+    yield 2, server, *shown(world, [record(BR_NOOP), *nodes], BR_TRANSACTION, data, target=target, code=code,
+                            flags=0x10, sender=1000 + 7 * client[0], buffer=buffer)
+    if thanks:
+        yield 1, server, thanks, []
+    if depth < 3 and world.often(120):
+        yield from call(world, device, server, depth + 1)
+    if not world.often(1):
+        data = world.data()
+        records = world.free(device, server[0], buffer) + world.references()
+        yield 1, server, *shown(world, records, BC_REPLY, data, flags=world.flags(0))
+        yield 2, server, [record(BR_NOOP), record(BR_TRANSACTION_COMPLETE)], []
+        yield 2, client, *shown(world, [record(BR_NOOP)], BR_REPLY, data, buffer=answered)
+        yield 1, client, world.free(device, client[0], answered), []
+    world.idle.append(server)
+
+
+def oneway_call(world, device, client):
+    """The frames of a oneway transaction."""
+    data = world.data()
+    yield 1, client, *shown(world, [], BC_TRANSACTION, data, target=world.random.randrange(40), code=9, flags=0x11)
+    if world.often(5):
+        yield 2, client, [record(BR_NOOP), record(BR_FAILED_REPLY)], []
+        return
+    yield 2, client, [record(BR_NOOP), record(BR_TRANSACTION_COMPLETE)], []
+    server = world.thread(client[0])
+    if server is not None:
+        buffer = world.buffer(device, server[0])
+        kind = BR_TRANSACTION_SEC_CTX if world.often(200) else BR_TRANSACTION
+        yield 2, server, *shown(world, [record(BR_NOOP)], kind, data, code=9, flags=0x11, buffer=buffer)
+        yield 1, server, world.free(device, server[0], buffer), []
+        world.idle.append(server)
+
+
+def death(world, _, client):
+    """The frames of a request for a death notification. The death comes, or the request is taken back or stays."""
+    handle, cookie = world.random.randrange(120), 0x9000 + 8 * world.random.randrange(4000)
+    yield 1, client, [watch(BC_REQUEST_DEATH_NOTIFICATION, handle, cookie)], []
+    if world.often(300):
+        yield 2, client, [record(BR_NOOP), *each_long(BR_DEAD_BINDER, cookie)], []
+        yield 1, client, each_long(BC_DEAD_BINDER_DONE, cookie), []
+    elif world.often(900):
+        yield 1, client, [watch(BC_CLEAR_DEATH_NOTIFICATION, handle, cookie)], []
+        yield 2, client, [record(BR_NOOP), *each_long(BR_CLEAR_DEATH_NOTIFICATION_DONE, cookie)], []
+
+
+def begun(world):
+    """What a thread does next, the device, and the thread; None if no thread is idle."""
+    client = world.thread()
+    if client is None:
+        return None
+    device, kinds = world.device(), (call, oneway_call, death)
+    return world.random.choices(kinds, (75, 20, 5))[0](world, device, client), device, client
+
+
+def frames(devices):
+    """Frames without end, of many conversations at the same time."""
+    world, open_now, sequence = World(devices), [], 0
+    while True:
+        while len(open_now) < AT_ONCE and (new := begun(world)) is not None:
+            open_now.append(new)
+        at = world.random.randrange(len(open_now))
+        conversation, device, client = open_now[at]
+        drawn = next(conversation, None)
+        if drawn is None:
+            open_now[at] = open_now[-1]
+            open_now.pop()
+            world.idle.append(client)
+            continue
+        direction, (process, thread), records, entries = drawn
+        sequence += 2 if world.often(1) else 1
+        number = 1000 + 7 * process
+        yield frame(direction, sequence, number, number + thread, records, entries, device)
+
+
+def write_traffic(path, most, devices=1):
+    """Writes a capture of at most this many bytes, and returns the number of frames."""
+    with open(path, "wb") as out:
+        length, count = out.write(HEADER if devices == 1 else HEADER_2), 0
+        for one in frames(devices):
+            length += len(one)
+            if length > most:
+                return count
+            out.write(one)
+            count += 1
+
+
+if __name__ == "__main__":
+    if len(sys.argv) not in (3, 4):
+        sys.exit("usage: checks/run traffic -- BYTES FILE [DEVICES]")
+    print(write_traffic(sys.argv[2], int(sys.argv[1]), *map(int, sys.argv[3:])))

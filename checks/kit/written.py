@@ -1,0 +1,23 @@
+"""Captures that are too large to be held: they are written bit by bit."""
+
+from itertools import chain
+
+from checks.kit.captures import HEADER, frame_header, u64
+
+
+def write_frames(path, *frames, header=HEADER):
+    """Writes a capture of these byte strings: whole frames, or the bytes of a frame in several strings."""
+    with open(path, "wb") as out:
+        out.write(header)
+        out.writelines(chain(*frames))
+
+
+def one_frame(path, direction, length, records, attachments=(0, ())):
+    """Writes a capture of one frame. Its records and attachments are several byte strings, of these lengths
+    together."""
+    write_frames(path, [frame_header(direction, 1, 1, 1, length, attachments[0])], records, attachments[1])
+
+
+def with_buffer(delivery, address):
+    """The transaction or reply with its buffer at this address."""
+    return delivery[:52] + u64(address) + delivery[60:]

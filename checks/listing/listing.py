@@ -1,0 +1,432 @@
+#!/usr/bin/env python3
+"""Checks the program of `./listing`.
+
+    checks/run listing [-- PROGRAM]
+
+PROGRAM is the auditor; without it, it takes the built one. Each file in `stored/` beside this script must be what the
+command in its first line prints. For each capture of crates/audit_cases/data and samples/
+the listing and the auditor's report must agree: in the counts by code, or in the line of the first fault, and in the
+status. A narrowed listing must be the lines of the whole listing that fit. Several files are one capture, also if each
+capture is cut into a file for each frame. In version 2 a frame has a device. Of the payloads in `tokens.py` each must
+have the interface and the service that it names, and no other.
+
+If all is well it prints nothing. Otherwise it prints what was expected and what came, and ends with status 1.
+"""
+
+import argparse
+import os
+import pathlib
+import re
+import struct
+import subprocess
+from collections import Counter
+from concurrent.futures import ThreadPoolExecutor
+from typing import Callable, Iterable, Iterator
+
+from checks.kit import tokens
+from checks.kit.captures import *
+from checks.kit.checking import Fail, check, compare
+from checks.kit.programs import CHECKS, LISTING, ROOT
+from checks.kit.traffic import write_traffic
+
+STORED = CHECKS / "listing/stored"
+
+
+def answer(program: pathlib.Path, *words: object) -> tuple[int, list[str]]:
+    """The status of a run at the top of the repository, and its lines; those of standard error come last."""
+    ended = subprocess.run([program, *map(str, words)], cwd=ROOT, capture_output=True, text=True, timeout=120)
+    return ended.returncode, ended.stdout.splitlines() + ended.stderr.splitlines()
+
+
+# ---- stored listings
+
+
+def check_stored(fail: Fail) -> None:
+    """Each stored listing. Its first line has the command, its last line the status."""
+    for stored in sorted(STORED.iterdir()):
+        words, *lines, status = stored.read_text().splitlines()
+        code, came = answer(LISTING, *words.split()[1:])
+        for number, (one, other) in enumerate(zip(came, lines), 2):
+            compare(f"stored/{stored.name}, line {number}", one, other, fail)
+        compare(f"stored/{stored.name}", (code, len(came)), (int(status.split()[1]), len(lines)), fail)
+
+
+# ---- listing and report
+
+
+def counts_listed(lines: list[str]) -> Counter:
+    """How many records of each name are listed; opaque ones are counted for each code word."""
+    words = [line.split() for line in lines]
+    return Counter((it[5], it[6].removeprefix("word=") if it[5] == "OPAQUE" else "") for it in words)
+
+
+def counts_reported(lines: list[str]) -> Counter:
+    """The same from the rows of `codes`."""
+    first = next(number for number, line in enumerate(lines) if line.startswith("codes "))
+    rows = [line.split() for line in lines[first + 1:first + 1 + int(lines[first].split()[1])]]
+    return Counter({(name, word if name == "OPAQUE" else ""): int(count) for word, name, count in rows})
+
+
+def check_capture(program: pathlib.Path, capture: pathlib.Path, fail: Fail) -> None:
+    status, lines = answer(LISTING, capture)
+    due_status, report = answer(program, "report", capture)
+    compare(f"{capture}, status", status, due_status, fail)
+    if due_status == 2:
+        compare(f"{capture}, last line", lines[-1:], report, fail)
+    else:
+        compare(f"{capture}, counts", counts_listed(lines), counts_reported(report), fail)
+
+
+def check_captures(program: pathlib.Path, fail: Fail) -> None:
+    captures = [*ROOT.glob("samples/*.cap"), *ROOT.glob("crates/audit_cases/data/*.cap")]
+    with ThreadPoolExecutor(os.cpu_count()) as pool:
+        list(pool.map(lambda capture: check_capture(program, capture, fail), captures))
+
+
+# ---- what is narrowed
+
+
+def has_word(field: str) -> Callable[[list[str]], bool]:
+    return lambda words: field in words
+
+
+def check_narrowed(room: pathlib.Path, fail: Fail) -> None:
+    """Compares each option on usual traffic with the whole listing. Attachments are left out, since their objects have
+    handles and cookies that are in no line."""
+    capture = room / "traffic.cap"
+    write_traffic(capture, 2**20, 3)
+    without = room / "without-attachments.cap"
+    without.write_bytes(without_attachments(capture.read_bytes()))
+    _, whole = answer(LISTING, without)
+    cookie = next(word for line in whole for word in line.split() if word.startswith("cookie=0x9"))
+    sizes = sorted({int(word[10:]) for line in whole for word in line.split() if word.startswith("data_size=")})
+    middle = sizes[len(sizes) // 2]
+    node = next(word for line in whole for word in line.split() if word.startswith("ptr=0x"))
+    for words, fits in (
+            ("--process 1000", lambda it: it[3] == "1000"),
+            ("--thread 1003", lambda it: it[4] == "1003"),
+            ("--device 1", lambda it: it[2] == "1"),
+            ("--device 3", lambda it: False),
+            ("--code BC_ACQUIRE", lambda it: it[5] == "BC_ACQUIRE"),
+            ("--code 0x720c", lambda it: it[5] == "BR_NOOP"),
+            ("--handle 7", has_word("handle=7")),
+            (f"--cookie {cookie[7:]}", has_word(cookie)),
+            ("--address 0x700000001000", lambda it: {"buffer=0x700000001000", "address=0x700000001000"} & set(it)),
+            ("--from 300 --to 400", lambda it: 300 <= int(it[1]) <= 400),
+            ("--process 1007 --code BC_RELEASE", lambda it: (it[3], it[5]) == ("1007", "BC_RELEASE")),
+            ("--device 2 --process 1000", lambda it: (it[2], it[3]) == ("2", "1000")),
+            ("--process 1000 --process 1007", lambda it: it[3] in ("1000", "1007")),
+            ("--code BC_REPLY --code 0x720c", lambda it: it[5] in ("BC_REPLY", "BR_NOOP")),
+            ("--from 300 --from 400 --to 350 --to 310", lambda it: 300 <= int(it[1]) <= 350),
+            ("--direction write", lambda it: it[5].startswith("BC_")),
+            ("--direction read --code BC_REPLY", lambda it: False),
+            (f"--node {node[4:]}", has_word(node)),
+            ("--flag TF_ONE_WAY", lambda it: any(word.startswith("flags=") and "TF_ONE_WAY" in word for word in it)),
+            (f"--larger {middle}", lambda it: any(word.startswith("data_size=") and int(word[10:]) > middle for word in it)),
+    ):
+        due = [line for line in whole if fits(line.split())]
+        compare(f"usual traffic, {words}", answer(LISTING, without, *words.split()), (0, due), fail)
+        if not due and words not in ("--device 3", "--direction read --code BC_REPLY"):
+            fail(f"usual traffic, {words}: expected some lines, came none")
+    in_object = attached(1, 100, (record_of_handle(9), offsets(0)), (record_of_handle(5), offsets(0)))
+    (room / "objects.cap").write_bytes(HEADER + in_object)
+    status, lines = answer(LISTING, room / "objects.cap", "--handle", 5)
+    compare("a handle in an object", (status, [line.split()[0] for line in lines]), (0, ["116"]), fail)
+
+
+def record_of_handle(handle: int) -> bytes:
+    return HANDLE[:8] + u32(handle) + HANDLE[12:]
+
+
+def without_attachments(capture: bytes) -> bytes:
+    """The capture with the same records, and without attachment entries."""
+    parts, at = [capture[:16]], 16
+    while at < len(capture):
+        commands, attachments = (int.from_bytes(capture[at + k:at + k + 4], "little") for k in (20, 24))
+        parts += [capture[at:at + 24], u32(0), capture[at + 28:at + 32 + commands]]
+        at += 32 + commands + attachments
+    return b"".join(parts)
+
+
+# ---- what is at a place, and columns
+
+
+def check_places(fail: Fail) -> None:
+    """A frame; the calls that have rows in the report; and columns that say the same as the lines."""
+    capture = "samples/driver/leaks/capture-1.cap"
+    _, whole = answer(LISTING, capture)
+    lines = [line.split() for line in whole]
+    for line in lines[:40]:
+        due = [" ".join(other) for other in lines if other[1] == line[1]]
+        compare(f"--frame {line[0]}", answer(LISTING, capture, "--frame", line[0]), (0, due), fail)
+    compare("--frame of no frame", answer(LISTING, capture, "--frame", 3),
+            (1, ["listing: no frame has the byte at 3"]), fail)
+    check_calls(capture, lines, fail)
+    _, columns = answer(LISTING, capture, "--form", "tab")
+    compare("--form tab", [line.split("\t")[:5] + [line.split("\t")[6]] for line in columns],
+            [line[:6] for line in lines], fail)
+    compare("--form tab, fields", [[word for word in line.split("\t")[8:] if word] for line in columns],
+            [[word.split("=")[1] for word in line[6:] if not word.startswith("word=")] for line in lines], fail)
+    _, objects = answer(LISTING, "samples/attachment.cap", "--objects")
+    compare("--objects", [line.split()[:6] for line in objects[1:]],
+            [["128", "object", "0", "at", "0", "HANDLE"]], fail)
+
+
+def check_side(fail: Fail) -> None:
+    """After each line of the stored captures: the time, the ids and the names that the side list has for its frame."""
+    for capture in sorted(ROOT.glob("samples/driver/*/capture-1.cap")):
+        side = capture.with_name("capture.side")
+        if "after=" in "".join(line for line in side.read_text().splitlines() if " name pid=" in line):
+            continue
+        told, people, names = {}, {}, {}
+        for line in side.read_text().splitlines():
+            match line.split(" "):
+                case [time, "frame", number]:
+                    told[number] = time
+                case [_, "process", device, process, *_]:
+                    names.setdefault((device, process), line.split("name=")[1])
+                case [_, "thread", device, process, thread, pid, tid, *_]:
+                    people.setdefault((device, process, thread), f"{pid} {tid} thread={line.split('name=')[1]}")
+        due = []
+        for line in answer(LISTING, capture)[1]:
+            _, number, *thread = line.split()[:5]
+            due.append(f"{line} time={told[number]} {people[tuple(thread)]} process={names[tuple(thread[:2])]}")
+        compare(f"--side of {capture}", answer(LISTING, capture, "--side", side), (0, due), fail)
+
+
+def check_calls(capture: str, lines: list[list[str]], fail: Fail) -> None:
+    """The calls of the stored report: the records of the thread from the opener to the closer, or to the end."""
+    report = (ROOT / capture).with_name("report.txt").read_text().splitlines()
+    rows = [line.split() for line in report if re.fullmatch(r"  \d+ \d+ \d+ \d+ \d+ \d+ [a-z]+ [-\d]+", line)]
+    if not rows:
+        fail(f"{capture}: no row of a call in its report")
+    for place, *_, closer in rows:
+        thread = next(line[2:5] for line in lines if line[0] == place)
+        end = int(closer) if closer != "-" else int(lines[-1][0])
+        due = [" ".join(line) for line in lines if line[2:5] == thread and int(place) <= int(line[0]) <= end]
+        compare(f"--call {place}", answer(LISTING, capture, "--call", place), (0, due), fail)
+    compare("--call of no opener", answer(LISTING, capture, "--call", 48),
+            (1, ["listing: no call has its opener at 48"]), fail)
+
+
+# ---- interfaces
+
+
+NTF, PNG, DMP, CMD, SPR, EXT, PID = (int.from_bytes(word, "big") for word in (
+    b"_NTF", b"_PNG", b"_DMP", b"_CMD", b"_SPR", b"_EXT", b"_PID"))
+
+
+def carrying(payloads: Iterable[tuple[int, int, bytes]]) -> bytes:
+    """A capture with a frame for each of these: the code word of a transaction or a reply, its code, and its data."""
+    return HEADER + b"".join(
+        frame(1 if word in COMMANDS else 2, number, 100, 101, [transaction(word, 1, code, sizes=(len(data), 0))],
+              [entry(0, data, b"")]) for number, (word, code, data) in enumerate(payloads, 1))
+
+
+def interface_in(line: str) -> str | None:
+    """What a line says after its fields."""
+    *_, last = line.split(" ")
+    return last.removeprefix("interface=") if last.startswith("interface=") else None
+
+
+def names_in(tables: pathlib.Path, of: str = "interface", column: int = 18) -> list[str | None]:
+    """The interface, or the service, of each row of the table record."""
+    names: dict[int, bytes] = {}
+    for row in rows_of((tables / f"{of}.rows").read_bytes()):
+        names[row[0]] = names.get(row[0], b"") + row[2].to_bytes(8, "little").rstrip(b"\0")
+    if len(set(names.values())) < len(names) or list(names) != list(range(1, len(names) + 1)):
+        raise ValueError(f"{tables}: {names}")
+    return [names[row[column]].decode() if column in row else None
+            for row in rows_of((tables / "record.rows").read_bytes())]
+
+
+def check_names(room: pathlib.Path, what: str, payloads: list[tuple[int, int, bytes]], due: list[str | None],
+                in_tables: list[str | None], fail: Fail) -> None:
+    """The interfaces in lines, in columns and in tables."""
+    capture, folder = room / "interfaces.cap", room / f"tables of {what}"
+    folder.mkdir()
+    capture.write_bytes(carrying(payloads))
+    status, lines = answer(LISTING, capture)
+    _, columns = answer(LISTING, capture, "--form", "tab")
+    compare(f"{what}, status", (status, answer(LISTING, "--tables", folder, capture)), (0, (0, [])), fail)
+    found = [interface_in(line) for line in lines]
+    for kind, came, wanted in (("lines", found, due), ("tables", names_in(folder), in_tables),
+                               ("columns", [line.split("\t")[24] or None for line in columns], due),
+                               ("services", names_in(folder, "service", 19), [None] * len(due))):
+        compare(f"{what}, how many {kind}", len(came), len(wanted), fail)
+        for (word, code, data), one, other in zip(payloads, came, wanted):
+            compare(f"{what}, {kind}, {word:#x} code {code:#x} {data[:400].hex()}", one, other, fail)
+    for name in sorted({name for name in due if name})[:4]:
+        compare(f"{what}, --interface {name}", answer(LISTING, capture, "--interface", name),
+                (0, [line for line, of in zip(lines, found) if of == name]), fail)
+
+
+def check_interfaces(room: pathlib.Path, fail: Fail) -> None:
+    """Payloads of `tokens.py`; in all kinds of records and with other codes; and a reply that is one name."""
+    made = tokens.payloads()
+    due = list(made.values())
+    check_names(room, "interfaces", [(BC_TRANSACTION, 1, data) for data in made], due, due, fail)
+    each_kind = [(word, code, data) for data in (*tokens.MADE, *tokens.RECORDED) for code in (1, 0xffffff)
+                 for word in (BC_TRANSACTION, BC_TRANSACTION_SG, BR_TRANSACTION, BR_TRANSACTION_SEC_CTX)]
+    due = [(tokens.MADE | tokens.RECORDED)[data] for _, _, data in each_kind]
+    check_names(room, "interfaces of each kind", each_kind, due, due, fail)
+    token, of_hidl = tokens.marked(tokens.MANAGER), b"android.hidl.base@1.0::IBase\0\0\0\0"
+    others = [(BC_TRANSACTION, code, token) for code in (0, 2**24, 0x0f504e47, NTF, PNG, DMP, CMD, SPR, EXT, PID, 2**32 - 1)]
+    others += [(BC_TRANSACTION, 0x5f504e47, of_hidl), (BC_REPLY, 1, token), (BC_REPLY_SG, 1, token), (BR_REPLY, 1, token)]
+    check_names(room, "other codes", others, [None] * len(others), [None] * len(others), fail)
+    check_names(room, "codes of IBase", [(BC_TRANSACTION, 0x0f504e47, of_hidl)], ["android.hidl.base@1.0::IBase"],
+                ["android.hidl.base@1.0::IBase"], fail)
+    replies = [tokens.string16(text) for text in (tokens.MANAGER, "sword.fish", "swordfish", "")]
+    replies += [replies[0] + bytes(4), bytes(4) + replies[0], replies[0][:-4]]
+    check_names(room, "replies", [(word, 0, data) for word in (BC_REPLY, BC_REPLY_SG, BR_REPLY) for data in replies],
+                [None] * 21, [tokens.MANAGER, *[None] * 6] * 3, fail)
+
+
+def check_services(room: pathlib.Path, fail: Fail) -> None:
+    """The services that payloads to the manager of names are about, in the table record. The table of their names is
+    the same alone as among all tables."""
+    made, capture, folder = tokens.services(), room / "services.cap", room / "tables of services"
+    hello = next(iter(tokens.RECORDED_SERVICES))
+    sent = [(word, code, data) for word, code in ((BC_TRANSACTION, 2), (BR_TRANSACTION_SEC_CTX, 5)) for data in made]
+    sent += [(BC_REPLY, 1, hello), (BR_REPLY, 1, hello), (BC_TRANSACTION, PNG, hello), (BC_TRANSACTION, 0, hello)]
+    folder.mkdir()
+    capture.write_bytes(carrying(sent))
+    compare("services, status", answer(LISTING, "--tables", folder, capture), (0, []), fail)
+    found = names_in(folder, "service", 19)
+    compare("services, how many", len(found), len(sent), fail)
+    for (word, code, data), came, due in zip(sent, found, [*made.values(), *made.values(), *[None] * 4]):
+        compare(f"services, {word:#x} code {code:#x} {data[:400].hex()}", came, due, fail)
+    alone = subprocess.run([LISTING, "--table", "service", capture], capture_output=True, timeout=120)
+    compare("--table service", (alone.returncode, alone.stdout), (0, (folder / "service.rows").read_bytes()), fail)
+
+
+# ---- raw tables
+
+
+def check_tables(room: pathlib.Path, fail: Fail) -> None:
+    """Compares the raw tables of the stored captures with the listing and the stored report. A table written alone is
+    the same as among all tables."""
+    for capture in sorted(ROOT.glob("samples/driver/*/*.cap")):
+        folder = room / capture.parent.name
+        folder.mkdir()
+        compare(f"--tables of {capture}", answer(LISTING, "--tables", folder, capture), (0, []), fail)
+        tables = {path.stem: list(rows_of(path.read_bytes())) for path in folder.iterdir()}
+        report = capture.with_name("report.txt").read_text().splitlines()
+        totals = report[1].split()
+        compare(f"{capture}, capture", [tables["capture"][0].get(k) for k in (3, 4, 7)],
+                [int(totals[k]) for k in (1, 3, 7)], fail)
+        compare(f"{capture}, records", [row[0] for row in tables["record"]],
+                [int(line.split()[0]) for line in answer(LISTING, capture)[1]], fail)
+        heads = {line.split()[0]: line.split() for line in report if not line.startswith(" ")}
+        calls = Counter((row[3], row[6]) for row in tables["call"])
+        compare(f"{capture}, calls", [calls[0, 1], calls[0, 3], calls[0, 0] + calls[0, 4]],
+                [int(heads["calls"][k]) for k in (3, 5, 7)], fail)
+        compare(f"{capture}, served", [calls[1, 2], calls[1, 4] + calls[1, 3], calls[1, 0]],
+                [int(heads["served"][k]) for k in (3, 5, 7)], fail)
+        unfreed = [row[0] for row in tables["delivery"] if 3 not in row]
+        at = next(number for number, line in enumerate(report) if line.startswith("buffers "))
+        compare(f"{capture}, unfreed", unfreed,
+                [int(line.split()[0]) for line in report[at + 1:at + 1 + int(heads["buffers"][3])]], fail)
+    for name in ("call", "level"):
+        alone = subprocess.run([LISTING, "--table", name, capture], cwd=ROOT, capture_output=True, timeout=120)
+        compare(f"--table {name}", (alone.returncode, alone.stdout), (0, (folder / f"{name}.rows").read_bytes()), fail)
+
+
+def rows_of(data: bytes) -> Iterator[dict[int, int]]:
+    """The rows of a table: for each the numbers of the columns that it has."""
+    numbers = iter(struct.unpack(f"<{len(data) // 8}Q", data))
+    for mask in numbers:
+        yield {column: next(numbers) for column in range(64) if mask >> column & 1}
+
+
+# ---- parts, and the second version
+
+
+def check_forms(room: pathlib.Path, fail: Fail) -> None:
+    """A capture cut into two files, and a capture with devices."""
+    first, second, third = (write(at, 1, 1, *each(BC_ACQUIRE, at), ENTER) for at in (1, 2, 3))
+    for name, data in (("whole", HEADER + first + second + third), ("front", HEADER + first),
+                       ("back", HEADER + second + third),
+                       ("devices", HEADER_2 + write(2, 1, 1, *each(BC_ACQUIRE, 2), ENTER, device=7) + third),
+                       ("next", b"BNDRCAP3" + HEADER[8:])):
+        (room / name).write_bytes(data)
+    whole = answer(LISTING, room / "whole")
+    compare("three frames", (whole[0], len(whole[1])), (0, 6), fail)
+    compare("two files", answer(LISTING, room / "front", room / "back"), whole, fail)
+    compare("two files in a wrong order", answer(LISTING, room / "back", room / "front")[1][-1:],
+            ["malformed FrameSequence at 16 in part 2"], fail)
+    compare("a record of the second file", answer(LISTING, room / "front", room / "back", "--at", 100)[1][:1],
+            ["100 2 0 1 1 BC_ENTER_LOOPER"], fail)
+    compare("devices", answer(LISTING, room / "devices", "--device", 7),
+            (0, ["48 2 7 1 1 BC_ACQUIRE handle=2", "56 2 7 1 1 BC_ENTER_LOOPER"]), fail)
+    compare("another version", answer(LISTING, room / "next"), (2, ["malformed HeaderMagic at 0"]), fail)
+
+
+def check_parts(room: pathlib.Path, fail: Fail) -> None:
+    """Each stored capture, cut into a file for each frame, in version 2: the listing is that of the whole capture, and
+    so is the last record by its place."""
+    captures = [*ROOT.glob("samples/*.cap"), *ROOT.glob("crates/audit_cases/data/*.cap")]
+    with ThreadPoolExecutor(os.cpu_count()) as pool:
+        list(pool.map(lambda numbered: check_in_parts(room / f"parts-{numbered[0]}", numbered[1], fail),
+                      enumerate(captures)))
+
+
+def check_in_parts(room: pathlib.Path, capture: pathlib.Path, fail: Fail) -> None:
+    data, parts = capture.read_bytes(), []
+    whole = answer(LISTING, capture)
+    if whole[0] or len(data) > 4096:
+        return
+    room.mkdir()
+    at = 16
+    while at < len(data):
+        after = at + 32 + sum(int.from_bytes(data[at + k:at + k + 4], "little") for k in (20, 24))
+        parts.append(room / str(at))
+        parts[-1].write_bytes(HEADER_2 + data[at:after])
+        at = after
+    if len(parts) < 2:
+        return
+    last = whole[1][-1].split()[0] if whole[1] else "16"
+    for words in ((), ("--at", last)):
+        compare(f"{capture} in {len(parts)} parts {' '.join(words)}", answer(LISTING, *parts, *words),
+                answer(LISTING, capture, *words), fail)
+
+
+# ---- words, and files that can't be read
+
+
+def check_words(fail: Fail) -> None:
+    capture = "samples/reply.cap"
+    _, (usage,) = answer(LISTING)
+    compare("usage", usage.split()[:3], ["usage:", "listing", "FILE..."], fail)
+    compare("--help", (answer(LISTING, "--help")[0], answer(LISTING, "--help")[1][0].split()[:2]), (0, ["Lists", "the"]), fail)
+    with subprocess.Popen([LISTING, "--form", "tab", capture], cwd=ROOT, stdout=subprocess.PIPE,
+                          stderr=subprocess.PIPE) as ended:
+        ended.stdout.close()
+        compare("a closed pipe", (ended.stderr.read(), ended.wait(60)), (b"", 0), fail)
+    for words in ("", "--at 48", f"{capture} --at", f"{capture} --at x", f"{capture} --at -1", f"{capture} --at 1_0",
+                  f"{capture} --at 18446744073709551616", f"{capture} --code BC_NONE", f"{capture} --proc 1",
+                  f"{capture} --files 1", f"{capture} --at 48 --frame 48", f"{capture} --form row",
+                  f"{capture} --form tab --objects", f"{capture} --direction up", f"{capture} --flag TF_NONE",
+                  f"{capture} --table none"):
+        compare(f"words '{words}'", answer(LISTING, *words.split()), (64, [usage]), fail)
+    compare("--at=156", answer(LISTING, "--at=0x9c", capture)[1][:1], answer(LISTING, capture)[1][3:], fail)
+    compare("the script", answer(ROOT / "listing", capture), answer(LISTING, capture), fail)
+    compare("a place without a record", answer(LISTING, capture, "--at", 20)[0], 1, fail)
+    compare("a file that is not there", answer(LISTING, "no-such.cap"), (4, ["fault Open"]), fail)
+    with open("/dev/full", "w") as full:
+        ended = subprocess.run([LISTING, capture], cwd=ROOT, stdout=full, stderr=subprocess.PIPE, text=True)
+    compare("a full device", (ended.returncode, ended.stderr), (4, "fault Write\n"), fail)
+
+
+def judge(given: argparse.Namespace, room: pathlib.Path, fail: Fail) -> None:
+    check_stored(fail)
+    check_captures(given.programs[0], fail)
+    for part in (check_narrowed, check_forms, check_parts, check_tables, check_interfaces, check_services):
+        part(room, fail)
+    check_places(fail)
+    check_side(fail)
+    check_words(fail)
+
+
+if __name__ == "__main__":
+    check(judge)

@@ -1,0 +1,136 @@
+#!/usr/bin/env python3
+"""Checks that completions and manual name the options that the programs name in `--help`.
+
+    checks/run options
+
+What must hold for each of the five commands of the package:
+
+- `--help` says of each option of its command line what it does. Of `view` and `methods` the command line is the one of
+  argparse.
+- The completions are there for it, for bash and for zsh, and offer these options and no others.
+- The page of the manual names them, its command line no others.
+
+Of the recorder it builds only the file with the command line, with cc. It takes some two seconds. If all is well it
+prints nothing. Otherwise it prints what was expected and what came, and ends with status 1.
+"""
+
+import argparse
+import pathlib
+import re
+import subprocess
+import sys
+
+from checks.kit.checking import Fail, check
+from checks.kit.programs import ROOT
+from packager import manual
+
+PACKAGER, RECORDER = ROOT / "packager", ROOT / "recorder"
+# By the names of the package and of the repository.
+PROGRAMS = {"binder-audit": "audit", "binder-listing": "listing", "binder-methods": "viewer/methods/table.py",
+            "binder-record": "record", "binder-view": "view"}
+
+# The command line of the recorder, as a program of its own.
+ONLY_WORDS = """#include "options.h"
+int main(int count, char **words) { struct options options; options_read(&options, count, words); return 0; }
+"""
+
+
+def run(words: list[object], **settings: object) -> str:
+    """Runs a command that must not fail, and returns what it writes."""
+    ended = subprocess.run(list(map(str, words)), stdin=subprocess.DEVNULL, stdout=subprocess.PIPE, text=True,
+                           **settings)  # type: ignore[call-overload]
+    if ended.returncode:
+        sys.exit(f"checks/options: {words[0]} ended with status {ended.returncode}")
+    return ended.stdout
+
+
+def compare_options(what: str, came: set[str], due: set[str], fail: Fail) -> None:
+    if came != due:
+        told = {"lacks": due - came, "has in vain": came - due}
+        fail(f"{what} " + " and ".join(f"{how} {' '.join(sorted(words))}" for how, words in told.items() if words))
+
+
+def programs(folder: pathlib.Path) -> pathlib.Path:
+    """A folder with the programs, by the names of a package."""
+    for name, script in PROGRAMS.items():
+        if name != "binder-record":
+            (folder / name).symlink_to(ROOT / script)
+    (folder / "words.c").write_text(ONLY_WORDS)
+    run(["cc", "-std=gnu11", f"-I{RECORDER}", "-o", folder / "binder-record", folder / "words.c",
+         RECORDER / "options.c", RECORDER / "common.c"])
+    return folder
+
+
+# ---- options
+
+
+def options_in(text: str) -> set[str]:
+    return set(re.findall(r"(?<![\w-])(--[a-z][a-z-]+|-o)\b", text))
+
+
+def check_help(program: pathlib.Path, fail: Fail) -> set[str]:
+    """Returns the options of a program. `--help` itself need not be named."""
+    blocks = list(manual.joined(manual.blocks_of(manual.help_of(program))))
+    lines = [block for block in blocks if block[0].startswith(("    ", "binder-record ["))]
+    line, told = (options_in("\n".join(line for block in some for line in block)) for some in
+                  (lines, [block for block in blocks if block not in lines]))
+    said = run([program, "--help"])
+    taken = options_in(said.partition("\n\n")[0]) if said.startswith("usage: ") else line
+    compare_options(f"the command line in {program.name} --help", line | {"--help"}, taken | {"--help"}, fail)
+    compare_options(f"what {program.name} --help says of words", told & line | {"--help"}, line | {"--help"}, fail)
+    return taken | {"--help"}
+
+
+# ---- completions
+
+
+def offered_by_bash(program: str, words: str) -> set[str]:
+    """What bash offers for a word that begins with -, by the function that is there for the program."""
+    script = (f"source {PACKAGER}/completions.bash; compopt() {{ :; }}; COMP_WORDS=({program} {words} -)\n"
+              f"function=$(complete -p {program} | cut -d ' ' -f 3)\n"
+              f"COMP_CWORD=$((${{#COMP_WORDS[@]}} - 1)); $function {program} - x; echo ${{COMPREPLY[*]}}")
+    return options_in(run(["bash", "-c", script]))
+
+
+def offered_by_zsh(program: str) -> set[str]:
+    text = (PACKAGER / "completions.zsh").read_text()
+    part = re.search(rf"^  {program}\)\n(.*?)^    ;;", text, re.MULTILINE | re.DOTALL)
+    is_there = program in text.partition("\n")[0].split()  # in the line #compdef
+    return options_in(part[1] if part and is_there else "")
+
+
+def check_completions(program: str, due: set[str], fail: Fail) -> None:
+    more = "report x" if program == "binder-audit" else "x"
+    compare_options(f"bash for {program}", offered_by_bash(program, "") | offered_by_bash(program, more), due, fail)
+    compare_options(f"zsh for {program}", offered_by_zsh(program), due, fail)
+
+
+# ---- the manual
+
+
+def plain(lines: str) -> str:
+    """A page without the marks of roff."""
+    return re.sub(r"\\f[BIR]", " ", lines).replace(r"\-", "-")
+
+
+def check_manual(page: manual.Page, folder: pathlib.Path, due: set[str], fail: Fail) -> None:
+    whole = plain(manual.made(page, folder, "0", "2000-01-01"))
+    line = whole.partition(".SH SYNOPSIS\n")[2].partition("\n.SH ")[0]
+    compare_options(f"the command line in {page.name}({page.section})", options_in(line) | {"--help"}, due, fail)
+    compare_options(f"{page.name}({page.section})", options_in(whole.replace(line, "")) & due | {"--help"}, due, fail)
+
+
+# ---- all of it
+
+
+def judge(_: argparse.Namespace, room: pathlib.Path, fail: Fail) -> None:
+    folder = programs(room)
+    for page in manual.PAGES:
+        if page.name in PROGRAMS:
+            due = check_help(folder / page.name, fail)
+            check_completions(page.name, due, fail)
+            check_manual(page, folder, due, fail)
+
+
+if __name__ == "__main__":
+    check(judge)

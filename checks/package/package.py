@@ -1,0 +1,342 @@
+#!/usr/bin/env python3
+"""Checks the package that `./package` makes.
+
+    checks/run package [-- [--guest] [--kept ROOM]]
+
+What must hold:
+
+- Two packages of one commit have the same bytes. The second is made from a copy of the repository in another folder.
+- apt installs the package in a new Debian, made by debootstrap, that has neither this repository nor its toolchain.
+- There the programs give the same answers as here, on all captures in samples/: reports, first faults, listings,
+  groups, databases and timelines to the byte, and pages but for the names of the two commands in them. Those of the
+  archive do so from another folder.
+- The commands in the pages of the manual print there what the pages say.
+- With --guest: on Debian's kernel in QEMU, `binder-record` records a scenario of checks/recorder/scenarios, and the other
+  programs say there of the capture what they say here.
+- When the package is removed, no file or folder is left.
+- lintian has nothing to say, nor mandoc about the pages of the manual.
+- All five commands have completions. These and the manual have the options that `--help` names, and no others
+  (`checks/run options`).
+
+By hand, since it needs root, the network, and debootstrap, lintian, mandoc and zsh; for the guest also QEMU and cpio.
+It takes some 5 minutes, and 2 to 12 more for the guest, without KVM. It proves what is not proved yet. What was
+changed since the commit is packed too, under another version. ROOM is where the new Debian is kept for the next time.
+If all is well it prints nothing. Otherwise it prints what was expected and what came, and ends with status 1.
+"""
+
+import argparse
+import base64
+import filecmp
+import os
+import pathlib
+import re
+import shlex
+import shutil
+import subprocess
+import sys
+from typing import Iterator
+
+from checks.kit.checking import FLAG, Fail, check, compare
+from checks.kit.programs import CHECKS, ROOT
+from packager import manual
+
+# By the names of the package and of the repository.
+PROGRAMS = {"binder-audit": "audit", "binder-listing": "listing", "binder-record": "record", "binder-view": "view",
+            "binder-methods": "viewer/methods/table.py"}
+SUITE, MIRROR = "bookworm", "http://deb.debian.org/debian"
+NEEDED = ("debootstrap", "lintian", "mandoc", "zsh", "unshare")
+# What apt and dpkg write themselves.
+OWN = ("proc", "var/cache", "var/lib/apt", "var/lib/dpkg", "var/log", "root", "tmp")
+
+# Asks all programs about all captures, in a folder with samples/, and leaves the answers there.
+ASK = """
+set -u
+mkdir answers
+ask() { # NAME COMMAND..
+  name=answers/$(printf %s "$1" | tr / -)
+  shift
+  "$@" >"$name.out" 2>"$name.err"
+  echo $? >"$name.status"
+}
+for program in audit listing record view methods; do ask "$program-help" "binder-$program" --help; done
+for words in '' report first-fault 'report none.cap' '--workers 2'; do ask "words-$words" binder-audit $words; done
+ask parts binder-audit report samples/rotated-1.cap samples/rotated-2.cap
+ask methods binder-methods samples/interfaces
+for capture in samples/*.cap samples/driver/*/capture-1.cap; do
+  side=${capture%-1.cap}.side
+  [ -e "$side" ] || side=
+  ask "$capture-report" binder-audit report "$capture"
+  ask "$capture-fault" binder-audit first-fault "$capture"
+  ask "$capture-listing" binder-listing "$capture" --objects ${side:+--side "$side"}
+  name=answers/$(printf %s "$capture" | tr / -)
+  ask "$capture-view" binder-view "$capture" ${side:+--side "$side"} -o "$name.html" --database "$name.db" \\
+    --trace "$name.json.gz"
+  ask "$capture-groups" binder-view "$capture" ${side:+--side "$side"} --groups
+done
+"""
+
+
+def run(words: list[object], **settings: object) -> str:
+    """Runs a command that must not fail, and returns what it writes."""
+    ended = subprocess.run(list(map(str, words)), stdin=subprocess.DEVNULL, stdout=subprocess.PIPE,
+                           stderr=subprocess.STDOUT, text=True, **settings)  # type: ignore[call-overload]
+    if ended.returncode:
+        sys.exit(f"checks/package: {words[0]} ended with status {ended.returncode}: {ended.stdout[-2000:]}")
+    return ended.stdout
+
+
+# ---- two builds
+
+
+def built(folder: pathlib.Path, out: pathlib.Path) -> list[pathlib.Path]:
+    run([folder / "package", out])
+    return sorted(out.iterdir())
+
+
+def check_builds(room: pathlib.Path, fail: Fail) -> list[pathlib.Path]:
+    """Makes the package twice. Returns the files of the first."""
+    first = built(ROOT, room / "first")
+    run(["cp", "-a", ROOT, room / "elsewhere"])
+    second = built(room / "elsewhere", room / "second")
+    compare("names of the second build", [it.name for it in second], [it.name for it in first], fail)
+    for one, other in zip(first, second):
+        if not filecmp.cmp(one, other, shallow=False):
+            fail(f"{one.name}: the second build has other bytes")
+    shutil.rmtree(room / "elsewhere")
+    return first
+
+
+# ---- a new Debian
+
+
+def new_system(kept: pathlib.Path, system: pathlib.Path) -> None:
+    """A copy of a new Debian, which is made first if it is not kept."""
+    if not (kept / "made").exists():
+        shutil.rmtree(kept, ignore_errors=True)
+        run(["debootstrap", "--variant=minbase", SUITE, kept, MIRROR])
+        (kept / "made").touch()
+    run(["cp", "-a", kept, system])
+
+
+def inside(system: pathlib.Path, script: str) -> str:
+    """Runs a script as root in the new system, whose /proc ends with it."""
+    begin = 'mount -t proc proc "$0/proc" && exec chroot "$0" /bin/bash -c "$1"'
+    environment = {"PATH": "/usr/sbin:/usr/bin:/sbin:/bin", "DEBIAN_FRONTEND": "noninteractive", "LC_ALL": "C.UTF-8"}
+    return run(["unshare", "--mount", "sh", "-c", begin, system, script], env=environment)
+
+
+def files_of(system: pathlib.Path) -> set[str]:
+    """All files and folders of a system, but for what apt and dpkg write themselves."""
+    found = set()
+    for folder, folders, names in os.walk(system):
+        here = os.path.relpath(folder, system)
+        folders[:] = [name for name in folders if os.path.normpath(f"{here}/{name}") not in OWN]
+        found.update(os.path.normpath(f"{here}/{name}") for name in (*folders, *names))
+    return found
+
+
+def needs_of(package: pathlib.Path) -> str:
+    return run(["dpkg-deb", "-f", package, "Depends"]).strip()
+
+
+# ---- answers
+
+
+def asked_here(room: pathlib.Path) -> pathlib.Path:
+    """The answers of the programs of the repository, which are called by the same names."""
+    programs, folder = room / "bin", room / "here"
+    programs.mkdir()
+    folder.mkdir()
+    for name, own in PROGRAMS.items():
+        (programs / name).symlink_to(ROOT / own)
+    (folder / "samples").symlink_to(ROOT / "samples")
+    run(["bash", "-c", ASK], cwd=folder, env={**os.environ, "PATH": f"{programs}:{os.environ['PATH']}",
+                                              "LC_ALL": "C.UTF-8"})
+    return folder / "answers"
+
+
+def asked_inside(system: pathlib.Path, name: str, path: str) -> pathlib.Path:
+    """The answers of the programs that are on this path in the new system."""
+    go = f"mkdir /root/{name} && cd /root/{name} && ln -s /usr/share/doc/binder-audit/samples && PATH={path}\n"
+    inside(system, go + ASK)
+    return system / "root" / name / "answers"
+
+
+def as_here(file: pathlib.Path) -> bytes:
+    """An answer with the names of the repository: the page and `--help` have the names of programs. The longer names
+    break the lines of `--help` at other words."""
+    data = file.read_bytes()
+    if file.suffix == ".html" or file.name.endswith(("-help.out", "-view.err", "-groups.err")):
+        data = re.sub(rb"(?<!\w)binder-(audit|listing|record|view)\b", rb"./\1", data)
+        data = data.replace(b"binder-methods", b"viewer/methods/table.py")
+    return re.sub(rb"\s+", b" ", data) if file.name.endswith("-help.out") else data
+
+
+def check_answers(what: str, came: pathlib.Path, due: pathlib.Path, fail: Fail) -> None:
+    names = sorted(it.name for it in due.iterdir())
+    compare(f"{what}: answers", sorted(it.name for it in came.iterdir()), names, fail)
+    for name in names:
+        if (came / name).exists() and as_here(came / name) != as_here(due / name):
+            fail(f"{what}: {name} is not as here")
+    if len([name for name in names if name.endswith(".db")]) < 40:
+        fail(f"{what}: there are too few databases")
+
+
+# ---- the guest
+
+INIT = """#!/bin/bash
+export PATH=/usr/sbin:/usr/bin:/sbin:/bin
+mount -t proc proc /proc
+mount -t sysfs sys /sys
+mount -t devtmpfs dev /dev
+mount -t debugfs debug /sys/kernel/debug
+insmod /modules/binder_linux.ko devices=binder,hwbinder,vndbinder
+mkdir /recorded
+cd /recorded
+binder-record -- /scenarios leaks . 2>record.err
+echo $? >record.status
+binder-audit report capture-1.cap >report.txt
+binder-view capture-1.cap --side capture.side --groups >groups.txt 2>view.err
+echo '<packed>'
+tar -c . | base64
+echo '</packed>'
+"""
+
+
+def make_initramfs(system: pathlib.Path, room: pathlib.Path) -> pathlib.Path:
+    """The new system with the installed package, a module of the driver and the scenarios. Returns the kernel."""
+    inside(system, "apt-get install -y --no-install-recommends kmod && cd /tmp && apt-get download"
+                   " $(apt-cache depends linux-image-amd64 | awk '/Depends: linux-image-/ { print $2 }')")
+    run(["dpkg-deb", "-x", next((system / "tmp").glob("linux-image-*.deb")), room / "kernel"])
+    module = next((room / "kernel").rglob("binder_linux.ko"))
+    (system / "modules").mkdir()
+    shutil.copy(module, system / "modules")
+    sources = [it for it in sorted((CHECKS / "recorder/scenarios").glob("*.c")) if it.stem not in ("gbinder", "witness")]
+    run(["cc", "-O2", "-static", "-o", system / "scenarios", *sources, "-lpthread"])
+    (system / "init").write_text(INIT)
+    (system / "init").chmod(0o755)
+    for name in ("tmp", "var/cache", "var/lib/apt", "usr/share/locale"):  # most of it, and not needed
+        shutil.rmtree(system / name)
+    run(["bash", "-c", 'cd "$1" && find . -xdev | cpio -o -H newc | gzip -1 >"$2"', "-", system, room / "initramfs"])
+    return next((room / "kernel/boot").glob("vmlinuz-*"))
+
+
+def recorded(system: pathlib.Path, room: pathlib.Path) -> pathlib.Path:
+    """What a guest with the installed package recorded, and said of it."""
+    kernel = make_initramfs(system, room)
+    words = ("timeout 1800 qemu-system-x86_64 -accel tcg,thread=single -cpu max -m 2G -nographic -no-reboot -nodefaults"
+             " -serial stdio").split()
+    # A guest that gets little time fails the timer check.
+    words += ["-append", "console=ttyS0 no_timer_check panic=-1 loglevel=0 rdinit=/init"]
+    said = subprocess.run([*words, "-kernel", kernel, "-initrd", room / "initramfs"], stdin=subprocess.DEVNULL,
+                          capture_output=True, text=True, errors="replace").stdout
+    (room / "recorded").mkdir()
+    if packed := re.search(r"<packed>(.*)</packed>", said, re.DOTALL):
+        subprocess.run(["tar", "-x", "-C", room / "recorded"], input=base64.b64decode(packed[1]), check=True)
+    return room / "recorded"
+
+
+def check_guest(system: pathlib.Path, room: pathlib.Path, fail: Fail) -> None:
+    folder = recorded(system, room)
+    if not (folder / "report.txt").exists():
+        fail("the guest: nothing came")
+        return
+    told = (folder / "record.err").read_text()
+    if not re.fullmatch(r"record: \d+ frames, 0 lost; 1 file, \d+ bytes; next: /usr/bin/binder-audit report capture-1"
+                        r".cap\n", told):
+        fail(f"the guest: binder-record: {told}")
+    compare("the guest: status of binder-record", (folder / "record.status").read_text(), "0\n", fail)
+    report = run([ROOT / "audit", "report", "capture-1.cap"], cwd=folder)
+    compare("the guest: report", (folder / "report.txt").read_text(), report, fail)
+    groups = run([ROOT / "view", "capture-1.cap", "--side", "capture.side", "--groups"], cwd=folder)
+    compare("the guest: groups", (folder / "groups.txt").read_text(), groups, fail)
+
+
+# ---- the manual
+
+
+def commands_of(page: manual.Page) -> Iterator[tuple[str, list[str]]]:
+    """The commands that a page of the manual shows, each with the lines that it prints."""
+    for document, headings in page.documents.items():
+        for section in manual.sections_under(document, headings):
+            for block in manual.joined(manual.blocks_of(section.text)):
+                lines = [line.removeprefix("    ") for line in block]
+                starts = [at for at, line in enumerate(lines) if line.startswith("$ ") and block[at].startswith("    ")]
+                for start, end in zip(starts, [*starts[1:], len(lines)]):
+                    yield manual.as_installed(lines[start][2:]), lines[start + 1:end]
+
+
+def check_commands(system: pathlib.Path, fail: Fail) -> None:
+    for page in manual.PAGES:
+        inside(system, f"mkdir /root/{page.name} && ln -s /usr/share/doc/binder-audit/samples /root/{page.name}/")
+        for command, due in commands_of(page):
+            came = inside(system, f"cd /root/{page.name}\n{command} 2>&1 || :")
+            compare(f"{page.name}({page.section}): {command}", came.splitlines(), due, fail)
+
+
+def check_pages(system: pathlib.Path, fail: Fail) -> None:
+    for page in manual.PAGES:
+        path = system / f"usr/share/man/man{page.section}/{page.name}.{page.section}.gz"
+        said = subprocess.run(f"zcat {shlex.quote(str(path))} | mandoc -T lint", shell=True, capture_output=True,
+                              text=True)
+        compare(f"mandoc about {page.name}", said.stdout + said.stderr, "", fail)
+
+
+def check_lint(package: pathlib.Path, fail: Fail) -> None:
+    said = subprocess.run(["lintian", "--allow-root", "--display-level", ">=warning", package], capture_output=True,
+                          text=True)
+    compare("lintian", said.stdout + said.stderr, "", fail)
+
+
+# ---- completions
+
+
+def check_completions(system: pathlib.Path, fail: Fail) -> None:
+    there = {it.name for it in (system / "usr/share/bash-completion/completions").glob("binder-*")}
+    compare("completions for bash", sorted(there), sorted(PROGRAMS), fail)
+    said = subprocess.run([CHECKS / "run", "options"], capture_output=True, text=True)
+    compare("checks/options", said.stdout + said.stderr, "", fail)
+    run(["zsh", "-n", ROOT / "packager/completions.zsh"])
+
+
+# ---- all of it
+
+
+def check_system(room: pathlib.Path, kept: pathlib.Path, files: list[pathlib.Path], guest: bool, fail: Fail) -> None:
+    package = next(it for it in files if it.suffix == ".deb")
+    archive = next(it for it in files if it.suffix == ".xz")
+    system = room / "system"
+    new_system(kept, system)
+    due = asked_here(room)
+    inside(system, f"apt-get update && apt-get satisfy -y --no-install-recommends {shlex.quote(needs_of(package))}")
+    before = files_of(system)
+    shutil.copy(package, system / "tmp")
+    inside(system, f"apt-get install -y /tmp/{package.name}")
+    compare("--version", inside(system, "binder-audit --version").split()[1], package.name.split("_")[1], fail)
+    check_answers("the package", asked_inside(system, "installed", "/usr/bin:/bin"), due, fail)
+    check_commands(system, fail)
+    check_pages(system, fail)
+    check_completions(system, fail)
+    if guest:
+        run(["cp", "-a", system, room / "guest"])
+        check_guest(room / "guest", room, fail)
+    run(["tar", "-C", system / "tmp", "-xf", archive])
+    folder = archive.name.replace("_amd64.tar.xz", "").replace("_", "-")
+    check_answers("the archive", asked_inside(system, "unpacked", f"/tmp/{folder}/bin:/usr/bin:/bin"), due, fail)
+    inside(system, "apt-get purge -y binder-audit")
+    compare("left after the removal", files_of(system) - before, set(), fail)
+    compare("missing after the removal", before - files_of(system), set(), fail)
+
+
+def judge(given: argparse.Namespace, room: pathlib.Path, fail: Fail) -> None:
+    if missing := [name for name in NEEDED if shutil.which(name) is None]:
+        fail(f"missing: {' '.join(missing)}")
+        return
+    room.chmod(0o755)
+    files = check_builds(room, fail)
+    check_system(room, given.kept.resolve() if given.kept else room / "kept", files, given.guest, fail)
+    check_lint(next(it for it in files if it.suffix == ".deb"), fail)
+
+
+if __name__ == "__main__":
+    check(judge, guest=FLAG, kept={"metavar": "ROOM", "type": pathlib.Path})

@@ -1,0 +1,234 @@
+#!/usr/bin/env python3
+"""Checks the pages: README.md, docs/, samples/ and the READMEs of the crates.
+
+    checks/run pages [-- PROGRAM]
+
+Without PROGRAM it takes the built one, crates/binder_audit/out/binder_audit. What must hold:
+
+- Each link to a file of the repository leads to a file, and the text after # to a heading in it.
+- Each report that a page prints is one that the program writes for a capture of samples/ or of crates/audit_cases/data:
+  whole, or without the heads that have no number above 0. In samples/README.md it is the report on the capture in the
+  heading, or on the parts in the heading, which are separated by `and`.
+- The changes of a sample in docs/ENVELOPE.md, in the columns under `change`, have the first faults that the page says.
+- An indented line that begins with `$ ` is a command, and the indented lines below it are what it prints, both streams
+  together. The commands of a page are run one after another in one folder, which has the repository's files and the
+  program as `audit`.
+- The wrong bodies in a crate's page are those in its must-fail/, each of which names the goal at which it is refused.
+  Those that docs/PROMISES.md names after ✗ exist.
+- docs/DEFINITIONS.md is the page that checks/run definitions makes.
+
+If all is well it prints nothing. Otherwise it names page and line, and ends with status 1.
+"""
+
+import os
+import pathlib
+import re
+import shutil
+import subprocess
+import tempfile
+
+from checks.kit.checking import check
+from checks.kit.programs import CASES, ROOT
+from checks.pages import definitions
+
+TITLE = "BINDER AUDIT "
+
+
+def pages():
+    """The pages, README.md first."""
+    return [ROOT / "README.md", *sorted(ROOT.glob("docs/*.md")), *sorted(ROOT.glob("samples/*.md")),
+            *sorted(ROOT.glob("crates/*/README.md"))]
+
+
+def anchors(page):
+    """What a link can have after #: the headings in lower case, without signs, with - for each space."""
+    found = set()
+    for heading in re.findall(r"^#+ (.*)$", page.read_text(), re.MULTILINE):
+        plain = re.sub(r"[^\w\- ]", "", heading.strip().lower()).replace(" ", "-")
+        # The second heading of the same text gets a number.
+        found.add(plain if plain not in found else next(
+            numbered for numbered in (f"{plain}-{n}" for n in range(1, 100)) if numbered not in found))
+    return found
+
+
+def wrong_links(page):
+    """The links of a page that lead nowhere, each with its line. A link can span two lines."""
+    text = page.read_text()
+    for link in re.finditer(r"\]\(([^)\s]+)\)", text):
+        target = link.group(1)
+        if re.match(r"[a-z]+:", target):
+            continue
+        name, _, anchor = target.partition("#")
+        there = (page.parent / name).resolve() if name else page
+        if not there.exists() or anchor and anchor not in anchors(there):
+            yield text.count("\n", 0, link.start()) + 1, f"no {target}"
+
+
+def blocks(page):
+    """The indented blocks of a page: the number of the first line, the lines, and the heading above them."""
+    block, heading = [], ""
+    for number, line in enumerate([*page.read_text().splitlines(), ""], 1):
+        if line.startswith("    "):
+            block.append(line[4:])
+        else:
+            if block:
+                yield number - len(block), block, heading
+            block = []
+        if line.startswith("#"):
+            heading = line.strip("# ")
+
+
+def told(report):
+    """A report without the heads that have no number above 0."""
+    title, totals, *lines = report.splitlines()
+    return "\n".join([title, totals, *(line for line in lines
+                                       if line.startswith(" ") or any(map(int, re.findall(r" (\d+)", line))))]) + "\n"
+
+
+def wrong_reports(page, reports):
+    """The reports of a page that the program writes for no capture, each with its line."""
+    for number, block, heading in blocks(page):
+        if block[0].startswith(TITLE) and block[0] != TITLE + "..":
+            of = [reports[heading]] if page.parent.name == "samples" else reports.values()
+            if "\n".join(block) + "\n" not in {form for report in of for form in (report, told(report))}:
+                yield number, "a report that no capture has"
+
+
+# The beginnings of the line by which `./view` says that it has no loader.
+WITHOUT_LOADER = ("view: cc is missing", "view: sqlite3.h is missing")
+
+SQLITE3 = """#!/usr/bin/env python3
+import sqlite3, sys
+for row in sqlite3.connect(sys.argv[1]).execute(sys.argv[2]):
+    print("|".join("" if value is None else str(value) for value in row))
+"""
+
+
+def with_sqlite3(folder):
+    """Puts a script that answers one query in place of the command sqlite3, if that is missing. Returns whether it
+    did."""
+    if shutil.which("sqlite3"):
+        return False
+    (folder / "bin").mkdir()
+    (folder / "bin/sqlite3").write_text(SQLITE3)
+    (folder / "bin/sqlite3").chmod(0o755)
+    return True
+
+
+def wrong_answers(page, program):
+    """The commands of a page that print something else than the lines below them, each with its line."""
+    with tempfile.TemporaryDirectory() as folder:
+        for name in ("samples", "crates", "checks", "docs", "listing", "viewer"):
+            os.symlink(ROOT / name, pathlib.Path(folder) / name)
+        shutil.copy(ROOT / "view", folder)  # a copy, since it calls what is in its own folder
+        path = f"{folder}/bin:{os.environ['PATH']}" if with_sqlite3(pathlib.Path(folder)) else os.environ["PATH"]
+        os.symlink(pathlib.Path(program).resolve(), pathlib.Path(folder) / "audit")
+        for number, block, _ in blocks(page):
+            starts = [at for at, line in enumerate(block) if line.startswith("$ ")]
+            for start, end in zip(starts, [*starts[1:], len(block)]):
+                ran = subprocess.run(["bash", "-c", block[start][2:]], cwd=folder, timeout=120, text=True,
+                                     env={**os.environ, "PATH": path}, stdout=subprocess.PIPE, stderr=subprocess.STDOUT)
+                came = [line for line in ran.stdout.splitlines() if not line.startswith(WITHOUT_LOADER)]
+                if came != block[start + 1:end]:
+                    yield number + start, f"it prints {ran.stdout!r}"
+
+
+def changes(words, sample):
+    """The captures that these words of a column `change` make of a sample."""
+    if words == "the frame's 48 bytes once more at the end":
+        return [sample + sample[16:]]
+    data, lengths = bytearray(sample), [len(sample)]
+    for part in words.split(", "):
+        if cut := re.fullmatch(r"cut after (\d+)(?: to (\d+))? bytes", part):
+            lengths = range(int(cut[1]), int(cut[2] or cut[1]) + 1)
+        elif put := re.fullmatch(r"places? (\d+)(?: (to|or) (\d+))?(?: from (\w+))? to (\w+)", part):
+            first, last = int(put[1]), int(put[3] or put[1])
+            if put[2] == "or":
+                return [made for at in (first, last)
+                        for made in changes(f"place {at} from {put[4]} to {put[5]}", sample)]
+            if put[4] and data[first:last + 1].hex() != put[4]:
+                return []
+            data[first:last + 1] = bytes.fromhex(put[5])
+        elif part == "and the entry once more":
+            data += sample[116:]
+            lengths = [len(data)]
+        elif part == "or an empty file":
+            lengths = [*lengths, 0]
+        else:
+            return []
+    return [bytes(data[:length]) for length in lengths]
+
+
+def wrong_changes(page, program):
+    """The rows under `change` that have another first fault than the program names, each with its line."""
+    sample = b""
+    for number, block, heading in blocks(page):
+        if block[0].startswith("place") and block[1].split()[1:3] == ["424e445243415031", "magic"]:
+            name = "attachment" if "with an attachment" in heading else "acquire"
+            sample = (ROOT / f"samples/{name}.cap").read_bytes()
+        for at, row in enumerate(block[1:] if block[0].startswith("change ") else [], 1):
+            words, due, *_ = re.split(r" {2,}", row)
+            made = changes(words, sample)
+            told = {subprocess.run([program, "first-fault", "/dev/stdin"], input=capture,
+                                   capture_output=True).stdout.decode().strip() for capture in made}
+            if told != {"no malformed record" if due == "none" else f"malformed {due}"}:
+                yield number + at, f"{words}: {told or 'no such change'}"
+
+
+def wrong_bodies(page):
+    """The wrong bodies in a crate's page that do not exist, each with its line; those that the page leaves out; and
+    those that name no goal."""
+    edits = {it.stem: it.read_text() for it in page.parent.glob("must-fail/*.edit")}
+    there, told, section = edits.keys(), set(), ""
+    for number, line in enumerate(page.read_text().splitlines(), 1):
+        section = line if line.startswith("## ") else section
+        for name in re.findall(r"`([a-z0-9]+(?:-[a-z0-9]+)+)`", line.split(" | ")[0]) if line.startswith("| `") else ():
+            if section.startswith("## Wrong bodies"):
+                told.add(name)
+                if name not in there:
+                    yield number, f"no {name}.edit"
+    for name in sorted(there - told):
+        yield 1, f"nothing of {name}.edit"
+    for name, text in sorted(edits.items()):
+        if len(re.findall(r"^# goal: \S+ of \S+$", text, re.MULTILINE)) != 1:
+            yield 1, f"{name}.edit does not name one goal: `checks/run wrong -- --fill` writes it"
+
+
+def wrong_promises(page):
+    """The wrong bodies that docs/PROMISES.md names after ✗ and no crate has, each with its line."""
+    if page == ROOT / "docs/PROMISES.md":
+        there, text = {it.stem for it in ROOT.glob("crates/*/must-fail/*.edit")}, page.read_text()
+        for told in re.finditer(r"✗(?:\s+`[a-z0-9-]+`[,;]?)+", text):
+            for name in re.findall(r"`([a-z0-9-]+)`", told[0]):
+                if name not in there:
+                    yield text.count("\n", 0, told.start()) + 1, f"no {name}.edit"
+
+
+def stale_lines(page):
+    """The first line of docs/DEFINITIONS.md that is not as it is made, if there is one."""
+    if page == definitions.PAGE:
+        try:
+            yield from definitions.stale()
+        except definitions.Nowhere as error:
+            yield 1, str(error)
+
+
+def judge(given, room, fail):
+    program = given.programs[0]
+    captures = [*sorted(CASES.glob("*.cap")), *sorted(ROOT.glob("samples/*.cap"))]
+    asked = {capture.name: [capture] for capture in captures}
+    for _, _, heading in blocks(ROOT / "samples/README.md"):
+        if " and " in heading:
+            asked[heading] = [ROOT / "samples" / name for name in heading.split(" and ")]
+    answers = {name: subprocess.run([program, "report", *parts], capture_output=True, text=True).stdout
+               for name, parts in asked.items()}
+    reports = {name: answer for name, answer in answers.items() if answer.startswith(TITLE)}
+    for page in pages():
+        for number, what in (*wrong_links(page), *wrong_reports(page, reports), *wrong_answers(page, program),
+                             *wrong_changes(page, program), *wrong_bodies(page), *wrong_promises(page),
+                             *stale_lines(page)):
+            fail(f"{page.relative_to(ROOT)}:{number}: {what}")
+
+
+if __name__ == "__main__":
+    check(judge)

@@ -1,0 +1,380 @@
+#!/usr/bin/env bash
+# Tests the recorder and the report on the real Binder driver. It boots Debian's kernels in QEMU and plays scenarios in
+# raw Binder, under the recorder and a second witness. It compares the two recordings with each other, and the report on
+# each capture with the driver's own books in /sys/kernel/debug/binder. It is run by hand; `.ci/run` runs only
+# `checks/run stored`.
+#
+#     checks/run driver [-- OPTION..]  fetches, builds, boots, compares: some minutes a kernel, more on a busy machine
+#
+#     --room FOLDER      where packages and results are kept; by default a temporary folder that is removed
+#     --recorder FILE    a recorder that is already built; by default `./record` builds it
+#     --auditor FILE     a built auditor for the reports; by default that of ./audit
+#     --built CHECKOUT   takes ./audit and ./listing as another checkout has built them from the same sources; by default
+#                        they are built here, which takes long if nothing is proved yet
+#     --kernel SERIES    only 6.1, 6.12 or newest, which is Debian sid's; by default all that the registry has
+#     --only NAME        only this scenario; may be given several times
+#     --limit SECONDS    how long a guest may take; by default 900
+#     --flight SECONDS   how long the flight recorder runs under load; by default 20
+#     --redact           records all scenarios with --redact, but for those of stacks
+#     --stacks           records all scenarios with --stacks, but for those with --redact
+#     --append WORDS     more words for the kernel's command line
+#     --kvm              uses KVM, and not QEMU's own translator
+#     --cost             also measures what recording costs: bare, with the recorder, and with the witness
+#     --arm64            also plays a few scenarios on Debian's kernel for arm64, with a recorder built for it
+#     --sanitize         runs the recorder under the address and undefined-behaviour sanitizers; they must find nothing
+#     --store            also renews samples/driver from the results of the 6.1 kernel
+#
+# If a comparison fails, it says which one and ends with status 1.
+set -euo pipefail
+
+here=$(readlink -f -- "${BASH_SOURCE[0]}")
+root=${here%/*/*/*}
+scenarios=$root/checks/recorder/scenarios
+limit=900 flight=20 room= recorder= auditor= built= append= cost= store= arm64= sanitize= words_of_recorder=
+# One thread for all processors: with a thread for each, the kernel 6.12 died of a breakpoint that it had removed.
+acceleration='-accel tcg,thread=single -cpu max'
+series=(6.1 6.12 newest)
+only=()
+
+stop() {
+  printf 'checks/driver: %s\n' "$1" >&2
+  exit 1
+}
+
+while (($#)); do
+  case $1 in
+  --room) room=$2 && shift ;;
+  --recorder) recorder=$2 && shift ;;
+  --auditor) auditor=$2 && shift ;;
+  --built) built=$2 && shift ;;
+  --kernel) series=("$2") && shift ;;
+  --only) only+=("$2") && shift ;;
+  --limit) limit=$2 && shift ;;
+  --flight) flight=$2 && shift ;;
+  --redact) words_of_recorder=--redact ;;
+  --stacks) words_of_recorder=--stacks ;;
+  --append) append=$2 && shift ;;
+  --kvm) acceleration='-accel kvm -cpu host' ;;
+  --cost) cost=1 ;;
+  --arm64) arm64=1 ;;
+  --sanitize) sanitize=1 ;;
+  --store) store=1 ;;
+  *) stop "$1 is not an option; the head of this script lists them" ;;
+  esac
+  shift
+done
+
+needs() { # COMMAND PACKAGE
+  command -v "$1" >/dev/null || stop "$1 is missing: apt-get install $2"
+}
+
+as_machine() { # x86_64 or aarch64: from here on everything is downloaded, built and booted for this machine
+  machine=$1
+  case $machine in
+  x86_64)
+    architecture=amd64 compiler=gcc
+    words='console=ttyS0 no_timer_check'	# a guest that gets little time fails the timer check
+    loader=/lib64/ld-linux-x86-64.so.2 loader_in_guest=/lib64 libc=/lib/x86_64-linux-gnu/libc.so.6
+    emulator="qemu-system-x86_64 $acceleration"
+    ;;
+  aarch64)
+    architecture=arm64 compiler=aarch64-linux-gnu-gcc words=console=ttyAMA0
+    loader=/usr/aarch64-linux-gnu/lib/ld-linux-aarch64.so.1 loader_in_guest=/lib
+    libc=/usr/aarch64-linux-gnu/lib/libc.so.6
+    emulator='qemu-system-aarch64 -machine virt -accel tcg,thread=single -cpu cortex-a72'
+    ;;
+  esac
+}
+
+needs qemu-system-x86_64 qemu-system-x86
+needs busybox busybox-static
+needs cpio cpio
+needs gcc gcc
+echo 'int main(void) { return 0; }' | gcc -m32 -static -x c -o /dev/null - 2>/dev/null ||
+  stop 'gcc makes no 32-bit programs: apt-get install gcc-multilib, or gcc-12-multilib beside a compiler for arm64'
+needs xz xz-utils
+needs python3 python3
+if [[ -n $arm64 ]]; then
+  needs qemu-system-aarch64 qemu-system-arm
+  needs aarch64-linux-gnu-gcc 'gcc-aarch64-linux-gnu libc6-dev-arm64-cross'
+fi
+
+if [[ -z $room ]]; then
+  room=$(mktemp -d -t checks-driver.XXXXXX)
+  trap 'cd / && rm -rf -- "$room"' EXIT
+fi
+mkdir -p -- "$room"
+room=$(readlink -f -- "$room")
+
+# ---- packages, unpacked in a folder of their own and not installed
+
+# Makes apt use Debian's own lists of a release for this machine.
+use_lists() { # bookworm or sid
+  local lists=$room/lists-$1-$architecture archives=$room/archives-$1-$architecture sources=$room/sources-$1
+  from=(-o "Dir::Etc::SourceList=$sources" -o Dir::Etc::SourceParts=/dev/null -o "Dir::State::Lists=$lists"
+    -o "Dir::Cache=$archives" -o APT::Sandbox::User=root
+    -o "APT::Architecture=$architecture" -o "APT::Architectures=$architecture")
+  mkdir -p -- "$lists/partial" "$archives/partial"
+  if [[ $1 == sid ]]; then
+    printf 'deb http://deb.debian.org/debian sid main\n'
+  else
+    printf 'deb http://deb.debian.org/debian bookworm%s main\n' '' -updates -backports
+    printf 'deb http://deb.debian.org/debian-security bookworm-security main\n'
+  fi >"$sources"
+  apt-get "${from[@]}" update >>"$room/packages.log" 2>&1
+}
+
+open_packages() { # FOLDER PACKAGE..
+  local folder=$1 file
+  shift
+  rm -rf -- "$folder" && mkdir -p -- "$folder"
+  (cd -- "$folder" && apt-get "${from[@]}" download "$@" >>"$room/packages.log" 2>&1 &&
+    for file in *.deb; do dpkg-deb -x "$file" . && rm -- "$file" || exit 1; done && touch opened)
+}
+
+# The newest kernel of a series, or the newest of all. Newer packages leave the kernel and its modules to others.
+fetch_kernel() { # SERIES, or newest
+  local package parts begin=${1/./\\.}\\.
+  kernel=$room/kernel-$1-$architecture
+  [[ -e $kernel/opened ]] && return 0
+  if [[ $1 == newest ]]; then
+    use_lists sid && begin=
+  else
+    use_lists bookworm
+  fi || return 1
+  package=$(apt-cache "${from[@]}" search --names-only "^linux-image-$begin[0-9.+deb-]*-$architecture\$" |
+    awk '{ print $1 }' | sort -V | tail -n 1)
+  [[ -n $package ]] || return 1
+  parts=$(apt-cache "${from[@]}" depends "$package" |
+    awk '$1 == "Depends:" && $2 ~ /^linux-(binary|modules)-/ { print $2 }')
+  # shellcheck disable=SC2086
+  open_packages "$kernel" "$package" $parts
+}
+
+# ---- the programs
+
+sources_of() { # CHECKOUT [TEST..]: what crates/run looks at, files and folders, if it passes the tests
+  (cd -- "$1" && find crates.txt crates \( -name out -o -name must-fail \) -prune -o \
+    \( -name crates.txt -o -name '*.rt' -o -name '*.antt' -o -type d -path '*/src*' -o -type d -path '*/specs*' \
+    -o -type d -path '*/proofs*' \) "${@:2}" -print)
+}
+
+sums_of() { (cd -- "$1" && sources_of . -type f | sort | xargs sha256sum); }
+
+# Takes the programs that another checkout has built. They are those of the sources here if it has the same ones, and
+# none of them is newer than a program. A program is dated to before that was looked at, so that an edit since is newer.
+take_programs() { # CHECKOUT
+  local name from to began
+  began=$(date +%s.%N)
+  [[ $(sums_of "$1") == "$(sums_of "$root")" ]] || stop "$1 has other sources"
+  for name in binder_audit binder_listing; do
+    from=$1/crates/$name/out/$name to=$root/crates/$name/out/$name
+    [[ -x $from ]] || stop "$from is missing"
+    [[ -z $(sources_of "$1" -newer "$from") ]] || stop "$from is older than a source"
+    mkdir -p -- "${to%/*}"
+    cp -- "$from" "$to.taken"
+    touch -d "@$began" -- "$to.taken"
+    mv -- "$to.taken" "$to"
+  done
+}
+
+# ---- the guest
+
+build_programs() {
+  local flags=(-O2 -Wall -Wextra -Werror) source=(
+    "$scenarios"/{scenarios,raw,send,processes,service,calls,held,ends,odd,many,faults,gaps,greedy,clients,crowd}.c
+    "$scenarios"/{secret,hoard,people,before,forgetful}.c)
+  programs=$room/programs-$architecture
+  mkdir -p -- "$programs"
+  "$compiler" "${flags[@]}" -shared -fPIC -o "$programs/witness.so" "$scenarios/witness.c" -lpthread
+  "$compiler" "${flags[@]}" -o "$programs/scenarios" "${source[@]}" -lpthread
+  "$compiler" "${flags[@]}" -fno-omit-frame-pointer -Wl,--build-id -o "$programs/scenarios.framed" "${source[@]}" \
+    -lpthread
+  "$compiler" "${flags[@]}" -static -o "$programs/scenarios.static" "${source[@]}" -lpthread
+  if [[ $machine == x86_64 ]]; then
+    # The kernel's headers are named, as gcc-multilib, which links them, can't be installed beside a compiler for arm64.
+    gcc -m32 -isystem /usr/include/x86_64-linux-gnu "${flags[@]}" -Wno-pointer-to-int-cast -Wno-int-to-pointer-cast \
+      -static -o "$programs/scenarios.32" "${source[@]}" -lpthread
+  fi
+}
+
+# libgbinder of Debian sid, what it needs, and a service and a client on it: a library that was not written for the
+# checks.
+build_clients() {
+  local folder=$room/packages-clients library
+  if [[ ! -e $folder/opened ]]; then
+    use_lists sid && open_packages "$folder" lib{gbinder,glibutil}{1,-dev} libglib2.0-{0t64,dev} libgio-2.0-dev \
+      libc6 libatomic1 libffi8 libpcre2-8-0 || return 1
+  fi
+  library=$folder/usr/lib/x86_64-linux-gnu
+  mkdir -p -- "$room/clients"
+  cp -L -- "$library"/{ld-linux-x86-64,libc,libm,libatomic}.so.[126] "$library"/lib{gbinder,glibutil}.so.1 \
+    "$library"/lib{glib,gobject}-2.0.so.0 "$library"/libffi.so.8 "$library"/libpcre2-8.so.0 "$room/clients/"
+  gcc -O2 -Wall -Wextra -Werror -isystem "$folder/usr/include/gbinder" -isystem "$folder/usr/include/gutil" \
+    -isystem "$folder/usr/include/glib-2.0" -isystem "$library/glib-2.0/include" -L"$library" \
+    -Wl,--allow-shlib-undefined -o "$room/clients/gbinder" "$scenarios/gbinder.c" -lgbinder -lglibutil -lglib-2.0
+}
+
+# The recorder for arm64, built with the cross compiler and Debian's libraries.
+build_recorder_for_arm64() {
+  local folder=$room/libraries-arm64
+  use_lists bookworm || return 1
+  [[ -e $folder/opened ]] || open_packages "$folder" busybox-static libbpf-dev libelf-dev zlib1g-dev || return 1
+  {
+    printf '#!/bin/sh\n'
+    printf 'exec %s -isystem %s -isystem %s -L%s "$@"\n' "$compiler" "$folder/usr/include" \
+      "$folder/usr/include/aarch64-linux-gnu" "$folder/usr/lib/aarch64-linux-gnu"
+  } >"$room/compiler-arm64"
+  chmod +x -- "$room/compiler-arm64"
+  CC=$room/compiler-arm64 "$root/recorder/build.sh" --machine aarch64 "$room/recorder-arm64" || return 1
+  recorder=$room/recorder-arm64/record
+  busybox=$folder/bin/busybox
+}
+
+module_files() { # KERNEL NAME..
+  local kernel=$1 name file
+  shift
+  for name; do
+    file=$(find "$kernel/lib/modules" "$kernel/usr/lib/modules" -name "$name.ko" -o -name "$name.ko.xz" 2>/dev/null |
+      head -n 1)
+    if [[ -n $file ]]; then printf '%s\n' "$file"; fi
+  done
+}
+
+# What the kernel needs to reach the disk, and the driver.
+modules=(virtio_ring virtio virtio_pci_legacy_dev virtio_pci_modern_dev virtio_pci virtio_blk binder_linux)
+
+make_initramfs() { # KERNEL PLAN TO
+  local top=$room/initramfs file
+  rm -rf -- "$top"
+  mkdir -p -- "$top"/{bin,lib,lib64,proc,sys,dev,out,witness,modules,tmp}
+  cp -- "$programs"/* "$top/"
+  cp -- "$scenarios/init.sh" "$top/init"
+  cp -- "$recorder" "$top/record"
+  cp -- "$2" "$top/plan"
+  printf '%s\n' "$words_of_recorder" >"$top/words"
+  cp -- "$loader" "$top$loader_in_guest/"
+  cp -- "$libc" "$top/lib/"
+  if [[ -n $sanitize ]]; then
+    for file in $(ldd "$recorder" | awk '$3 ~ /^\// { print $3 }'); do cp -- "$file" "$top/lib/"; done
+  fi
+  cp -- "$busybox" "$top/bin/busybox"
+  if [[ $machine == x86_64 ]]; then
+    cp -r -- "$room/clients" "$top/clients"
+    mkdir -- "$top/etc"
+    printf '[Protocol]\n/dev/binder = aidl2\n[ServiceManager]\n/dev/binder = aidl2\n' >"$top/etc/gbinder.conf"
+  fi
+  ln -s busybox "$top/bin/sh"
+  ln -s busybox "$top/bin/env"
+  for file in $(module_files "$1" "${modules[@]}"); do
+    cp -- "$file" "$top/modules/"
+    if [[ $file == *.xz ]]; then unxz -f "$top/modules/${file##*/}"; fi
+    file=${file##*/} && file=${file%.xz}
+    if [[ $file != binder_linux.ko ]]; then printf '%s\n' "$file" >>"$top/modules/order"; fi
+  done
+  [[ -e $top/modules/binder_linux.ko ]] || stop 'the kernel has no module of the Binder driver'
+  (cd -- "$top" && find . | cpio -o -H newc 2>/dev/null | gzip -1) >"$3"
+}
+
+boot() { # KERNEL PLAN OUT WORDS
+  rm -rf -- "$3" && mkdir -p -- "$3"
+  make_initramfs "$1" "$2" "$room/initramfs.gz"
+  rm -f -- "$room/disk" && truncate -s 3G "$room/disk"
+  # shellcheck disable=SC2086
+  timeout "$limit" nice -n "$(($(nice) < 10 ? 10 - $(nice) : 0))" $emulator -m 4G -smp 4 -nographic -no-reboot \
+    -nodefaults -serial stdio -kernel "$(find "$1/" -name 'vmlinuz*' | head -n 1)" -initrd "$room/initramfs.gz" \
+    -drive "file=$room/disk,format=raw,if=virtio" \
+    -append "$words panic=-1 quiet rdinit=/init security=selinux selinux=1 $4" </dev/null >"$3/console" 2>&1 || true
+  tar xif "$room/disk" -C "$3" 2>/dev/null || true	# several archives, with zeros between them
+  rm -f -- "$room/disk"
+  grep -q '^init: done' "$3/console" || stop "the guest did not come to its end: see $3/console"
+}
+
+plan() { # PLAN..: prints the lines of the plans that --only leaves
+  local name how rest
+  while read -r name how rest; do
+    [[ -z $name || $name == '#'* ]] && continue
+    if ((${#only[@]})) && [[ " ${only[*]} " != *" $name "* ]]; then continue; fi
+    if [[ $how == flight ]]; then rest="${rest%% *} $flight"; fi
+    printf '%s %s %s\n' "$name" "$how" "$rest"
+  done < <(cd -- "$scenarios" && cat -- "$@")
+}
+
+as_machine x86_64
+busybox=$(command -v busybox)
+if [[ -n $sanitize ]]; then
+  "$root/recorder/build.sh" --sanitize "$room/recorder-sanitized" || stop 'the recorder was not built'
+  recorder=$room/recorder-sanitized/record
+elif [[ -z $recorder ]]; then
+  "$root/record" --help >/dev/null || stop 'the recorder was not built'
+  recorder=$root/recorder/out/record
+fi
+if [[ -n $built ]]; then take_programs "$(readlink -f -- "$built")"; fi
+"$root/crates/run" checks/driver binder_audit binder_listing || stop './audit and ./listing were not built'
+if [[ -z $auditor ]]; then auditor=$root/crates/binder_audit/out/binder_audit; fi
+build_programs
+build_clients || stop 'the clients on libgbinder were not built'
+
+# What is refused before a kernel is needed: a side list that is in the way, be it a FIFO that nobody writes to, and a
+# build by root in a folder of another user.
+check_refusals() {
+  local here=$room/refused came
+  rm -rf -- "$here" && mkdir -p -- "$here/foreign"
+  mkfifo -- "$here/fifo.side"
+  came=$(timeout 10 "$recorder" -o "$here/fifo" 2>&1) && stop 'a FIFO in the place of the side list was not refused'
+  [[ $came == "record: $here/fifo.side exists already, and is not overwritten" ]] ||
+    stop "a FIFO in the place of the side list: $came"
+  ((EUID == 0)) || return 0
+  cp -R -- "$root/record" "$root/recorder" "$here/foreign/"
+  rm -rf -- "$here/foreign/recorder/out" && chown -R nobody -- "$here/foreign"
+  came=$("$here/foreign/record" --help 2>&1) && stop 'root built the recorder in a folder of another user'
+  [[ $came == 'record: root builds nothing in a folder of the user nobody, '* && $came != *$'\n'* ]] ||
+    stop "a build by root in a folder of another user: $came"
+}
+
+check_refusals
+status=0
+found=0
+whole=$( ((${#only[@]})) || printf whole)
+
+try() { # PLANS OUT WORDS WHOLE: boots the kernel, plays the plans, compares
+  # shellcheck disable=SC2086
+  plan $1 >"$room/plan"
+  [[ -s $room/plan ]] || return 0
+  boot "$kernel" "$room/plan" "$room/$2" "$3"
+  printf '%s\n' "$3" >"$room/$2/words"
+  python3 -m checks.recorder.driver.compare "$auditor" "$room/$2" $4 || status=1
+}
+
+for one in "${series[@]}"; do
+  if ! fetch_kernel "$one"; then
+    printf 'checks/driver: the registry has no kernel %s\n' "$one"
+    continue
+  fi
+  found=$((found + 1))
+  plans=plan.txt
+  if ((found == 1)) || [[ $one == newest ]]; then plans='plan.txt plan-clients.txt'; fi
+  try "$plans" "out-$one" "$append" "$whole"
+  if ((found == 1)) || [[ $one == newest ]]; then
+    try plan-preempt.txt "preempt-$one" "preempt=full $append" ''
+  fi
+  if ((found > 1)); then continue; fi
+  if [[ -n $store ]]; then python3 -m checks.recorder.driver.store "$auditor" "$room/out-$one" "$root/samples/driver"; fi
+  if [[ -n $cost ]]; then
+    plan plan-cost.txt >"$room/plan"
+    emulator=${emulator/thread=single/thread=multi}	# so that recorder and load run at once, as on a real machine
+    boot "$kernel" "$room/plan" "$room/cost-$one" "$append"
+    as_machine x86_64
+    python3 -m checks.recorder.driver.cost "$room/cost-$one" || status=1
+  fi
+done
+((found)) || stop 'no kernel was found'
+
+if [[ -n $arm64 ]]; then
+  as_machine aarch64
+  fetch_kernel "${series[0]}" || stop "the registry has no kernel ${series[0]} for arm64"
+  build_programs
+  build_recorder_for_arm64 || stop 'the recorder for arm64 was not built'
+  try plan-arm64.txt "arm64-${series[0]}" "$append" ''
+fi
+exit "$status"

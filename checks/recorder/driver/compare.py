@@ -1,0 +1,483 @@
+#!/usr/bin/env python3
+"""Compares the results of a guest: compare.py AUDITOR FOLDER [whole]
+
+Each folder in FOLDER is a scenario. The capture must be well formed, and what the recorder lost must be in the side
+list. sections.py compares the report with the driver's books. If the witness recorded too, the two recordings are
+compared frame by frame. The list explained.txt has the differences that are explained, with their reasons. Any other
+difference is named, and the status is then 1. To test the comparison itself, one count of each section is changed in
+the books: if that is not found, the status is 1 too.
+"""
+
+import pathlib
+import re
+import sqlite3
+import struct
+import sys
+import tempfile
+from collections import Counter, defaultdict
+
+from checks.kit.programs import ROOT
+from checks.recorder.driver import books as books_of
+from checks.recorder.driver.recording import Recording, Report, frames_of, report_on
+from checks.recorder.driver.sections import both
+from checks.recorder.driver.stacked import stack_differences
+from checks.viewer.page.common import groups_due, groups_of
+from viewer.database import loading
+
+HERE = pathlib.Path(__file__).resolve().parent
+
+
+def lines_of(name):
+    """The lines of a list, as words; the comment before a line is its reason."""
+    reason = ""
+    for line in (HERE / name).read_text().splitlines():
+        if line.startswith("#"):
+            reason = line[1:].strip()
+        elif line.strip():
+            yield line.split(), reason
+
+
+def explained():
+    return {tuple(words): reason for words, reason in lines_of("explained.txt")}
+
+
+def row_of(scenario, difference):
+    """A difference as a row of the list: without spaces, and with names in place of the numbers of processes."""
+    return (scenario, *(re.sub(r"[ ()']", "", str(part)).replace("byprocess", "-by-process") for part in difference))
+
+
+# ---- what a scenario did on purpose, which the books do not have
+
+def purposes(scenario):
+    """The numbers that the heads of the report must have: those that purposes.txt names, and otherwise no fault."""
+    heads = {("strays", "strays"): 0, ("frees", "stray"): 0, ("flags", "flags"): 0, ("objects", "bad"): 0,
+             ("side", "left-out"): 0, ("side", "unattached"): 0}
+    for words, _ in lines_of("purposes.txt"):
+        if words[0] == scenario:
+            section, name, number = words[1:]
+            heads[section, name] = None if number == "any" else int(number)
+    return heads
+
+
+def purpose_differences(scenario, report, recording):
+    side = {"left-out": recording.left_out, "unattached": recording.unattached}
+    for (section, name), number in purposes(scenario).items():
+        found = side[name] if section == "side" else report.head(section, name)
+        if number is not None and found != number:
+            yield section, "all", name, found, number
+
+
+# ---- the two recordings
+
+def threads(frames, openings):
+    """The frames of each thread, in order. An opening is its device, its process id, and which of these it is."""
+    out = defaultdict(list)
+    for frame in frames:
+        if frame.commands:
+            out[openings[frame.device, frame.process], frame.thread].append(frame)
+    return out
+
+
+def numbered(devices, processes):
+    """Openings by device, process id and rank among these: the two recorders number devices in different orders."""
+    counts, out = Counter(), {}
+    for device, number, pid in processes:
+        counts[device, pid] += 1
+        out[device, number] = devices[device], pid, counts[device, pid]
+    return out
+
+
+def witness_differences(recording, folder):
+    """Compares the frames of each device, process and thread, in order: their bytes and their attachments. If these are
+    redacted, only their lengths are compared."""
+    def bytes_of(frame):
+        return frame.direction, frame.commands, len(frame.attached) if recording.is_redacted else frame.attached
+    names = (folder / "names").read_text()
+    devices = {int(a): b for a, b in re.findall(r"^device (\d+) name (\S+)", names, re.M)}
+    processes = re.findall(r"^process (\d+) (\d+) pid (\d+)", names, re.M)
+    openings = numbered(devices, [tuple(map(int, words)) for words in processes])
+    frames = sorted(frames_of((folder / "frames").read_bytes()), key=lambda frame: frame.sequence)
+    theirs = threads(frames, openings)
+    mine = threads(recording.frames, numbered(recording.devices, [(*key, pid) for key, pid in recording.pids.items()]))
+    for key in sorted(set(mine) | set(theirs)):
+        one, two = mine.get(key, []), theirs.get(key, [])
+        same = sum(bytes_of(a) == bytes_of(b) for a, b in zip(one, two))
+        if not same == len(one) == len(two):
+            (device, pid, _), thread = key
+            yield "witness", f"{device}-{pid}", thread, f"{same}-of-{len(one)}", len(two)
+
+
+# ---- one scenario
+
+def lost_differences(recording):
+    """Each number that no frame has must have its line in the side list."""
+    told = {number for number, _ in recording.lost}
+    used = [frame.sequence for frame in recording.frames]
+    first = used[0] if recording.is_cut else 1
+    unused = set(range(first, used[-1] + 1)) - set(used) if used else set()
+    if not unused <= told:
+        yield "lost", "all", "untold", len(unused - told), 0
+    for why, count in sorted(Counter(why for _, why in recording.lost).items()):
+        yield "lost", "all", why, count, 0
+
+
+MISSED = {"crowd": "calls-without-number"}	# what a scenario makes the recorder miss
+COUNTS = {	# by the word of the side list: how the last line of the recorder names the same
+    "events": "events missed", "calls-without-number": "calls without a number",
+    "calls-of-32-bits": "calls of 32-bit programs, not recorded"}
+
+
+def missed_differences(name, recording, output):
+    """What the side list says was missed must be what the recorder counted in all, and what the scenario wanted."""
+    for what, words in COUNTS.items():
+        counted = sum(map(int, re.findall(rf"; {words} (\d+)", output)))
+        told = recording.missed[what]
+        if told != counted:
+            yield "missed", "all", what, told, counted
+        if (told > 0) != (MISSED.get(name) == what):
+            yield "missed", "all", what, told, "some" if MISSED.get(name) == what else 0
+
+
+MOST_FILES = 4		# that a flight recorder keeps
+
+
+def flight_differences(recording, folder):
+    """A flight recorder keeps the newest files, each with a side list that says whose the frames in it are."""
+    most = int((folder / "most-files").read_text())
+    if most != MOST_FILES or len(recording.captures) != MOST_FILES:
+        yield "flight", "all", "files", most, MOST_FILES
+    if not recording.is_cut:
+        yield "flight", "all", "removed", 0, "some"
+    names = [path.stem for path in recording.captures]
+    if names != [path.stem for path in recording.sides]:
+        yield "flight", "all", "side", len(recording.sides), len(names)
+    for path in recording.sides:
+        one = Recording(folder, path.stem)
+        strangers = {(frame.device, frame.process, frame.thread) for frame in one.frames} - set(one.tids)
+        if strangers:
+            yield "flight", path.stem, "strangers", len(strangers), 0
+
+
+# KiB of the recorder's own memory: 256 MiB of frames that wait, and at most what is in its ring.
+MOST_MEMORY = 352 << 10
+
+
+def hoard_differences(output, folder):
+    """While a write is held up, what is kept of later frames is bounded: that write is lost, and nothing else."""
+    memory = int((folder / "memory").read_text())
+    if not 0 < memory < MOST_MEMORY:
+        yield "hoard", "all", "memory", memory, MOST_MEMORY
+    if not re.search(r" frames, 1 lost \(held-too-long 1\); files removed \d+; 4 files, ", output):
+        yield "hoard", "all", "lost", output.strip(), "held-too-long 1"
+
+
+SECRETS = {which: bytes((which * 73 + i * 151 + (i * i >> 3) * 29 + 17) & 255 for i in range(64))
+           for which in range(1, 6)}
+TO_CLEAR = 5		# the secret that is sent with TF_CLEAR_BUF
+TOKEN = "org.example.IVault".encode("utf-16-le")
+
+
+def secret_differences(recording):
+    """Which secrets of the scenario can be found, by eight bytes of them, in what the recorder wrote."""
+    written = b"".join(path.read_bytes() for path in (*recording.captures, *recording.sides))
+    for which, secret in SECRETS.items():
+        found = sum(secret[at:at + 8] in written for at in range(len(secret) - 7))
+        due = 0 if which == TO_CLEAR or recording.is_redacted else len(secret) - 7
+        if found != due:
+            yield "secret", "all", which, found, due
+    if TOKEN not in written:
+        yield "secret", "all", "token", 0, 1
+
+
+# ---- command lines, and the driver's books
+
+LONGEST_COMMAND = 256
+USER = 10123
+COMMANDS = (	# of each process of the scenario people, in order: the users, and the command lines
+    [(0, b"/scenarios.static\0people\0/out/people")], [(0, b"com.example.mail\0person\0a")],
+    [(0, b"<pre-initialized>, and room for the name that it gets\0person\0z"),
+     (0, b"com.example.a.name.of.many.letters:remote")],
+    [(0, b"odd\n\\x41 \t\xff\xc3\xa9\0person\0o\0two words\0\0last")], [(0, b"\0person\0n")],
+    [(0, b"/system/bin/before-exec\0person\0x"), (0, b"after-exec\0person\0e")],
+    [(USER, b"/system/bin/other-user\0person\0u")], [(0, b"l" * LONGEST_COMMAND)])
+
+
+def command_differences(recording):
+    """The command lines of the scenario; only their first words if payloads are redacted."""
+    came = defaultdict(list)
+    for device, number, user, name in re.findall(r"^\d+ command (\d+) (\d+) after=\d+ uid=(\d+) name=(.*)$",
+                                                 recording.side, re.M):
+        raw = re.sub(rb"\\x([0-9a-f]{2})", lambda found: bytes([int(found[1], 16)]),
+                     name.encode(errors="surrogateescape"))
+        came[int(device), int(number)].append((int(user), raw))
+    for nth, due in enumerate(COMMANDS):
+        key = sorted(recording.names)[nth]
+        if recording.is_redacted:
+            due = [(user, text.partition(b"\0")[0]) for user, text in due]
+        if came[key] != due:
+            yield "names", recording.names[key], "command", came[key], due
+
+
+BOOKS = [(when, which) for when in ("begin", "end") for which in ("state", "transactions", "stats")]
+
+
+def copy_differences(how, recording, folder):
+    """Each copy of the driver's books has the length that the side list names. Only a recorder that was killed has none
+    at the end, and the list of the beginning may be gone where old files are."""
+    told = {(when, which): int(size) for when, which, size in re.findall(
+        r"^\d+ books (\S+) (\S+) from=\d+ after=\d+ bytes=(\d+)$", recording.side, re.M)}
+    for when, which in BOOKS:
+        if when == ("end" if how == "killed" else "begin" if recording.is_cut else None):
+            continue
+        path = folder / f"capture.{when}.{which}"
+        size = path.stat().st_size if path.exists() else 0
+        if told.get((when, which)) != size:
+            yield "books", "all", f"{when}-{which}", told.get((when, which)), size
+
+
+def view_differences(folder):
+    """What `./view` says of the scenario before: its groups, and that the report agrees with the driver's books."""
+    with tempfile.TemporaryDirectory() as room:
+        made = pathlib.Path(room) / "made.db"
+        loading.database_of(ROOT, [str(folder / "capture-1.cap")], str(folder / "capture.side"), made, lambda _: None)
+        database = sqlite3.connect(made)
+        facts = dict(database.execute("SELECT key, value FROM capture WHERE key GLOB 'books_*'"))
+        came, due = groups_of(database), groups_due("before")
+        for group in sorted(set(came) ^ set(due)):
+            yield "view", "all", "-".join(group[:2]), group in came, group in due
+        for who, what, report, books in database.execute(
+                "SELECT who, what, report, books FROM disagreement JOIN who USING (upid)"):
+            yield "view", who, what, report, books
+        rules = dict(database.execute("SELECT rule, count(*) FROM finding GROUP BY 1"))
+        if rules != RULES_BEFORE:
+            yield "view", "all", "rules", rules, RULES_BEFORE
+        if facts != FACTS_BEFORE:
+            yield "view", "all", "facts", facts, FACTS_BEFORE
+
+
+# The rules of all findings of the scenario before, and how many of its openings are compared at the end.
+RULES_BEFORE = {"P2": 5, "H7": 1, "H6": 1, "H2": 1, "H1": 1, "F2": 1, "D4": 1}
+FACTS_BEFORE = {"books_doubt": None, "books_compared": 5, "books_left_out": 0}
+
+
+# ---- namespaces, and openings from before the recording
+
+OWN_NUMBERS = 4194304	# numbers from here on are no ids of Linux
+BR_TRANSACTIONS = {0x80407202, 0x80487202}
+
+
+def sender_differences(recording):
+    """The sender of a call that is delivered is a process by its id in the namespace of the receiver."""
+    for key, (_, pid) in recording.spaces.items():
+        if key[1] < OWN_NUMBERS:
+            yield "senders", recording.names[key], "number", key[1], OWN_NUMBERS
+    for _, _, frame, word, payload in recording.records():
+        if word not in BR_TRANSACTIONS:
+            continue
+        flags, sender = struct.unpack_from("<Ii", payload, 20)
+        here = recording.spaces.get((frame.device, frame.process), (0, 0))[0]
+        ids = (set(recording.pids.values()) if not here
+               else {pid for space, pid in recording.spaces.values() if space == here})
+        if not flags & 1 and sender and sender not in ids:
+            yield "senders", recording.names[frame.device, frame.process], "unknown", sender, 0
+
+
+def bits_differences(how, recording):
+    """The side list says of each thread that made 32-bit calls that it did."""
+    if wrong := recording.bits["" if how == "record32" else " bits=32"]:
+        yield "names", "all", "bits", wrong, 0
+
+
+OPENINGS_BEFORE = 4	# of the load: manager, service and two clients
+SAYS = {"drivers": ["driver is the one in Rust", "rust alone: status 1", "two Binder drivers"]}
+
+
+# How it is recorded if the recorder does not record all, from beginning to end.
+PARTIAL = {"late", "hidden", "before", "killed", "stopped", "full", "narrow", "flight", "hoard"}
+MOST_AFTER = 200_000_000	# nanoseconds from the last frame to the end, if the scenario goes on after it
+MOST_CUT = 8192		# bytes of a last frame of the load that a killed recorder may leave cut
+
+
+class Scenario:
+    def __init__(self, auditor, folder):
+        self.name, self.folder = folder.name, folder
+        self.recording = Recording(folder)
+        status = folder / "status"
+        self.status, self.how = status.read_text().split()[:2] if status.exists() else ("0", "stored")
+        code, text = report_on(auditor, self.recording.captures)
+        if code == 2 and self.how == "killed" and self.recording.captures:
+            with tempfile.TemporaryDirectory() as room:
+                code, text = report_on(auditor, self.recording.cut_off(room))
+        self.text = text
+        self.output = (folder / "output").read_text(errors="replace") if (folder / "output").exists() else ""
+        self.report = Report(text) if code == 0 else None
+        self.has_copies = self.how != "stored" or " books end state " in self.recording.side
+        self.has_stacks = (self.how in ("stacks", "frameless")
+                           or bool(re.search(r"^\d+ stack ", self.recording.side, re.M)))
+        self.program = next((path for path in (folder / "program", *folder.glob("symbols/*")) if path.exists()), None)
+        if self.how == "stored" and self.recording.lost:
+            self.how = "narrow"
+        if self.how == "stored" and self.recording.met:
+            self.how = "before"
+        self.books = books_of.texts(folder) if (folder / "state").exists() else None
+
+    def differences(self, texts=None):
+        """The differences, and the sections that were looked at."""
+        if found := re.search("Sanitizer: [a-z-]*|runtime error", self.output):
+            return [("status", "all", found[0], 1, 0)], {"status"}
+        if self.report is None:
+            return [("capture", "all", self.text.strip(), 0, 0)], {"capture"}
+        if self.how in PARTIAL:
+            found = [item for item in lost_differences(self.recording)
+                     if item[2] in ("untold", "broken", "not-written")]
+            if self.how == "full" and "ring-full" not in {why for _, why in self.recording.lost}:
+                found.append(("lost", "all", "ring-full", 0, "some"))
+            if self.how in ("late", "hidden") and self.recording.met != OPENINGS_BEFORE:
+                found.append(("names", "all", "met", self.recording.met, OPENINGS_BEFORE))
+            if self.how == "narrow" and not self.recording.lost:
+                found.append(("lost", "all", "frames", 0, "some"))
+            if self.recording.cut > MOST_CUT:
+                found.append(("capture", "all", "cut", self.recording.cut, 0))
+            if not self.recording.frames:
+                found.append(("capture", "all", "frames", 0, 1))
+            if self.how == "late" and self.recording.lasted_after_frames() > MOST_AFTER:
+                found.append(("lost", "all", "end", self.recording.lasted_after_frames(), MOST_AFTER))
+            if self.how == "flight":
+                found += flight_differences(self.recording, self.folder)
+            if self.how == "hoard":
+                found += hoard_differences(self.output, self.folder)
+            if self.how in ("flight", "hoard", "before") and self.status != "0":
+                found.append(("status", "all", "program", self.status, 0))
+            if self.name == "before":
+                found += view_differences(self.folder)
+            if self.has_copies:
+                found += copy_differences(self.how, self.recording, self.folder)
+            return found, {"capture", "lost", "names", "books"} | ({"view"} if self.name == "before" else set())
+        if self.books is None:
+            return [("status", "all", "no books", self.status, 0)], {"status"}
+        sides = both(self.recording, self.report, books_of.Books(texts or self.books))
+        found = list(sides.differences())
+        found += purpose_differences(self.name, self.report, self.recording)
+        found += lost_differences(self.recording)
+        found += sender_differences(self.recording)
+        found += bits_differences(self.how, self.recording)
+        found += [("status", "all", "unsaid", words, 0) for words in SAYS.get(self.how, ()) if words not in self.output]
+        seen = sides.seen | {"purpose", "lost", "capture", "status", "senders", "names"}
+        if self.name in ("people", "people-redacted"):
+            found += command_differences(self.recording)
+        if self.has_copies:
+            found += copy_differences(self.how, self.recording, self.folder)
+            seen.add("books")
+        if self.name in ("secret", "secret-redacted"):
+            found += secret_differences(self.recording)
+            seen.add("secret")
+        if self.how != "stored":
+            found += missed_differences(self.name, self.recording, self.output)
+            seen.add("missed")
+        if self.how == "both":
+            found += witness_differences(self.recording, self.folder)
+            seen.add("witness")
+        if self.has_stacks:
+            found += stack_differences(self.recording, self.name.endswith("frameless"), self.program)
+            seen.add("stacks")
+        if self.status != "0":
+            found.append(("status", "all", "program", self.status, 0))
+        return found, seen
+
+
+# ---- wrong books
+
+WRONG = {	# for each section a count in a file of the books
+    "codes": ("stats", r"^(BC_REPLY: )(\d+)"),
+    "codes by process": ("stats", r"^(  BC_FREE_BUFFER: )(\d+)"),
+    "handles": ("state", r"(  ref \d+: desc \d+ (?:dead )?node \d+ s )(\d+)"),
+    "nodes": ("state", r"(  node \d+: u[0-9a-f]*[1-9a-f]0* c\w+ (?:pri \S+ )?hs )(\d+)"),
+    "due": ("state", r"(  node \d+: u[0-9a-f]*[1-9a-f]0* .* ls )(\d+)"),
+    "buffers": ("state", r"(  buffer \d+: [0-9a-f]+ size )(\d+)(?=.* delivered)"),
+    "calls": ("state", r"(outgoing transaction .* code )(\d+)"),
+    "served": ("state", r"(incoming transaction .* code )(\d+)"),
+    "requests": ("state", r"(  ref \d+: .* d 0*)(0)$"),
+    "deaths": ("state", r"^(  has )(delivered dead binder)"),
+    "clears": ("state", r"^(  has )(cleared death notification)"),
+    "refused": ("failed_transaction_log", r"^(\d+: async from \d+:)(\d+)"),
+    "oneway": ("state", r"(pending async transaction .* flags )(\d+)"),
+}
+
+
+def wrong(text, section):
+    """The books with one count of the section changed; None if they have no such count."""
+    name, pattern = WRONG[section]
+
+    def change(found):
+        return found[1] + (str(int(found[2], 16) + 1) if re.fullmatch(r"[0-9a-f]+", found[2]) else "lost")
+    head, mark, rest = text[name].partition("\nproc ")	# nodes without a process come first, and have no row
+    if section in ("nodes", "due"):
+        rest, times = re.subn(pattern, change, rest, count=1, flags=re.M)
+        changed = head + mark + rest
+    else:
+        old = set(text.get(name + ".before", "").splitlines())	# lines of earlier scenarios
+        lines, times = text[name].splitlines(), 0
+        for at, line in enumerate(lines):
+            if line not in old and not times:
+                lines[at], times = re.subn(pattern, change, line, count=1)
+        changed = "\n".join(lines) + "\n"
+    return {**text, name: changed} if times else None
+
+
+def unfound(scenarios):
+    """For each section: in how many scenarios its books were made wrong, and in how many that was found."""
+    for section in WRONG:
+        tried = found = 0
+        for scenario in scenarios:
+            if tried == 3 or not scenario.report or not scenario.books or scenario.how in PARTIAL:
+                continue
+            texts = wrong(scenario.books, section)
+            if texts is None:
+                continue
+            right = scenario.differences()[0]
+            tried += 1
+            found += any(item[0] == section and item not in right for item in scenario.differences(texts)[0])
+        yield section, tried, found
+
+
+# ---- the table
+
+def main(auditor, folder, whole=""):
+    folder = pathlib.Path(folder)
+    reasons, table, failed, used = explained(), defaultdict(Counter), False, set()
+    scenarios = [Scenario(auditor, path) for path in sorted(folder.iterdir()) if (path / "status").exists()]
+    if not scenarios:
+        sys.exit(f"compare.py: {folder} has no scenario")
+    for scenario in scenarios:
+        found, seen = scenario.differences()
+        verdicts = {section: "agree" for section in seen}
+        for difference in found:
+            row = row_of(scenario.name, difference)
+            if row in reasons:
+                used.add(row)
+                verdicts[difference[0]] = max(verdicts.get(difference[0], "agree"), "explained")
+                continue
+            verdicts[difference[0]] = "unexplained"
+            print("not explained:", *row)
+            failed = True
+        for section, verdict in verdicts.items():
+            table[section][verdict] += 1
+    kernel = (folder / "kernel").read_text().strip() if (folder / "kernel").exists() else "stored"
+    words = (folder / "words").read_text().strip() if (folder / "words").exists() else ""
+    print(f"kernel {kernel}{words and ', ' + words}, {len(scenarios)} captures")
+    print(f"{'section':20}{'agree':>8}{'explained':>11}{'not':>6}{'wrong books found':>20}")
+    changes = {section: f"{found} of {tried}" for section, tried, found in unfound(scenarios)}
+    for section in sorted(set(table) | set(changes)):
+        counts = table[section]
+        print(f"{section:20}{counts['agree']:8}{counts['explained']:11}{counts['unexplained']:6}"
+              f"{changes.get(section, '-'):>20}")
+        if section in changes:
+            found, tried = changes[section].split(" of ")
+            if found != tried or whole and tried == "0":
+                print("wrong books were not found:", section)
+                failed = True
+    sys.exit(1 if failed else 0)
+
+
+if __name__ == "__main__":
+    main(*sys.argv[1:])

@@ -1,0 +1,48 @@
+#!/usr/bin/env python3
+"""store.py AUDITOR FROM TO: stores the small scenarios of a guest, with their books and the report on each."""
+
+import pathlib
+import shutil
+import subprocess
+import sys
+
+from checks.recorder.driver import books
+from checks.recorder.driver.recording import Recording, report_on
+
+LARGEST = 200_000	# bytes of a capture with its side list
+WAYS = ("both", "record", "redact", "narrow", "before", "stacks", "frameless")	# to record a scenario
+
+
+def store_symbols(program, folder):
+    """Of a program whose stacks were recorded only its symbols are kept."""
+    folder.mkdir()
+    subprocess.run(["objcopy", "--only-keep-debug", program, folder / "program.debug"], check=True)
+    (folder / "program.debug").chmod(0o644)
+
+
+def main(auditor, source, to):
+    to = pathlib.Path(to)
+    if to.resolve() == pathlib.Path(source).resolve():
+        sys.exit("store.py: FROM and TO are the same folder")
+    for folder in sorted(pathlib.Path(source).iterdir()):
+        captures = Recording(folder).captures if folder.is_dir() else []
+        files = [*captures, folder / "capture.side"]
+        if len(captures) != 1 or sum(path.stat().st_size for path in files) > LARGEST:
+            continue
+        if (folder / "status").read_text().split()[1] not in WAYS:
+            continue
+        status, text = report_on(auditor, captures)
+        if status:
+            sys.exit(f"store.py: {folder}: {text}")
+        kept = to / folder.name
+        shutil.rmtree(kept, ignore_errors=True)
+        kept.mkdir(parents=True)
+        for path in (*files, *folder.glob("capture.*.*"), *(folder / name for name in books.NAMES)):
+            shutil.copyfile(path, kept / path.name)
+        (kept / "report.txt").write_text(text)
+        if (folder / "status").read_text().split()[1] == "stacks":
+            store_symbols(folder / "program", kept / "symbols")
+
+
+if __name__ == "__main__":
+    main(*sys.argv[1:])

@@ -1,0 +1,49 @@
+#!/usr/bin/env python3
+"""Checks the stored captures of the real driver.
+
+    checks/run stored [-- PROGRAM]      PROGRAM is the auditor; without it, it takes the built one
+
+Each folder in samples/driver has a capture, its side list, the driver's books and the report. The auditor and the
+second reading must both write this report, and the listing must have as many records. The report and the books are
+compared as for a guest. If all is well it prints nothing. Otherwise each difference has a line, and the status is 1.
+"""
+
+import subprocess
+
+from checks.kit.checking import check
+from checks.kit.programs import DRIVER, LISTING
+from checks.kit.second_reading import reading_of_parts
+from checks.recorder.driver.compare import Scenario, explained, row_of, unfound
+
+
+def faults_of(scenario, reasons):
+    wanted = (scenario.folder / "report.txt").read_text()
+    captures = scenario.recording.captures
+    if scenario.text != wanted:
+        yield "the auditor writes another report"
+    if reading_of_parts([path.read_bytes() for path in captures]) != (0, wanted.splitlines()):
+        yield "the second reading has another report"
+    listed = subprocess.run([LISTING, *captures], capture_output=True).stdout
+    if listed.count(b"\n") != int(wanted.split()[6]):
+        yield "the listing has another number of records"
+    for difference in scenario.differences()[0]:
+        row = row_of(scenario.name, difference)
+        if row not in reasons:
+            yield "not explained: " + " ".join(row)
+
+
+def judge(given, _, fail):
+    scenarios = [Scenario(given.programs[0], path) for path in sorted(DRIVER.iterdir()) if path.is_dir()]
+    if not scenarios:
+        fail(f"{DRIVER} has no captures")
+    reasons = explained()
+    for scenario in scenarios:
+        for fault in faults_of(scenario, reasons):
+            fail(f"{scenario.name}: {fault}")
+    for section, tried, found in unfound(scenarios):
+        if not tried or tried != found:
+            fail(f"wrong books of {section}: tried {tried}, found {found}")
+
+
+if __name__ == "__main__":
+    check(judge)

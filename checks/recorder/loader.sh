@@ -1,0 +1,62 @@
+#!/usr/bin/env bash
+# Checks that no caller can hold up the recorder's loader, or make it keep more than it may: one frame with 30,000
+# entries, 200,000 ends of processes while a write waits, 500 MiB of other frames while a write waits, and 100 MiB of
+# frames that can be written at once, and are redacted. Also that command lines of all bytes are whole lines of the side
+# list. And if most frames of a flight recorder are written only when it ends, that the last side list tells of the
+# driver's books of the end, and each one of what was missed meanwhile, since older side lists are removed then.
+#
+#     checks/run loader
+#
+# It builds the parts of the recorder that need no kernel, and gives them messages as from the ring; and the recorder
+# with a driver that is made up. If all is well it prints nothing. Otherwise it prints what took too long, or too much,
+# or what came, and ends with status 1.
+set -euo pipefail
+
+here=$(readlink -f -- "${BASH_SOURCE[0]}")
+root=${here%/*/*/*}
+room=$(mktemp -d -t checks-loader.XXXXXX)
+trap 'rm -rf -- "$room"' EXIT
+
+# Builds a program of one of the checks and the recorder's sources, but for those that are named.
+build() { # PROGRAM WITHOUT [OPTION]..
+  local program=$1 without=" $2 " sources=() source
+  for source in "$root"/recorder/*.c; do
+    if [[ $without != *" ${source##*/} "* && $source != *.bpf.c ]]; then sources+=("$source"); fi
+  done
+  cc -O1 -std=gnu11 -Wall -Wextra -Werror "-I$root/recorder" "${@:3}" "$root/checks/recorder/$program.c" "${sources[@]}" \
+    -o "$room/$program"
+}
+
+# Checks what side lists say of the driver's books and of the end, and that each copy has the length that they name.
+tells() { # OUT DUE SIDE..
+  local told name size
+  told=$(sed -nE 's/^[0-9]+ (books|end) ([a-z]+)( [a-z]+)? .*/\2\3/p' "${@:3}" | paste -sd ,)
+  if [[ $told != "$2" ]]; then
+    printf 'checks/loader: expected %s, came %s\n' "$2" "$told" && failed=1
+  fi
+  while read -r name size; do
+    if [[ $(stat -c %s -- "$1.$name") != "$size" ]]; then
+      printf 'checks/loader: %s has not %s bytes\n' "$1.$name" "$size" && failed=1
+    fi
+  done < <(sed -nE 's/^[0-9]+ books ([a-z]+) ([a-z]+) .* bytes=([0-9]+)$/\1.\2 \3/p' "${@:3}")
+}
+
+failed=0
+build loader 'main.c kernel.c missed.c books.c'
+"$room/loader" "$room/out" || failed=1
+
+build flight 'kernel.c needs.c ring.c' -Wl,--wrap=open
+ends='end state,end transactions,end stats,recording'
+"$room/flight" -o "$room/whole" -- true 2>/dev/null
+tells "$room/whole" "begin state,begin transactions,begin stats,$ends" "$room/whole.side"
+"$room/flight" -o "$room/kept" --size 65536 --files 2 -- true 2>"$room/told"
+lists=("$room"/kept-*.side)
+if [[ ${#lists[@]} != 2 || -e $room/kept-1.side ]]; then
+  printf 'checks/loader: a flight recorder kept %s: %s\n' "${lists[*]}" "$(<"$room/told")" && failed=1
+fi
+tells "$room/kept" "$ends" "${lists[@]}"
+told=$(for list in "${lists[@]}"; do sed -n '/ file [0-9]*$/,$d; / missed /p' "$list"; done | uniq -c)
+if [[ ! $told =~ ^\ *2\ [0-9]+\ missed\ 3\ what=events\ from=2\ after=103$ ]]; then
+  printf 'checks/loader: before their files two side lists say that this was missed: %s\n' "$told" && failed=1
+fi
+exit "$failed"

@@ -1,0 +1,30 @@
+#!/usr/bin/env bash
+# Checks what the recorder's loader does with stacks (`./record --stacks`).
+#
+#     checks/run maps
+#
+# It builds the parts of the recorder that need no kernel, with the address and undefined-behaviour sanitizers, and
+# gives them messages as from the ring. What must hold:
+#
+# - The same stack of a process is told once, with the files that its addresses are in; each call has a line.
+# - Of a process that began at another time, or is not there, nothing is read, and a line says so.
+# - Ever new stacks take bounded memory. A new side list has the stacks anew that its calls have.
+# - A damaged ELF file has a build-id or none, and nothing is read beyond its end.
+#
+# If all is well it prints nothing. Otherwise it prints what is wrong, and ends with status 1.
+set -euo pipefail
+
+here=$(readlink -f -- "${BASH_SOURCE[0]}")
+root=${here%/*/*/*}
+room=$(mktemp -d -t checks-maps.XXXXXX)
+trap 'rm -rf -- "$room"' EXIT
+sources=()
+for source in "$root"/recorder/*.c; do
+  case ${source##*/} in
+    main.c | kernel.c | missed.c | books.c | *.bpf.c) ;;
+    *) sources+=("$source") ;;
+  esac
+done
+cc -O1 -g -std=gnu11 -Wall -Wextra -Werror -fsanitize=address,undefined -fno-sanitize-recover=all -Wl,--build-id \
+  "-I$root/recorder" "$root/checks/recorder/maps.c" "${sources[@]}" -o "$room/loader"
+"$room/loader" "$room/out"

@@ -1,0 +1,325 @@
+#!/usr/bin/env python3
+"""Checks what `./record --redact` takes out of payloads.
+
+    checks/run redact [-- PROGRAM]      PROGRAM is the auditor; without it, it takes the built one
+
+It builds the part of the recorder that writes frames, and gives it the captures of samples/ and made ones as if they
+were just being recorded. What must hold:
+
+- The hash is BLAKE2s: it gives the published digests.
+- The report on a redacted capture, and all rows of `./listing --tables`, are those of the capture, byte for byte, but
+  for names of services, of which it has none. So sizes, objects and offsets stay, and each send still fits its
+  delivery. Made captures have random offsets and sorts, with all causes of bad objects.
+- Of each payload only the objects and the interface token stay: no eight bytes of a secret are found. Tokens of all
+  versions stay, and a text that is no name of an interface does not. Another recording gives other bytes.
+- Without --redact only payloads with TF_CLEAR_BUF are changed.
+
+If all is well it prints nothing. Otherwise it prints what is wrong, and ends with status 1.
+"""
+
+import argparse
+import hashlib
+import pathlib
+import random
+import re
+import shutil
+import struct
+import subprocess
+from collections import Counter
+from typing import Iterator, NamedTuple
+
+from checks.kit.checking import Fail, check
+from checks.kit.programs import CHECKS, LISTING, ROOT
+
+RECORDER = ROOT / "recorder"
+# The parts of the recorder that need a kernel.
+LEFT_OUT = ("main.c", "kernel.c", "missed.c", "books.c", "record.bpf.c")
+
+BC_TRANSACTION, BC_REPLY, BC_FREE_BUFFER = 0x40406300, 0x40406301, 0x40086303
+BR_TRANSACTION, BR_REPLY = 0x80407202, 0x80407203
+TF_ONE_WAY, TF_CLEAR_BUF = 0x01, 0x20
+SORTS = {0x73622a85: 24, 0x77622a85: 24, 0x73682a85: 24, 0x77682a85: 24, 0x66642a85: 24, 0x66646185: 32,
+         0x70742a85: 40}
+
+# The bit of the column service in a row of the table record. It is the last column.
+SERVICE = 1 << 19
+
+
+# ---- captures
+
+
+class Payload(NamedTuple):
+    data: bytes
+    offsets: bytes = b""
+
+
+def frame(number: int, direction: int, word: int, payload: Payload, flags: int = 0) -> bytes:
+    """A frame with one transaction or reply, and its entry. Two processes take turns."""
+    record = struct.pack("<IQQIIiIQQQQ", word, 1, 0, 7, flags, 0, 0, len(payload.data), len(payload.offsets), 4096,
+                         8192)
+    entry = struct.pack("<III", 0, len(payload.data), len(payload.offsets)) + payload.data + payload.offsets
+    return struct.pack("<QIIIIII", number, direction, direction, direction, len(record), len(entry), 0) + record + entry
+
+
+def capture(frames: list[bytes]) -> bytes:
+    return struct.pack("<8sII", b"BNDRCAP2", 8, 0) + b"".join(frames)
+
+
+def crossing(payloads: list[tuple[Payload, int]]) -> bytes:
+    """Each payload as a oneway send and its delivery."""
+    made: list[bytes] = []
+    for payload, flags in payloads:
+        made.append(frame(len(made) + 1, 1, BC_TRANSACTION, payload, flags | TF_ONE_WAY))
+        made.append(frame(len(made) + 1, 2, BR_TRANSACTION, payload, flags | TF_ONE_WAY))
+    return capture(made)
+
+
+def payloads_in(data: bytes) -> Iterator[Payload]:
+    at = 16
+    while at < len(data):
+        commands, attached = struct.unpack_from("<II", data, at + 20)
+        here, end = at + 32 + commands, at + 32 + commands + attached
+        while here < end:
+            _, size, offsets = struct.unpack_from("<III", data, here)
+            yield Payload(data[here + 12:here + 12 + size], data[here + 12 + size:here + 12 + size + offsets])
+            here += 12 + size + offsets
+        at = end
+
+
+# ---- what is run
+
+
+class Programs(NamedTuple):
+    redact: pathlib.Path
+    auditor: pathlib.Path
+    lister: pathlib.Path
+
+
+def build(room: pathlib.Path) -> pathlib.Path:
+    made = room / "redact"
+    sources = [path for path in sorted(RECORDER.glob("*.c")) if path.name not in LEFT_OUT]
+    subprocess.run(["cc", "-O1", "-g", "-std=gnu11", "-Wall", "-Wextra", "-Werror", "-fsanitize=address,undefined",
+                    "-fno-sanitize-recover=all", f"-I{RECORDER}", "-o", made, CHECKS / "recorder/redact.c", *sources], check=True)
+    return made
+
+
+def redacted(programs: Programs, room: pathlib.Path, data: bytes, which: str = "all") -> bytes:
+    """The capture as the recorder would have written it."""
+    (room / "in.cap").write_bytes(data)
+    subprocess.run([programs.redact, which, room / "in.cap", room / "out"], check=True)
+    made = (room / "out-1.cap").read_bytes()
+    for path in room.glob("out*"):
+        path.unlink()
+    return made
+
+
+def without_services(rows: bytes) -> list[tuple[int, ...]]:
+    """The rows of the table record without the column service."""
+    made, at = [], 0
+    while at < len(rows):
+        mask, = struct.unpack_from("<Q", rows, at)
+        columns = struct.unpack_from(f"<{mask.bit_count()}Q", rows, at + 8)
+        made.append((mask & ~SERVICE, *(columns[:-1] if mask & SERVICE else columns)))
+        at += 8 + 8 * len(columns)
+    return made
+
+
+def answers(programs: Programs, room: pathlib.Path, data: bytes) -> tuple[str, dict[str, bytes]]:
+    """The report on a capture, and the rows of its tables."""
+    path, rows = room / "asked.cap", room / "rows"
+    path.write_bytes(data)
+    report = subprocess.run([programs.auditor, "report", path], capture_output=True, text=True).stdout
+    rows.mkdir()
+    subprocess.run([programs.lister, "--tables", rows, path], capture_output=True)
+    tables = {table.name: table.read_bytes() for table in rows.iterdir()}
+    shutil.rmtree(rows)
+    return report, tables
+
+
+def check_same(programs: Programs, room: pathlib.Path, name: str, data: bytes, fail: Fail) -> bytes:
+    """A capture and its redacted form have the same answers. Returns that form."""
+    made = redacted(programs, room, data)
+    report, tables = answers(programs, room, data)
+    other_report, other_tables = answers(programs, room, made)
+    if not report.startswith("BINDER AUDIT "):
+        fail(f"{name}: no report: {report[:80]!r}")
+    if report != other_report:
+        fail(f"{name}: redacted, it has another report")
+    services, other_services = (some.pop("service.rows", None) for some in (tables, other_tables))
+    if services is None or other_services != b"":
+        fail(f"{name}: redacted, it has names of services")
+    if other := [table for table, rows in tables.items() if rows != other_tables.get(table) and (
+            table != "record.rows" or without_services(rows) != without_services(other_tables[table]))]:
+        fail(f"{name}: redacted, these rows of ./listing --tables differ: {other}")
+    if [(len(one.data), one.offsets) for one in payloads_in(data)] != \
+            [(len(one.data), one.offsets) for one in payloads_in(made)]:
+        fail(f"{name}: redacted, sizes or offsets differ")
+    return made
+
+
+# ---- the checks
+
+
+def check_hash(programs: Programs, fail: Fail) -> None:
+    """The digests of RFC 7693 and of its authors' list, and those of Python for all lengths up to four blocks."""
+    published = [("", b"abc", "508c5e8c327c14e2e1a72ba34eeb452f37458b209ed63a294d999b4c86675982"),
+                 (bytes(range(32)).hex(), b"", "48a8997da407876b3d79c0d92325ad3b89cbb754d86ab71aee047ad345fd2c49"),
+                 (bytes(range(32)).hex(), b"\0", "40d15fee7c328830166ac3f918650f807e7e01e177258cdc0a39b11f598066f1")]
+    others = [(bytes(range(size)).hex(), bytes(range(length)),
+               hashlib.blake2s(bytes(range(length)), key=bytes(range(size))).hexdigest())
+              for length in (*range(1, 8), 63, 64, 65, 127, 128, 129, 255) for size in (0, 16, 32)]
+    for key, message, due in published + others:
+        came = subprocess.run([programs.redact, "hash", key], input=message, capture_output=True, check=True).stdout
+        if came.decode() != due:
+            fail(f"the hash of {message!r} with the key {key!r} is {came.decode()}, not {due}")
+
+
+def is_token(data: bytes) -> bool:
+    """Whether the data are a token of an interface and nothing else: there is nothing to replace."""
+    for before in (4, 8, 12):
+        text = data[before + 4:].decode("utf-16-le", "replace").rstrip("\0")
+        if re.fullmatch(r"(\w+\.)+I\w+", text) and data[before:] == string16(text):
+            return True
+    return re.fullmatch(rb"[\w.]+@\d+\.\d+::I\w+\0", data) is not None
+
+
+def check_samples(programs: Programs, room: pathlib.Path, fail: Fail) -> None:
+    for path in sorted([*ROOT.glob("samples/driver/*/capture-1.cap"), ROOT / "samples/attachment.cap"]):
+        if not path.exists():
+            continue
+        data, name = path.read_bytes(), str(path.relative_to(ROOT))
+        made = check_same(programs, room, name, data, fail)
+        both = [(one, two) for one, two in zip(payloads_in(data), payloads_in(made))
+                if len(one.data) > 16 and not one.offsets and not is_token(one.data)]
+        if same := sum(one == two for one, two in both):
+            fail(f"{name}: {same} payloads without objects are not redacted")
+
+
+def random_payload(chance: random.Random) -> Payload:
+    """Random data with a list of offsets, some of which lead to sorts, and some of which are bad."""
+    data = bytearray(chance.randbytes(chance.randrange(0, 200)))
+    offsets: list[int] = []
+    at = chance.randrange(0, 3) * 4
+    for _ in range(chance.randrange(0, 5)):
+        sort = chance.choice([*SORTS, *SORTS, 0x12345678])
+        if at + 4 <= len(data):
+            struct.pack_into("<I", data, at, sort)
+        offsets.append(at)
+        at += chance.choice([SORTS.get(sort, 4), SORTS.get(sort, 4) + 4, SORTS.get(sort, 4) + 20, 2, 0, -8, 2**40])
+        at = max(at, 0)
+    if chance.random() < 0.05:
+        offsets.append(2**64 - 4)
+    listed = b"".join(struct.pack("<Q", offset) for offset in offsets)
+    return Payload(bytes(data), listed[:-1] if listed and chance.random() < 0.05 else listed)
+
+
+def check_random(programs: Programs, room: pathlib.Path, fail: Fail) -> None:
+    chance = random.Random(1)
+    payloads = [(random_payload(chance), chance.choice([0, TF_CLEAR_BUF])) for _ in range(2000)]
+    payloads += payloads[:100]
+    data = crossing(payloads)
+    check_same(programs, room, "made at random", data, fail)
+    report, _ = answers(programs, room, data)
+    causes = Counter(line.split()[-1] for line in report.partition("\nobjects ")[2].splitlines()[1:]
+                     if line.startswith("  "))
+    if missing := {"ListLength", "Misaligned", "Overlap", "Short", "UnknownSort"} - set(causes):
+        fail(f"made at random: no bad object of the causes {missing}")
+
+
+def string16(text: str) -> bytes:
+    made = struct.pack("<I", len(text)) + text.encode("utf-16-le") + b"\0\0"
+    return made + bytes(-len(made) % 4)
+
+
+def head(strict: int, *more: int) -> bytes:
+    return struct.pack(f"<{1 + len(more)}I", strict, *more)
+
+
+def letters(word: str) -> int:
+    return int.from_bytes(word.encode(), "big")
+
+
+SECRET = b"the launch code is 0000-0001, and the second one 4711-0815"
+NAME = "android.os.IServiceManager"
+TOKENS = {
+    "of Android 9": head(0x400000) + string16(NAME),
+    "of Android 10": head(0x400000, 2**32 - 1) + string16(NAME),
+    **{f"of Android 11, {word}": head(0x400000, 2**32 - 1, letters(word)) + string16(NAME)
+       for word in ("SYST", "VNDR", "RECO", "UNKN")},
+    "of HIDL": b"android.hardware.nfc@1.2::INfc\0",
+    "of an inner class": head(0) + string16("com.example.a_b2.IThing$Sub")}
+NO_TOKENS = {
+    "a text": head(7) + string16("swordfish"),
+    "a text with a point": head(7) + string16("sword.fish"),
+    "a text of another language": head(7) + string16("пароль.Iароль"),
+    "a name without its end": (head(7) + string16(NAME))[:-4] + b"abcd",
+    "ASCII": b"swordfish\0",
+    "ASCII with a point": b"sword.fish.IFish\0",
+    "letters of no partition": head(1, 2, letters("SWRD")) + string16(NAME)}
+
+
+def pieces(secret: bytes) -> set[bytes]:
+    return {secret[at:at + 8] for at in range(len(secret) - 7)}
+
+
+def holds(data: bytes, secret: bytes) -> bool:
+    """Whether any eight bytes of the secret are in the data."""
+    return any(piece in data for piece in pieces(secret))
+
+
+def check_tokens(programs: Programs, room: pathlib.Path, fail: Fail) -> None:
+    for name, token in TOKENS.items():
+        one, two = payloads_in(redacted(programs, room, crossing([(Payload(token + SECRET), 0)])))
+        if one != two or one.data[:len(token)] != token or holds(one.data, SECRET):
+            fail(f"a token {name}: {one.data!r}")
+        reply, = payloads_in(redacted(programs, room, capture([frame(1, 1, BC_REPLY, Payload(token + SECRET))])))
+        if reply.data[:8] == token[:8]:
+            fail(f"a token {name} in a reply is not redacted")
+    for name, text in NO_TOKENS.items():
+        one, two = payloads_in(redacted(programs, room, crossing([(Payload(text + SECRET), 0)])))
+        if one != two or holds(one.data, text + SECRET):
+            fail(f"{name}: {one.data!r}")
+
+
+def objects_between(secret: bytes) -> list[Payload]:
+    """The payload as sender and receiver have it: the object in it is translated."""
+    offsets = struct.pack("<Q", len(secret))
+    return [Payload(secret + struct.pack("<IIQQ", sort, 0x7f, value, 0) + secret, offsets)
+            for sort, value in ((0x73622a85, 0x1234567890), (0x73682a85, 5))]
+
+
+def check_secrets(programs: Programs, room: pathlib.Path, fail: Fail) -> None:
+    secret = SECRET[:56]
+    sent, got = objects_between(secret)
+    data = capture([frame(1, 1, BC_TRANSACTION, sent), frame(2, 2, BR_TRANSACTION, got), frame(3, 1, BC_REPLY, got),
+                    frame(4, 2, BR_REPLY, sent), frame(5, 1, BC_TRANSACTION, Payload(SECRET), TF_CLEAR_BUF),
+                    frame(6, 1, BC_TRANSACTION, Payload(SECRET[1:])),
+                    frame(7, 1, BC_TRANSACTION, Payload(SECRET[:-1]))])
+    made = redacted(programs, room, data)
+    first, second, *_, one, two = payloads_in(made)
+    if holds(made, SECRET):
+        fail("a secret is in the redacted capture")
+    if first.data[56:80] != sent.data[56:80] or second.data[56:80] != got.data[56:80]:
+        fail("an object is not kept")
+    if (first.data[:56], first.data[80:]) != (second.data[:56], second.data[80:]):
+        fail("a payload is not the same on both sides of an object that is translated")
+    if first.data[:56] == first.data[80:]:
+        fail("equal bytes at two places of a payload look equal")
+    if one == two:
+        fail("payloads that differ look equal")
+    if made == redacted(programs, room, data):
+        fail("two recordings redact alike")
+    *plain, flagged, one, two = payloads_in(redacted(programs, room, data, "flagged"))
+    if [*plain, one.data, two.data] != [sent, got, got, sent, SECRET[1:], SECRET[:-1]] or holds(flagged.data, SECRET):
+        fail("without --redact not just the payloads with TF_CLEAR_BUF are redacted")
+
+
+def judge(given: argparse.Namespace, room: pathlib.Path, fail: Fail) -> None:
+    programs = Programs(build(room), given.programs[0], LISTING)
+    check_hash(programs, fail)
+    for part in (check_tokens, check_secrets, check_random, check_samples):
+        part(programs, room, fail)
+
+
+if __name__ == "__main__":
+    check(judge)

@@ -1,0 +1,199 @@
+"""The driver's books beside a side list: what is read of them, and that they are compared with the report. And what
+processes are called by their command lines."""
+
+import html
+import pathlib
+import re
+import sqlite3
+from typing import Callable
+
+from checks.kit.checking import Fail, compare
+from checks.viewer.page.common import frames_of, texts_of, told_by, view
+from checks.viewer.sessions.book_cases import buffer, own, ref, thread, transaction_of
+from checks.viewer.sessions.session import *
+
+# ---- a session that ends with one of each thing that is compared, and the book of that
+
+REQUESTED = ref(1).replace(" d 0000000000000000", " d ff49ec2a01bc3840")
+CLIENT = thread(200, transaction_of("outgoing")) + REQUESTED
+SERVICE = (thread(100, transaction_of("incoming")) + own(0x100) + buffer(0x7238).replace("size 28", "size 4")
+           + "  buffer 102: 0000000000007300 size 0:0:0 active\n")
+AGREED = "The driver's books at the end agree with the report on 2 openings."
+NOT_COMPARED = "The driver's books at the end are not compared with the report"
+
+
+def play(s: Session, client: str = CLIENT, service: str = SERVICE, later: int = 0, had: bool = False,
+         ended: bool = False, absent: bool = False) -> None:
+    """What the book of the end has. `later`: so many of both go on after it; `had`: the client was met with two more
+    references; `ended`: both have ended before; `absent`: the book has neither."""
+    if had:
+        s.books("begin", of_200=ref(1, 2), of_100="")
+        s.wait(200)
+    ours, theirs = s.two("in-mid-life" if had else "from-start")
+    theirs.main.is_given(ours.main, 1)
+    ours.main.reads(node(BR_INCREFS, 0x100, 0), node(BR_ACQUIRE, 0x100, 0))
+    ours.main.writes(node(BC_INCREFS_DONE, 0x100, 0), node(BC_ACQUIRE_DONE, 0x100, 0))
+    theirs.main.writes(watch(BC_REQUEST_DEATH_NOTIFICATION, 1, 0xD))
+    ours.main.gets(theirs.main.sends(0, 2, body=b"data"))
+    theirs.main.answered(ours.main.replies())
+    ours.main.gets(theirs.main.sends(0, 3))
+    s.wait(200)
+    if ended:
+        ours.ends()
+        theirs.ends()
+    s.books("end", **({} if ended or absent else {"of_200": client, "of_100": service}))
+    for one in (theirs, ours)[:later]:
+        one.main.writes(ENTER)
+    s.wait(10)
+
+
+def differ(told: str) -> str:
+    return f"The driver's books at the end differ from the report on 2 openings: {told}."
+
+
+# What the book has instead, and what the line says then.
+LINES: list[tuple[dict, str]] = [
+    ({}, AGREED),
+    ({"client": CLIENT.replace(" s 1 ", " s 2 ")},
+     differ("client 200: handle 1 1 by the report and 2 by the books")),
+    ({"client": CLIENT.replace(" w 0 ", " w 1 ")},
+     differ("client 200: handle 1, weakly 0 by the report and 1 by the books")),
+    ({"client": CLIENT + ref(5)}, differ("client 200: handle 5 0 by the report and 1 by the books")),
+    ({"client": CLIENT.replace(REQUESTED, ref(1))},
+     differ("client 200: request for handle 1 1 by the report and 0 by the books")),
+    ({"client": CLIENT.replace("outgoing", "incoming")}, differ(
+        "client 200: calls made 1 by the report and 0 by the books; client 200: calls served 0 by the report and 1 by"
+        " the books")),
+    ({"client": CLIENT.replace("outgoing", "pending").replace(" r1", " r0")}, AGREED),
+    ({"client": CLIENT.replace(transaction_of("outgoing"), "transaction error: 29189")}, AGREED),
+    ({"client": CLIENT + "  has delivered dead binder\n"},
+     differ("client 200: deaths not acknowledged 0 by the report and 1 by the books")),
+    ({"service": SERVICE.replace(" hs 1 ", " hs 0 ")},
+     differ("service 100: node 0x100 1 by the report and 0 by the books")),
+    ({"service": SERVICE + own(0, local=1, number=1)}, AGREED),
+    ({"service": SERVICE.replace("size 4:", "size 12:")},
+     differ("service 100: bytes in buffers 4 by the report and 12 by the books")),
+    ({"service": SERVICE + buffer(0x7400, 103).replace("size 28", "size 0")},
+     differ("service 100: buffers 2 by the report and 3 by the books")),
+    ({"service": SERVICE + buffer(0x7400, 103) + "  " + transaction_of("pending async").replace("102", "103") + "\n"},
+     AGREED),
+    ({"later": 1}, "The driver's books at the end agree with the report on 1 opening; 1 other cannot be compared."),
+    ({"later": 2}, f"{NOT_COMPARED}: of 2 openings it is not certain what was held then."),
+    ({"ended": True}, f"{NOT_COMPARED}: all processes had ended before the copy of them was made."),
+    ({"absent": True}, f"{NOT_COMPARED}: it is not certain which of the openings in them are those of the capture."),
+    ({"had": True, "client": CLIENT.replace(" s 1 ", " s 3 ")}, AGREED),
+    ({"had": True}, differ("client 200: handle 1 3 by the report and 1 by the books"))]
+
+
+def written(session: Session, room: pathlib.Path, name: str) -> tuple[str, str]:
+    """Writes the capture, the side list and the books of a session; returns the names of the first two."""
+    (room / f"{name}.cap").write_bytes(session.capture())
+    (room / f"{name}.side").write_text(session.side())
+    for moment, text in session.copies.items():
+        (room / f"{name}.{moment}").write_text(text)
+    return f"{name}.cap", f"{name}.side"
+
+
+def says(page: pathlib.Path, due: str) -> bool:
+    """Whether a page has a text. Its names are set off, with a space on either side here."""
+    return due in re.sub(r" ([,;.]|$)", r"\1", html.unescape(texts_of(page)))
+
+
+def check_agreement(folder: pathlib.Path, room: pathlib.Path, fail: Fail) -> None:
+    for number, (given, due) in enumerate(LINES):
+        session = Session()
+        play(session, **given)
+        capture, side = written(session, room, f"agree-{number}")
+        status, _, told = view(folder, room, capture, "--side", side, "-o", f"agree-{number}.html")
+        line = f"view: {due}\n" if "differ" in due else ""
+        compare(f"books, {given}: told", (status, told_by(told)), (0, line), fail)
+        compare(f"books, {given}: the page says {due!r}", says(room / f"agree-{number}.html", due), True, fail)
+
+
+def check_copies(folder: pathlib.Path, room: pathlib.Path, fail: Fail) -> None:
+    """A copy that is missing, or is another file, is left out, and a line says so. A flight recorder's first file has
+    copies with the names of the recording. A capture that was cut in front is not what followed the first copy."""
+    session = Session()
+    play(session, had=True, client=CLIENT.replace(" s 1 ", " s 3 "))
+    capture, side = written(session, room, "copies")
+    begin, end = room / "copies.begin.state", room / "copies.end.state"
+    texts = begin.read_text(), end.read_text()
+    huge = texts[1].replace(" s 3 ", f" s {10**20} ")
+    (room / "huge.side").write_text(session.side().replace(f"bytes={len(texts[1])}", f"bytes={len(huge)}"))
+    (room / "huge.begin.state").write_text(texts[0])
+    (room / "huge.end.state").write_text(huge)
+    for name, change, list_, due in (
+            ("whole", lambda: None, side, ""),
+            ("other", lambda: end.write_text(texts[1] + "\n"), side,
+             f"copies.end.state has {len(texts[1]) + 1} bytes, and the side list names {len(texts[1])}"),
+            ("missing", end.unlink, side, "copies.end.state is not beside the side list"),
+            ("both", begin.unlink, side,
+             "copies.begin.state is not beside the side list; copies.end.state is not beside the side list"),
+            ("huge", lambda: None, "huge.side",
+             "the copy of state at the end has numbers that are none of the driver's")):
+        change()
+        status, _, told = view(folder, room, capture, "--side", list_, "-o", f"copies-{name}.html")
+        compare(f"books, {name}", (status, told_by(told)), (0, f"view: {due}\n" if due else ""), fail)
+        compare(f"books, {name}, the page", says(room / f"copies-{name}.html", due), True, fail)
+    for due in ("Met in mid-life; by the driver's books of then they had: service 100 0 handles, 0 objects, 0 buffers,"
+                " 0 calls made and 0 served; client 200 1 handle, 0 objects, 0 buffers, 0 calls made and 0 served.",
+                AGREED):
+        compare(f"books, the page says {due!r}", says(room / "copies-whole.html", due), True, fail)
+    begin.write_text(texts[0])
+    end.write_text(texts[1])
+    for name in ("copies-1.cap", "copies-1.side"):
+        (room / name).write_bytes((room / name.replace("-1", "")).read_bytes())
+    view(folder, room, "copies-1.cap", "--side", "copies-1.side", "-o", "copies-1.html")
+    compare("books of a flight recorder", says(room / "copies-1.html", AGREED), True, fail)
+    whole = session.capture()
+    (room / "cut.cap").write_bytes(whole[:16] + whole[frames_of(whole)[1].place:])
+    view(folder, room, "cut.cap", "--side", side, "-o", "cut.html")
+    for due in ("Met in mid-life, so that what came before is not known: client 200, service 100.",
+                f"{NOT_COMPARED}: the capture was cut."):
+        compare(f"books of a capture that was cut: {due!r}", says(room / "cut.html", due), True, fail)
+
+
+# ---- command lines
+
+# The name of a process in the side list, its command line there, and what it is called then.
+NAMES = [("service", "/system/bin/other\\x00--now", "service"),
+         ("ndroid.systemui", "com.android.systemui", "com.android.systemui"),
+         ("android.hardwar", "/vendor/bin/hw/android.hardware.nfc@1.2-service\\x00",
+          "android.hardware.nfc@1.2-service"),
+         ("main", "zygote64", "zygote64"), ("main", "<pre-initialized>", "main"), ("service", "", "service"),
+         ("service", "\\x00a", "service"), ("service", "com.example.mail:remote\\x00", "com.example.mail:remote"),
+         ("chromium", "/usr/lib/chromium --type=a", "chromium"), ("a", "x" * 300, "x" * 256 + "…"),
+         ("a", "<script>alert(1)</script>", "<script>alert(1)</script>"),
+         ("a", "\\x0a\\x1b[0m \\x5cx41", "\x1b[0m \\x41")]
+
+
+def check_commands(folder: pathlib.Path, room: pathlib.Path, fail: Fail) -> None:
+    """The names of processes, of which a command line may say more; the last line counts."""
+    for number, (name, command, due) in enumerate(NAMES):
+        session = Session()
+        service, client = session.two()
+        client.main.asks(service.main)
+        side = session.side().replace(" name=service\n", f" name={name}\n")
+        told = f"9 command 0 100 after=0 uid=7 name=first\n9 command 0 100 after=1 uid=10123 name={command}\n"
+        (room / f"named-{number}.cap").write_bytes(session.capture())
+        (room / f"named-{number}.side").write_text(
+            re.sub(r"(\d+ process 0 100 .*\n)", lambda found: found[1] + told, side))
+        status, _, _ = view(folder, room, f"named-{number}.cap", "--side", f"named-{number}.side", "-o",
+                            f"named-{number}.html", "--database", f"named-{number}.db")
+        database = sqlite3.connect(room / f"named-{number}.db")
+        row = database.execute("SELECT name, uid, (SELECT who FROM who w WHERE w.upid = p.upid) FROM process p"
+                               " WHERE process = 100").fetchone()
+        compare(f"the name {name!r} with {command[:40]!r}", (status, row), (0, (due, 10123, f"{due} 100")), fail)
+        compare("a name runs nothing", "<script>alert" in (room / f"named-{number}.html").read_text(), False, fail)
+        command_shown, = database.execute("SELECT command FROM process WHERE process = 100").fetchone()
+        compare("a command line has spaces", "\0" in command_shown, False, fail)
+    (room / "bad.cap").write_bytes(session.capture())
+    (room / "bad.side").write_text(side.replace("end recording", "command 0 100 after=0 name=x\n9 end recording", 1))
+    status, _, _ = view(folder, room, "bad.cap", "--side", "bad.side", "--groups")
+    compare("a command line without a user", status, 4, fail)
+
+
+def check_books(folder: pathlib.Path, room: pathlib.Path, fail: Fail) -> None:
+    parts: tuple[Callable, ...] = (check_agreement, check_copies, check_commands)
+    for part in parts:
+        part(folder, room, fail)

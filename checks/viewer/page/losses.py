@@ -1,0 +1,155 @@
+"""Captures that were cut, and captures with lost frames."""
+
+import bisect
+import pathlib
+import re
+import shutil
+import struct
+from collections import Counter
+from typing import Callable, NamedTuple
+
+from checks.kit.checking import compare
+from checks.kit.programs import DRIVER
+from checks.viewer.page.common import Frame, frames_of, groups_due, groups_of
+from viewer.database import loading
+from viewer.database.sqlite import open_database
+
+# The scenarios that are cut. `gaps` has no fault either; but cut before its gap, it has replies that are freed later.
+FAULTLESS = ("clean", "nested", "threads", "signals", "secctx", "reuse", "fork", "slow", "lookups")
+CUTS = 15
+
+
+def met_later(side: str, first: int) -> str:
+    """The side list of a recorder that began at this sequence: it met in mid-life what was opened before."""
+    lines, so_far = [], 0
+    for line in side.splitlines(keepends=True):
+        words = line.split(" ")
+        if words[1:2] == ["frame"]:
+            so_far = int(words[2])
+        if words[1:2] == ["process"] and so_far + 1 < first:
+            line = line.replace(" met=from-start ", " met=in-mid-life ")
+        lines.append(line)
+    return "".join(lines)
+
+
+def check_cuts(given: tuple[pathlib.Path, pathlib.Path, str, int]) -> list[str]:
+    """Checks one capture without a fault, cut at one place in four ways."""
+    folder, room, name, cut = given
+    capture, side = (DRIVER / name / "capture-1.cap").read_bytes(), (DRIVER / name / "capture.side").read_text()
+    frames = frames_of(capture)
+    place, sequence, *_ = frames[max(1, min(len(frames) - 1, len(frames) * (2 * cut + 1) // (2 * CUTS)))]
+    failed: list[str] = []
+    for way, data, list_ in (("end", capture[:place], None), ("end with the side list", capture[:place], side),
+                             ("front", capture[:16] + capture[place:], None),
+                             ("front, met in mid-life", capture[:16] + capture[place:], met_later(side, sequence))):
+        here = room / f"{name}-{cut}-{way.replace(' ', '-')}"
+        here.mkdir()
+        (here / "cut.cap").write_bytes(data)
+        (here / "cut.side").write_text(list_ or "")
+        loading.database_of(folder, [str(here / "cut.cap")], str(here / "cut.side") if list_ else None, here / "cut.db",
+                            lambda _: None)
+        database = open_database(here / "cut.db")
+        real = database.execute("SELECT title, path, rules FROM finding_group WHERE verdict = 'real'").fetchall()
+        compare(f"{name}, cut {cut} from the {way}: real", real, [], failed.append)
+        database.close()
+        shutil.rmtree(here)
+    return failed
+
+
+class Loss(NamedTuple):
+    """Which frames a recorder loses, by their index in the capture, whether the side list says whose they were, and
+    whether they had numbers."""
+    name: str
+    is_lost: Callable[[int, int, Frame], bool]
+    told: bool
+    numbered: bool = True
+
+
+def busiest(frames: list[Frame]) -> tuple[int, int]:
+    """The process with the most frames."""
+    return Counter((frame.device, frame.process) for frame in frames).most_common(1)[0][0]
+
+
+def losses(frames: list[Frame]) -> list[Loss]:
+    who = busiest(frames)
+    return [
+        Loss("a stretch, named", lambda at, count, _: count // 3 <= at < count // 2, True),
+        Loss("a stretch, by number", lambda at, count, _: count // 2 <= at < 2 * count // 3, False),
+        Loss("each seventh, named", lambda at, _, __: at % 7 == 5, True),
+        Loss("each fifth, by number", lambda at, _, __: at % 5 == 3, False),
+        Loss("writes of one process", lambda at, count, frame: count // 4 <= at < 3 * count // 4
+             and frame.direction == 1 and (frame.device, frame.process) == who, True),
+        Loss("reads of one process", lambda at, count, frame: count // 4 <= at < 3 * count // 4
+             and frame.direction == 2 and (frame.device, frame.process) == who, True),
+        Loss("each sixth, without a number", lambda at, _, __: at % 6 == 4, False, numbered=False)]
+
+
+def without_numbers_of(lost: set[int], capture: bytes, side: str) -> tuple[bytes, str]:
+    """A capture and its side list that lack frames. All later numbers fall, as if the lost ones had never been taken,
+    and a line tells of each loss."""
+    def fallen(number: int) -> int:
+        return number - bisect.bisect_right(sorted_lost, number)
+    sorted_lost, made = sorted(lost), bytearray(capture)
+    for frame in frames_of(capture):
+        struct.pack_into("<Q", made, frame.place, fallen(frame.sequence))
+    lines = []
+    for line in side.splitlines(keepends=True):
+        time, word, *rest = line.split()
+        if word == "lost" and int(rest[0]) in lost:
+            at = fallen(int(rest[0]))
+            lines.append(f"{time} missed 1 what=events from={at} after={at}\n")
+            continue
+        lines.append(re.sub(r"( after=|^\d+ (?:frame|late|lost|unattached|call) )(\d+)",
+                            lambda found: found[1] + str(fallen(int(found[2]))), line))
+    return bytes(made), "".join(lines)
+
+
+def without(capture: bytes, side: str, loss: Loss) -> tuple[bytes, str]:
+    """A capture and its side list without the lost frames. The first and the last frame stay."""
+    frames = frames_of(capture)
+    ends = [frame.place for frame in frames[1:]] + [len(capture)]
+    lost = {frame.sequence: frame for at, frame in enumerate(frames)
+            if 0 < at < len(frames) - 1 and loss.is_lost(at, len(frames), frame)}
+    kept = b"".join(capture[frame.place:end] for frame, end in zip(frames, ends) if frame.sequence not in lost)
+    lines = []
+    for line in side.splitlines(keepends=True):
+        time, word, *rest = line.split()
+        frame = lost.get(int(rest[0])) if word in ("frame", "late", "unattached", "call") else None
+        if frame is None:
+            lines.append(line)
+        elif word == "frame":
+            whose = f" device={frame.device} process={frame.process} thread={frame.thread}" if loss.told else ""
+            lines.append(f"{time} lost {rest[0]}{whose} why=ring-full\n")
+    if not loss.numbered:
+        return without_numbers_of(set(lost), capture[:16] + kept, "".join(lines))
+    return capture[:16] + kept, "".join(lines)
+
+
+def real_of(groups: list[tuple[str, ...]]) -> set[tuple[str, str]]:
+    """What is real, by kind and path."""
+    return {(title, path) for verdict, title, _, _, path, _ in groups if verdict == "real"}
+
+
+def check_gaps(given: tuple[pathlib.Path, pathlib.Path, str]) -> list[str]:
+    """Checks a capture with lost frames: only what is real in the whole capture is real."""
+    folder, room, name = given
+    failed: list[str] = []
+    capture, side = (DRIVER / name / "capture-1.cap").read_bytes(), (DRIVER / name / "capture.side").read_text()
+    due = real_of(groups_due(name))
+    for number, loss in enumerate(losses(frames_of(capture))):
+        here = room / f"{name}-lost-{number}"
+        here.mkdir()
+        data, list_ = without(capture, side, loss)
+        (here / "lost.cap").write_bytes(data)
+        (here / "lost.side").write_text(list_)
+        loading.database_of(folder, [str(here / "lost.cap")], str(here / "lost.side"), here / "lost.db", lambda _: None)
+        database = open_database(here / "lost.db")
+        missing, doubt, missed = database.execute(
+            "SELECT c.missing, (SELECT value FROM capture WHERE key = 'side_doubt'), (SELECT count(*) FROM side_missed)"
+            " FROM raw_capture c").fetchone()
+        compare(f"{name}, {loss.name}: frames are missing, and the list tells of them",
+                (missing > 0 or not loss.numbered, missed > 0, doubt), (True, not loss.numbered, None), failed.append)
+        compare(f"{name}, {loss.name}: real", real_of(groups_of(database)) - due, set(), failed.append)
+        database.close()
+        shutil.rmtree(here)
+    return failed

@@ -1,0 +1,182 @@
+"""Side lists, and the two ways to load a capture."""
+
+import pathlib
+import re
+import shutil
+import sqlite3
+
+from checks.kit.checking import Fail, compare
+from checks.kit.programs import DRIVER
+from checks.viewer.page.common import frames_of, texts_of, told_by, view
+from viewer.database import loading, programs, raw_tables, side_list
+from viewer.database.sqlite import open_database
+from viewer.files import Stopped
+
+
+def check_side(folder: pathlib.Path, room: pathlib.Path, fail: Fail) -> None:
+    """A side list of another capture is refused. If one may belong to another, a line says so, also on the page."""
+    here = DRIVER / "leaks"
+    capture, side = (here / "capture-1.cap").read_bytes(), (here / "capture.side").read_text()
+    frames = frames_of(capture)
+    cuts = {"whole": capture, "begin": capture[:frames[40][0]], "end": capture[:16] + capture[frames[40][0]:],
+            "gap": capture[:frames[30][0]] + capture[frames[50][0]:]}
+    # A word that the list may have in time is passed over.
+    side = side.replace("\n", "\n1 lines 0 a=b\n2 line\n", 1)
+    stopped = side[:side.index(" frame 50\n")].rpartition("\n")[0] + "\n"
+    lists = {"whole": side, "stopped": stopped, "short": stopped + "9 end recording after=49 frames=49 lost=0\n",
+             "lost": side.replace(" frame 30\n", " lost 30 why=call-unreadable\n"),
+             "later": re.sub(r"^((?:.* (?:process|thread) 0 146 .*\n){2})(.* frame 25\n)", r"\2\1", side,
+                             flags=re.MULTILINE)}
+    for name, data in cuts.items():
+        (room / f"{name}.cap").write_bytes(data)
+    for name, text in lists.items():
+        (room / f"{name}.side").write_text(text)
+    shutil.copy(DRIVER / "replies/capture.side", room / "replies.side")
+    shutil.copy(DRIVER / "weak-refs/capture-1.cap", room / "weak-refs.cap")
+    more = ("the side list has frames that are not in the capture, {}: the capture is only a part of the recording, or"
+            " the list belongs to another one")
+    other = "the side list belongs to another capture: {}"
+    due = [("whole", "whole", 0, ""), ("begin", "whole", 0, more.format("45 after the last")),
+           ("end", "whole", 0, more.format("40 before the first")), ("gap", "whole", 0, more.format("20 between")),
+           ("weak-refs", "replies", 0, more.format("35 after the last")),
+           ("whole", "stopped", 0, "the side list ends with frame 49, before the capture does: it was cut, or belongs"
+            " to another capture"),
+           ("whole", "short", 1, other.format("it ends with frame 49, and the capture has frame 50")),
+           ("whole", "lost", 1, other.format("it does not have frame 30 of the capture")),
+           ("whole", "later", 1, other.format("thread 146 of process 146 on device 0 makes a call in frame 25 of the"
+                                              " capture, and the list has not named that thread by then")),
+           ("whole", "replies", 1, other.format("thread 143 of process 143 on device 0 makes a call in frame 1 of the"
+                                                " capture, and the list has not named that thread by then"))]
+    for number, (cap, list_, status, line) in enumerate(due):
+        shown = room / f"side-{number}.html"
+        came, _, told = view(folder, room, f"{cap}.cap", "--side", f"{list_}.side", "-o", shown.name)
+        what = f"{cap}.cap with {list_}.side"
+        compare(what, (came, told_by(told)), (status, f"view: {line}\n" if line else ""), fail)
+        compare(f"{what}, the page is there", shown.exists(), status == 0, fail)
+        if shown.exists():
+            compare(f"{what}, the page says it", "The side list " in shown.read_text(), bool(line), fail)
+
+
+def as_files(side: str, first: int) -> list[str]:
+    """The side lists of a recorder that keeps the newest files, and whose second file begins with frame `first`."""
+    head, begun, lines = "binder side list 1\n", "", [[], []]
+    met: list[str] = []
+    for line in side.splitlines(keepends=True)[1:]:
+        time, word, *rest = line.split()
+        if word == "begin":
+            begun = line
+        if word == "frame" and int(rest[0]) == first:
+            lines.append([])
+        if len(lines) == 2 and word in ("device", "process", "thread"):
+            met.append(re.sub(" met=\\S+ ", " met=before-file ", line))
+        lines[-1].append(line)
+    met += ["5 calls 0 1 1 made=2 served=1\n", "5 handle 0 1 7\n"]
+    return [head + "".join(lines[1]), head + begun + "".join(met) + "6 file 2\n" + "".join(lines[2])]
+
+
+def check_files(folder: pathlib.Path, room: pathlib.Path, fail: Fail) -> None:
+    """The files of a flight recorder together are the whole capture; the last one alone knows that more came before."""
+    name = "threads"
+    capture, side = (DRIVER / name / "capture-1.cap").read_bytes(), (DRIVER / name / "capture.side").read_text()
+    place, sequence, *_ = frames_of(capture)[len(frames_of(capture)) // 2]
+    (room / "whole.cap").write_bytes(capture)
+    (room / "whole.side").write_text(side)
+    for number, (data, list_) in enumerate(zip((capture[:place], capture[:16] + capture[place:]),
+                                               as_files(side, sequence)), 1):
+        (room / f"part-{number}.cap").write_bytes(data)
+        (room / f"part-{number}.side").write_text(list_)
+    _, whole, _ = view(folder, room, "whole.cap", "--side", "whole.side", "--groups")
+    status, came, told = view(folder, room, "part-1.cap", "part-2.cap", "--side", "part-1.side", "--side",
+                              "part-2.side", "--groups")
+    compare("the files of a flight recorder", (status, came, told_by(told)), (0, whole, ""), fail)
+    status, _, told = view(folder, room, "part-2.cap", "--side", "part-2.side", "-o", "part-2.html")
+    compare("the last file of a flight recorder", (status, told_by(told)), (0, ""), fail)
+    text = texts_of(room / "part-2.html")
+    for due in ("Met in mid-life, so that what came before is not known: ", "in files that were removed: 3 calls that"
+                " went on, and 1 handle that a process had met.", "In these calls were: process 1 thread 1 (2 made, 1"
+                " served)."):
+        compare(f"the page of the last file says {due!r}", due in text, True, fail)
+    status, came, _ = view(folder, room, "part-2.cap", "--side", "part-2.side", "--groups")
+    compare("the last file: real", [line for line in came.splitlines() if line.startswith("real")], [], fail)
+
+
+def renamed(side: str, after: int, *lines: str) -> str:
+    """A side list in which threads change their names after a frame."""
+    at = re.search(rf"^(\d+) frame {after}\n", side, re.MULTILINE)
+    told = "".join(f"{at[1]} name {line.format(after=after)}\n" for line in lines)
+    return side[:at.end()] + told + side[at.end():]
+
+
+# A scenario, the frame after which threads change their names, the lines that say so, and the rows with new names: a
+# process number, a thread number, and the names of both. Of two new names the last one counts. In `reuse` process 428
+# has ended, and its id was given again.
+RENAMES = (
+    ("threads", 200, ("pid=235 tid=235 after={after} name=old", "pid=235 tid=235 after={after} name=new client",
+                      "pid=235 tid=238 after={after} name=new worker"),
+     [(235, 235, "new client", "new client"), (235, 237, "new client", "client"),
+      (235, 238, "new client", "new worker"), (235, 239, "new client", "client")]),
+    ("reuse", 16, ("pid=428 tid=428 after={after} name=new second",), [(4194304, 428, "new second", "new second")]))
+
+
+def check_renames(folder: pathlib.Path, room: pathlib.Path, fail: Fail) -> None:
+    """A thread has its last name in the side list, and a process has the name of its first thread."""
+    for scenario, after, lines, due in RENAMES:
+        here, list_, made = DRIVER / scenario, room / f"{scenario}.side", room / f"{scenario}.db"
+        list_.write_text(renamed((here / "capture.side").read_text(), after, *lines))
+        loading.database_of(folder, [str(here / "capture-1.cap")], str(list_), made, lambda _: None)
+        database = open_database(made)
+        came = database.execute("SELECT p.process, thread, p.name, t.name FROM thread t JOIN process p USING (upid)"
+                                " WHERE p.name || t.name LIKE '%new%' ORDER BY 1, 2").fetchall()
+        compare(f"new names in {scenario}", came, due, fail)
+        database.close()
+
+
+def dump_of(database: pathlib.Path) -> list[str]:
+    connection = sqlite3.connect(database)
+    lines = list(connection.iterdump())
+    connection.close()
+    return lines
+
+
+# Lines of frames: one that comes twice, one with a number of 19 digits, one within a name, and a last one that is cut.
+ODD_SIDE = """binder side list 1
+100 frame 1
+200 frame 2
+250 frame 2
+260 process 0 5 pid=5 start=1 opening=1 met=from-start name=a 270 frame 4
+300 frame 3
+999999999999999999 frame 7
+700 frame 1000000000000000000
+800 frame 8"""
+
+
+def check_loaders(folder: pathlib.Path, room: pathlib.Path, fail: Fail) -> None:
+    """The loader in C, if it can be built, and the one in Python make the same database and refuse the same rows."""
+    rows = room / "rows"
+    rows.mkdir()
+    programs.answer(folder, room / "told", "listing", "--tables", rows, DRIVER / "objects/capture-1.cap")
+    program = raw_tables.loader()
+    if program is not None:
+        list_ = room / "odd.side"
+        list_.write_text(ODD_SIDE)
+        raw_tables.load_by_program(program, room / "c.db", rows, str(list_))
+        raw_tables.load_by_python(room / "python.db", rows)
+        for name in ("c", "python"):
+            database = open_database(room / f"{name}.db")
+            side_list.SideList(database, has_times=name == "c").load(str(list_))
+            compare(f"{name}: times of frames", database.execute("SELECT seq, ts FROM side_time").fetchall(),
+                    [(1, 100), (2, 250), (3, 300), (7, 999999999999999999), (10**18, 700)], fail)
+            database.close()
+        compare("the two ways to load", dump_of(room / "c.db") == dump_of(room / "python.db"), True, fail)
+    whole = (rows / "send.rows").read_bytes()
+    for number, bad in enumerate((whole[:-8], whole[:-3], whole + b"\0" * 7 + b"\x80", whole[:3])):
+        (rows / "send.rows").write_bytes(bad)
+        told = []
+        ways = [raw_tables.load_by_python] if program is None else [
+            raw_tables.load_by_python, lambda made, rows: raw_tables.load_by_program(program, made, rows, None)]
+        for way, load in enumerate(ways):
+            try:
+                load(room / f"bad-{number}-{way}.db", rows)
+            except Stopped as stopped:
+                told.append((stopped.status, str(stopped).removeprefix(f"{rows}/")))
+        compare(f"bad rows {number}", (len(told), len(set(told))), (len(ways), 1), fail)

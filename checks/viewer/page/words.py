@@ -1,0 +1,186 @@
+"""The words of `view`, what it writes, and captures and names that mean harm."""
+
+import os
+import pathlib
+import re
+import shutil
+import sqlite3
+import subprocess
+import sys
+import time
+
+from checks.recorder.driver.compare import SECRETS, TO_CLEAR
+from checks.kit.checking import Fail, compare
+from checks.kit.programs import DRIVER, ROOT
+from checks.viewer.page.common import frames_of, texts_of, told_by, view
+from checks.viewer.page.reports import shown_of
+
+
+def check_rules(made: pathlib.Path, fail: Fail) -> None:
+    """Checks that the rules in docs/VIEW.md are those of the database."""
+    rows = sqlite3.connect(made).execute("SELECT id, verdict, text FROM rule").fetchall()
+    told = re.findall(r"^    ([A-Z]\d) +(\w+) +(.*)$", (ROOT / "docs/VIEW.md").read_text(), re.MULTILINE)
+    compare("the rules of docs/VIEW.md", told, rows, fail)
+
+
+def check_names(made: pathlib.Path, fail: Fail) -> None:
+    """Compares the names and columns in docs/DATABASE.md with the database. `about` must have each name."""
+    text = (ROOT / "docs/DATABASE.md").read_text().partition("What there is:")[2].partition("Of some of them:")[0]
+    told = {name: re.split(r",\s+", columns)
+            for name, columns in re.findall(r"^    (\w+)\(([^)]*)\)", text, re.MULTILINE)}
+    database = sqlite3.connect(made)
+    there = {name: [column[0] for column in database.execute(f"SELECT * FROM {name} LIMIT 0").description]
+             for name in told}
+    compare("the names of docs/DATABASE.md", told, there, fail)
+    about = {name for name, in database.execute("SELECT name FROM about")}
+    compare("about", sorted(set(told) - about), ["about"], fail)
+
+
+def check_words(folder: pathlib.Path, room: pathlib.Path, fail: Fail) -> None:
+    capture, side = DRIVER / "leaks/capture-1.cap", DRIVER / "leaks/capture.side"
+    for words in ((), ("--frames", capture), (capture, "--groups", "-o", "a.html"), (capture, "--side")):
+        compare(f"words {words}", view(folder, room, *words)[0], 64, fail)
+    compare("--help", view(folder, room, "--help")[0], 0, fail)
+    status, _, told = view(folder, room, capture, "no-such.cap", "-o", "n.html")
+    compare("a file that is not there", (status, told_by(told)),
+            (4, "view: no-such.cap: No such file or directory\n"), fail)
+    compare("a side list that is not there", view(folder, room, capture, "--side", "no", "--groups")[0], 4, fail)
+    compare("a file that is not a side list", view(folder, room, capture, "--side", capture, "--groups")[0], 4, fail)
+    compare("a page", view(folder, room, capture, "--side", side, "-o", "p.html", "--database", "d.db")[:2], (0, ""),
+            fail)
+    for what, made in (("p.html", ("-o", "p.html")), ("d.db", ("-o", "q.html", "--database", "d.db"))):
+        compare(f"{what} exists", view(folder, room, capture, *made), (1, "", f"view: {what} exists already\n"), fail)
+    compare("what is left", sorted(path.name for path in room.iterdir() if path.name not in ("programs",)),
+            ["d.db", "p.html"], fail)
+    shutil.copy(capture, room / "own.cap")
+    view(folder, room, "own.cap")
+    compare("a page beside the capture", (room / "own.cap.html").exists(), True, fail)
+    status, lines, _ = view(folder, room, capture, "--side", side, "--groups")
+    database = sqlite3.connect(room / "d.db")
+    count, = database.execute("SELECT count(*) FROM finding_group").fetchone()
+    compare("--groups", (status, len(lines.splitlines())), (0, count), fail)
+    check_rules(room / "d.db", fail)
+    check_names(room / "d.db", fail)
+
+
+# Runs ./view, which gets SIGTERM with each call of a function of `os` that makes or removes a file in TMPDIR.
+STOPPED_AT = """
+import os, runpy, shutil, signal, sys, tempfile
+called = getattr(os, sys.argv[1])
+def stopped(path, *words, **more):
+    made = called(path, *words, **more)
+    if os.environ["TMPDIR"] in str(path) or more.get("dir_fd") is not None:
+        os.kill(os.getpid(), signal.SIGTERM)
+    return made
+setattr(os, sys.argv[1], stopped)
+sys.argv = sys.argv[2:]
+runpy.run_path(sys.argv[0], run_name="__main__")
+"""
+
+
+def check_stopped(folder: pathlib.Path, room: pathlib.Path, fail: Fail) -> None:
+    """After SIGTERM nothing is left in TMPDIR."""
+    here, kept = DRIVER / "gaps", room / "tmp"
+    kept.mkdir()
+    words = [folder / "view", here / "capture-1.cap", "--side", here / "capture.side", "--groups"]
+    run = {"cwd": room, "env": {**os.environ, "TMPDIR": str(kept)}, "stdout": subprocess.DEVNULL}
+    for wait in (0.1, 0.2, 0.4):
+        running = subprocess.Popen(words, **run)
+        time.sleep(wait)
+        running.terminate()
+        status = running.wait(60)
+        compare(f"stopped after {wait} s", (status in (0, 143, -15), list(kept.iterdir())), (True, []), fail)
+    for called in ("open", "mkdir", "unlink", "rmdir"):
+        ended = subprocess.run([sys.executable, "-c", STOPPED_AT, called, *words], **run)
+        compare(f"stopped at {called}", (ended.returncode, list(kept.iterdir())), (143, []), fail)
+
+
+def check_told(folder: pathlib.Path, room: pathlib.Path, fail: Fail) -> None:
+    """What a page says besides its findings: how long they lasted, the heads, who served; and the singular of one
+    thing."""
+    due = {"hung": ("1 maybe · 1 row ",
+                    "calls: place device process thread handle code verdict closer (docs/REPORT.md#calls)",
+                    f"./audit report {DRIVER}/hung/capture-1.cap writes the whole report",
+                    "It has lasted 595 ms, none of its path came to a good end.", "after 103, at 632 ms",
+                    "client 260 1 service 258 0x1000 1 call 13 0 0 0 0 2 7.63 ms all", "most 2, ended with 1"),
+           "quarter": ("5 of 20", "the longest of its path that came to a good end"),
+           "dead-user": ("3180 client 309 thread 309 short-lived 308 1 failed",
+                         "client 309 1 short-lived 308 0x1000 1 call 6 3 0 ")}
+    for name, texts in due.items():
+        here, shown = DRIVER / name, room / f"{name}.html"
+        view(folder, room, here / "capture-1.cap", "--side", here / "capture.side", "-o", shown.name)
+        text = texts_of(shown)
+        compare(f"{name}: what its page does not say", [one for one in texts if one not in text], [], fail)
+        if name == "hung":
+            wrong = re.findall(r"(?<![\d,.])1 (?:rows|frames|processes|records|bytes)\b", text)
+            compare("hung: some of one", wrong, [], fail)
+
+
+def secrets_in(data: bytes) -> set[int]:
+    """The secrets of the scenario of which eight bytes are in the data."""
+    return {which for which, secret in SECRETS.items()
+            if any(secret[at:at + 8] in data for at in range(len(secret) - 7))}
+
+
+def check_secrets(folder: pathlib.Path, room: pathlib.Path, fail: Fail) -> None:
+    """Of a redacted capture no file has a secret. Others have all but the one that was sent with TF_CLEAR_BUF. Only the
+    owner can read what is made of a capture."""
+    for name, due in (("secret", set(SECRETS) - {TO_CLEAR}), ("secret-redacted", set())):
+        here, made, shown = DRIVER / name, room / f"{name}.db", room / f"{name}.html"
+        view(folder, room, here / "capture-1.cap", "--side", here / "capture.side", "-o", shown, "--database", made)
+        compare(f"{name}: secrets in the capture", secrets_in((here / "capture-1.cap").read_bytes()), due, fail)
+        for path in (here / "capture.side", made, shown):
+            compare(f"{name}: secrets in {path.name}", secrets_in(path.read_bytes()), set(), fail)
+        for path in (made, shown):
+            compare(f"{name}: who can read {path.name}", path.stat().st_mode & 0o777, 0o600, fail)
+        compare(f"{name}: the page says it", "Payloads are redacted" in texts_of(shown), not due, fail)
+
+
+def check_malformed(folder: pathlib.Path, room: pathlib.Path, fail: Fail) -> None:
+    """Stored malformed captures; a bad one, one cut within a frame and one that is no capture; and bad second parts."""
+    whole = (DRIVER / "threads/capture-1.cap").read_bytes()
+    frames = frames_of(whole)
+    middle = frames[len(frames) // 2][0]
+    (room / "first.cap").write_bytes(whole[:middle])
+    bad = bytearray(whole[:16] + whole[middle:])
+    bad[48] = 0xff
+    (room / "bad.cap").write_bytes(bad)
+    (room / "cut.cap").write_bytes(whole[:middle + 40])
+    (room / "none.cap").write_bytes(b"no capture")
+    asked = [(path,) for path in sorted(ROOT.glob("samples/*.cap"))]
+    asked += [("bad.cap",), ("cut.cap",), ("none.cap",), ("first.cap", "bad.cap"), ("first.cap", "none.cap")]
+    for number, files in enumerate(asked):
+        ended = subprocess.run([folder / "audit", "report", *files], cwd=room, capture_output=True, text=True)
+        if ended.returncode != 2:
+            continue
+        shown = f"malformed-{number}.html"
+        compare(f"{files}, status", view(folder, room, *files, "-o", shown)[:2], (2, ""), fail)
+        text = (room / shown).read_text() if (room / shown).exists() else ""
+        compare(f"{files}, the first line of its page", text.partition('<p class="fault">')[2].partition(":")[0],
+                ended.stdout.strip(), fail)
+
+
+HOSTILE = ("<script>window.bad=1</script>, one", "\"'><img src=x onerror=bad()>", "\u202egnp.exe", "a" * 2**20,
+           "</table></details><h1>", "tab\there")
+
+
+def check_hostile(folder: pathlib.Path, room: pathlib.Path, fail: Fail) -> pathlib.Path:
+    """Checks a page with a side list that has names from a stranger. Returns the page."""
+    side = (DRIVER / "leaks/capture.side").read_text()
+    for old, new in zip(("manager", "short-lived", "deaf-watcher", "service", "client", "waiting"), HOSTILE):
+        side = re.sub(f"name={old}$", lambda _: "name=" + new.replace("\t", "\\x09"), side, flags=re.MULTILINE)
+    (room / "hostile.side").write_text(side)
+    named = room / "<script>bad&.cap"
+    shutil.copy(DRIVER / "leaks/capture-1.cap", named)
+    compare("hostile names, status",
+            view(folder, room, named.name, "--side", "hostile.side", "-o", "hostile.html")[0], 0, fail)
+    text = (room / "hostile.html").read_text()
+    shown = shown_of(text)
+    compare("hostile names: scripts, and what would run", (shown.scripts, shown.bad), (1, []), fail)
+    marks = [one for one in text if one in "\u202a\u202b\u202d\u202e\u2066\u2067"]
+    compare("hostile names: marks of direction", marks, [], fail)
+    compare("hostile names: the page stays small", len(text) < 2**20, True, fail)
+    status, lines, _ = view(folder, room, named.name, "--side", "hostile.side", "--groups")
+    tabs = {line.count("\t") for line in lines.splitlines()}
+    compare("hostile names: fields of a line", (status, tabs), (0, {9}), fail)
+    return room / "hostile.html"

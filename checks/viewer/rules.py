@@ -1,0 +1,223 @@
+#!/usr/bin/env python3
+"""Checks the rules of `view` on small sessions, one on either side of each threshold and order.
+
+    checks/run rules                    plays the sessions of sessions/*cases.py, and compares the rules of their findings
+    checks/run rules -- --edits [EDIT]  also tries wrong rules: each edit of sessions/edits.txt must change what a
+                                        session or a scenario of samples/driver gets, or say why it changes nothing; a
+                                        line says what tells it. EDIT is a part of the names of some, or several with
+                                        commas
+    checks/run rules -- --show CASE     prints the findings of the sessions whose name has this text
+
+The report of a session is that of the second reading, its tables are those of `./listing`. If all is well it prints
+nothing. Otherwise it prints what was expected and what came, and ends with status 1.
+"""
+
+import argparse
+import os
+import pathlib
+import shutil
+import sqlite3
+import subprocess
+from collections import Counter
+from concurrent.futures import ProcessPoolExecutor, ThreadPoolExecutor
+from itertools import repeat
+from typing import Iterator, NamedTuple
+
+from checks.kit.checking import Fail, check
+from checks.kit.programs import CHECKS, DRIVER, LISTING, ROOT
+from checks.kit.second_reading import reading
+from checks.viewer.sessions import book_cases, name_cases, stack_cases, state_cases  # noqa: F401
+from checks.viewer.sessions.cases import CASES, Case
+from checks.viewer.sessions.session import Session
+from viewer.database import loading, raw_tables
+from viewer.database.programs import build_programs
+from viewer.database.sqlite import open_database
+from viewer.rules import judging
+
+def made(room: pathlib.Path, number: int, one: Case) -> bytes:
+    """The database of a case before it is judged."""
+    session = Session(one.has_side)
+    one.play(session)
+    capture, side, rows, report = (room / f"{number}.{what}" for what in ("cap", "side", "rows", "report"))
+    capture.write_bytes(session.capture())
+    side.write_text(session.side())
+    for name, text in session.copies.items():
+        (room / f"{number}.{name}").write_text(text)
+    rows.mkdir()
+    subprocess.run([LISTING, "--tables", rows, capture], check=True, stdout=subprocess.DEVNULL)
+    status, lines = reading(session.capture())
+    if status:
+        raise SystemExit(f"checks/rules: {one.name}: {lines[0]}")
+    report.write_text("".join(f"{line}\n" for line in lines))
+    base = room / f"{number}.db"
+    raw_tables.load_by_python(base, rows)
+    database = open_database(base)
+    loading.fill(database, [str(capture)], str(side) if one.has_side else None, False, report, None)
+    database.close()
+    return base.read_bytes()
+
+
+def judged(base: bytes, folder: pathlib.Path = judging.FOLDER) -> sqlite3.Connection:
+    """A copy of the database, judged by the rules of a folder."""
+    database = sqlite3.connect(":memory:", isolation_level=None)
+    database.deserialize(base)
+    judging.judge(database, folder)
+    return database
+
+
+def rules_of(database: sqlite3.Connection) -> Counter:
+    return Counter(dict(database.execute("SELECT rule, count(*) FROM finding GROUP BY 1")))
+
+
+def due_of(one: Case) -> Counter:
+    return Counter({rule: int(count) for rule, count in (word.split(":") for word in one.due.split())})
+
+
+def texts_of(database: sqlite3.Connection) -> str:
+    """Paths and notes of the findings, and who sent how many of which code to whom, and how many of these came."""
+    return "\n".join(text for text, in database.execute(
+        "SELECT coalesce(path, '') || ' (' || coalesce(note, '') || ')' FROM finding"
+        " UNION ALL SELECT a.who || ' to ' || b.who || ' code ' || code || ': ' || delivered || ' of ' || sends"
+        " FROM traffic t JOIN who a USING (upid) JOIN who b ON b.upid = t.node_upid"
+        " UNION ALL SELECT 'finding_stack ' || n || ': ' || stack || ', ' || whose FROM finding_stack"
+        " UNION ALL SELECT 'finding_stack 2: -' WHERE NOT EXISTS (SELECT 1 FROM finding_stack WHERE n = 2)"))
+
+
+# Deliveries at another node than the one that is certain of their sends.
+ASTRAY = ("SELECT count(*) FROM raw_send s JOIN node_of n USING (generation) JOIN raw_record r ON r.place = s.delivery"
+          " JOIN raw_thread t ON t.utid = r.utid WHERE n.certain AND (t.upid, r.ptr, r.cookie) <> (n.upid, n.ptr,"
+          " n.cookie)")
+
+
+def faults_of(one: Case, database: sqlite3.Connection) -> list[str]:
+    """What is wrong with a judged case. References that are held or were let go, and requests, count only if the case
+    names such a rule."""
+    came, due = rules_of(database), due_of(one)
+    came = Counter({rule: count for rule, count in came.items() if rule not in ("H6", "H7", "D5") or rule in due})
+    faults = [] if came == due else [f"expected {shown(due)}, came {shown(came)}"]
+    astray, = database.execute(ASTRAY).fetchone()
+    faults += [f"{astray} deliveries at another node"] if astray else []
+    texts = texts_of(database)
+    return faults + [f"no finding says: {word}" for word in one.words if word not in texts]
+
+
+def shown(counts: Counter) -> str:
+    return " ".join(f"{rule}:{count}" for rule, count in sorted(counts.items(), key=str))
+
+
+# ---- wrong rules
+
+
+class Edit(NamedTuple):
+    name: str
+    file: str
+    at: str
+    old: str
+    new: str
+    nothing: str | None
+
+    @property
+    def rule(self) -> str:
+        """The rule that its name begins with, if it does: sessions that get this rule mostly tell the edit."""
+        return self.name.partition("-")[0].upper()
+
+
+def edits_of(path: pathlib.Path) -> list[Edit]:
+    found = []
+    for block in path.read_text().split("\n\n")[1:]:
+        lines = dict(line.partition(" ")[::2] for line in block.strip().splitlines())
+        at, old, new = (lines[word].replace("\\n", "\n") for word in ("at", "old", "new"))
+        found.append(Edit(lines["edit"], lines["file"], at, old, new, lines.get("nothing")))
+    return found
+
+
+def edited(edit: Edit, folder: pathlib.Path) -> None:
+    """Writes the rules with the edit into a new folder."""
+    shutil.copytree(judging.FOLDER, folder, ignore=shutil.ignore_patterns("out", "__pycache__"))
+    path = folder / edit.file
+    text = path.read_text()
+    at = text.index(edit.old, text.index(edit.at))
+    path.write_text(text[:at] + edit.new + text[at + len(edit.old):])
+
+
+def scenario(room: pathlib.Path, folder: pathlib.Path) -> bytes:
+    """The database of a scenario before it is judged."""
+    rows, base = room / f"{folder.name}.rows", room / f"{folder.name}.db"
+    rows.mkdir()
+    capture, side = folder / "capture-1.cap", folder / "capture.side"
+    subprocess.run([LISTING, "--tables", rows, capture], check=True, stdout=subprocess.DEVNULL)
+    raw_tables.load_by_python(base, rows)
+    database = open_database(base)
+    loading.fill(database, [str(capture)], str(side), False, folder / "report.txt", None)
+    database.close()
+    return base.read_bytes()
+
+
+def groups_of(database: sqlite3.Connection) -> list[tuple]:
+    return database.execute("SELECT verdict, title, path, n, n_all, rules FROM finding_group"
+                            " WHERE verdict IN ('real', 'maybe') ORDER BY 1, 2, 3, 4").fetchall()
+
+
+# The databases of the cases, and those of the scenarios with their groups. Each process that tries edits has them from
+# the one that began it.
+BASES: list[bytes] = []
+SCENARIOS: dict[str, tuple[bytes, list[tuple]]] = {}
+
+
+def told_by(edit: Edit, room: pathlib.Path) -> str | None:
+    """What tells an edit from the right rules; None if nothing does."""
+    folder = room / f"edit-{edit.name}"
+    try:
+        edited(edit, folder)
+        for one, base in sorted(zip(CASES, BASES), key=lambda both: edit.rule not in due_of(both[0])):
+            if faults_of(one, judged(base, folder)):
+                return one.name
+        for name, (base, due) in SCENARIOS.items():
+            if groups_of(judged(base, folder)) != due:
+                return f"scenario {name}"
+    except (ValueError, sqlite3.Error) as error:
+        return f"no edit: {error}"
+    return None
+
+
+def try_edits(room: pathlib.Path, bases: list[bytes], names: str) -> Iterator[str]:
+    """What is wrong with the stored edits."""
+    folders = [path for path in sorted(DRIVER.iterdir()) if path.is_dir()]
+    with ThreadPoolExecutor(os.cpu_count()) as pool:
+        made_of = list(pool.map(scenario, repeat(room), folders))
+    BASES[:] = bases
+    SCENARIOS.update({path.name: (base, groups_of(judged(base))) for path, base in zip(folders, made_of)})
+    wanted = names.split(",")
+    edits = [edit for edit in edits_of(CHECKS / "viewer/sessions/edits.txt") if any(one in edit.name for one in wanted)]
+    with ProcessPoolExecutor(os.cpu_count()) as pool:
+        for edit, told in zip(edits, pool.map(told_by, edits, repeat(room))):
+            print(f"{edit.name}: {told or edit.nothing or 'nothing tells it'}")
+            if (told is None) != (edit.nothing is not None) or (told or "").startswith("no edit"):
+                yield f"edit {edit.name}: {told or 'nothing tells it from the right rules'}"
+
+
+def show(bases: list[bytes], text: str) -> None:
+    for one, base in zip(CASES, bases):
+        if text in one.name:
+            print(f"== {one.name}: {one.due}")
+            for row in judged(base).execute("SELECT section, what, place, rule, path, note, n_all, n_good, age, later,"
+                                            " waiting FROM finding ORDER BY id"):
+                print("  ", *row)
+
+
+def judge(given: argparse.Namespace, room: pathlib.Path, fail: Fail) -> None:
+    build_programs(ROOT)
+    with ThreadPoolExecutor(os.cpu_count()) as pool:
+        bases = list(pool.map(made, repeat(room), range(len(CASES)), CASES))
+    if given.show is not None:
+        show(bases, given.show)
+    for one, base in zip(CASES, bases):
+        for fault in faults_of(one, judged(base)):
+            fail(f"{one.name}: {fault}")
+    if given.edits is not None:
+        for what in try_edits(room, bases, given.edits):
+            fail(what)
+
+
+if __name__ == "__main__":
+    check(judge, edits={"nargs": "?", "const": ""}, show={})

@@ -1,0 +1,184 @@
+"""Sessions that were met in mid-life, with the driver's book of what they held then."""
+
+from checks.viewer.sessions.cases import case
+from checks.viewer.sessions.session import *
+
+
+# ---- lines of the book `state`, as the kernel 6.1 writes them
+
+
+def ref(handle, strong=1, weak=0, node=82):
+    return f"  ref 87: desc {handle} node {node} s {strong} w {weak} d 0000000000000000\n"
+
+
+def own(ptr, strong=1, weak=1, local=0, number=82):
+    return f"  node {number}: u{ptr:016x} c{0:016x} hs {strong} hw {weak} ls {local} lw 0 is 1 iw 1 tr 1 proc 200\n"
+
+
+def buffer(address, number=97):
+    return f"  buffer {number}: {address:016x} size 28:0:0 delivered\n"
+
+
+def thread(number, *lines):
+    return f"  thread {number}: l 12 need_return 0 tr 0\n" + "".join(f"    {line}\n" for line in lines)
+
+
+def transaction_of(kind, reply=1, code=3):
+    return f"{kind} transaction 102: ff2116b3824dd9c0 from 200:200 to 100:100 code {code} flags 0 pri 0 r{reply}"
+
+
+DEAD, CLEARED = "  has delivered dead binder\n", "  has cleared death notification\n"
+REPLY = Sent(None, 0, 0, b"", b"").record(BC_REPLY)
+
+
+def begun(s, client="", service="", early=False, **given):
+    """A service and a client that the recorder met, and what the book has of them. Without `early` they do nothing
+    until the copy is certain."""
+    s.books("begin", of_200=client, of_100=service)
+    s.wait(0 if early else 200)
+    return s.two("in-mid-life", **given)
+
+
+# ---- handles, nodes, requests
+
+
+@case("H7:1", "before the recording: strong 1, weak 0", had=1, times=1)
+@case("H6:1", "before the recording: strong 2, weak 0", had=2, times=1)
+@case("H2:1", "handle 7, service 100 node 0x700 (before", had=1, times=2)
+@case("H1:1", had=0, times=1)
+@case("M1:1", had=0, times=1, lost=True)
+@case("M1:1", had=1, times=2, lost=True)
+@case("P1:1", had=0, times=1, early=True)
+@case("P1:1", had=1, times=2, early=True)
+@case("H7:1", had=1, times=1, early=True)
+def lets_go(s, had, times, lost=False, early=False):
+    """A process lets go of a handle that it held before, or did not."""
+    service, client = begun(s, ref(7, had) if had else ref(8), own(0x700), early)
+    if lost:
+        s.loses(client)
+    client.main.writes(*each(BC_RELEASE, *[7] * times))
+
+
+@case("H6:1", had=1)
+@case("H1:1", had=0)
+def takes_again(s, had):
+    """A handle that was held is taken once more, with one reference or none from before."""
+    _, client = begun(s, ref(7) if had else "", own(0x700))
+    client.main.writes(*each(BC_ACQUIRE, 7))
+
+
+@case("H1:1", quiet=False)
+def takes_later(s, quiet):
+    """A process that was busy when the book was copied names a handle for the first time after that."""
+    _, client = begun(s, early=not quiet)
+    client.main.writes(ENTER)
+    s.wait(200)
+    client.main.writes(*each(BC_ACQUIRE, 7))
+
+
+@case("H7:1", "before the recording: strong 1, weak 0", had=1)
+@case("H6:1", "before the recording: strong 1, weak 1", had=1, weak=1)
+@case("H2:1", had=0)
+@case("H2:1", strong=0, had=1)
+@case("P1:1", had=0, early=True)
+def is_let_go(s, had, strong=1, weak=0, early=False):
+    """Others let go of an object of a process, of which they had a reference before, or not."""
+    service, _ = begun(s, "", own(0x700, strong, weak) if had else "", early)
+    service.main.reads(node(BR_RELEASE, 0x700, 0))
+
+
+@case("D1:1", had=0)
+@case("D5:1", had=1)
+@case("P1:1", had=0, early=True)
+@case("D5:1 D2:1", "the one before is at", had=1, again=True)
+def request_from_before(s, had, early=False, again=False):
+    """A request of a handle stays that is let go of as often as it is taken in the recording."""
+    service, client = begun(s, ref(1) if had else "", own(0x100), early)
+    client.main.is_given(service.main, 1)
+    client.main.writes(watch(BC_REQUEST_DEATH_NOTIFICATION, 1, 0xD))
+    if again:
+        client.main.writes(watch(BC_REQUEST_DEATH_NOTIFICATION, 1, 0xE))
+    client.main.writes(*each(BC_RELEASE, 1))
+
+
+# ---- calls, buffers, deaths, clears
+
+
+@case("P2:1", lines=["outgoing"], answers=1)
+@case("P2:1 S4:1", lines=["outgoing"], answers=2)
+@case("P2:2", lines=["outgoing", "outgoing"], answers=2)
+@case("P2:1", lines=["pending"], answers=1)
+@case("P2:1", lines=["error"], answers=1)
+@case("S4:1", lines=["incoming"], answers=1)
+@case("S4:1", lines=[], answers=1)
+@case("P1:1", lines=[], answers=1, early=True)
+@case("P2:1", lines=["outgoing"], answers=1, early=True)
+@case("M1:1", lines=[], answers=1, lost=True)
+def answers_to_calls_from_before(s, lines, answers, early=False, lost=False):
+    told = ["transaction error: 29189" if kind == "error" else transaction_of(kind, int(kind != "pending"))
+            for kind in lines]
+    _, client = begun(s, thread(200, *told), early=early)
+    if lost:
+        s.loses(client)
+    for _ in range(answers):
+        address = client.address()
+        client.main.reads(Sent(None, 0, 0, b"", b"").record(BR_REPLY, 0, address))
+        client.main.frees(address)
+
+
+@case("P2:1", kind="incoming")
+@case("S4:1", kind="outgoing")
+@case("P1:1", kind="outgoing", early=True)
+def reply_to_a_call_from_before(s, kind, early=False):
+    service, _ = begun(s, "", thread(100, transaction_of(kind)), early)
+    service.main.writes(REPLY)
+    service.main.reads(DONE)
+
+
+@case("P2:1", had=[0x7238], frees=[0x7238])
+@case("P2:1 F2:1", had=[0x7238], frees=[0x7238, 0x7238])
+@case("P2:2", had=[0x7238, 0x7300], frees=[0x7300, 0x7238])
+@case("F2:1", had=[0x7238], frees=[0x7230])
+@case("P2:1", had=[0x238], frees=[0x7fff1238])
+@case("F2:1", had=[0x238], frees=[0x7fff1230])
+@case("F2:1", had=[0x7fff000238], frees=[0x7fff001238])
+@case("P1:1", had=[], frees=[0x7238], early=True)
+def frees_what_came_before(s, had, frees, early=False):
+    """The second form of an address is how far a buffer is from the beginning of the mapping."""
+    _, client = begun(s, "".join(buffer(address, number) for number, address in enumerate(had)), early=early)
+    client.main.frees(*frees)
+
+
+@case("P2:2", told=True, deaths=2)
+@case("D4:2", told=False, deaths=2)
+@case("P1:1", told=False, deaths=1, early=True)
+def acknowledges_what_was_told_before(s, told, deaths, early=False):
+    """The book says that deaths wait for acknowledgement, and not how many."""
+    _, client = begun(s, DEAD if told else "", early=early)
+    client.main.writes(*each_long(BC_DEAD_BINDER_DONE, *range(0xD, 0xD + deaths)))
+
+
+@case("P2:1", waits=True, clears=1)
+@case("P2:1 D4:1", waits=True, clears=2)
+@case("D4:1", waits=False, clears=1)
+@case("P1:1", waits=False, clears=1, early=True)
+def confirms_what_was_cleared_before(s, waits, clears, early=False):
+    _, client = begun(s, CLEARED if waits else "", early=early)
+    client.main.reads(*each_long(BR_CLEAR_DEATH_NOTIFICATION_DONE, *range(0xD, 0xD + clears)))
+
+
+@case("C6:1 C7:2 A1:2", "2 loopers are in ", "a call from before the capture", kind="incoming")
+@case("C6:1 C7:2 A1:2", "a looper is in code 10 since", kind="outgoing")
+@case("C6:1 C7:2 A1:2 P2:1", "a looper is in code 10 since", kind="incoming", replies=True)
+def pool_from_before(s, kind, replies=False):
+    """A looper serves a call from before the recording; the other one never answers, and two calls wait."""
+    service, client = begun(s, "", thread(101, transaction_of(kind)), enters=False)
+    client.main.asks(service.main, 2)
+    if replies:
+        other = service.thread(1)
+        other.writes(REPLY)
+        other.reads(DONE)
+    service.main.gets(client.main.sends(0, 10))
+    for number in 300, 301:
+        s.process(number, "other").main.sends(0, 1)
+    s.wait(1100)

@@ -1,0 +1,494 @@
+"""Small sessions on either side of each threshold and order of the rules, with the rules that their findings get:
+calls, oneway sends and buffers. state_cases.py has the others.
+
+A case is a function that plays a session. Its text counts the rules of all findings: `C4:1 A1:1` is one finding with
+rule C4 and one with A1.
+"""
+
+from typing import Callable, NamedTuple
+
+from checks.viewer.sessions.session import *
+
+
+class Case(NamedTuple):
+    name: str
+    play: Callable[[Session], None]
+    due: str
+    words: tuple[str, ...]
+    has_side: bool
+
+
+CASES: list[Case] = []
+
+
+def case(due, *words, has_side=True, **given):
+    """A case of a function: the counts of the rules that its findings must get, and words of notes and paths."""
+    def add(play):
+        name = " ".join([play.__name__, *(f"{key}={value}" for key, value in given.items())])
+        CASES.append(Case(name if has_side else f"{name} without a side list", lambda s: play(s, **given), due, words,
+                          has_side))
+        return play
+    return add
+
+
+# ---- calls that wait
+
+
+@case("C4:1 A1:2", "has done nothing since", wait=200)
+@case("U6:1 A1:2", wait=50)
+def never_answered(s, wait):
+    service, client = s.two()
+    service.main.gets(client.main.sends(0, 1))
+    s.wait(wait)
+
+
+@case("C6:1 C7:2 A1:2", "its only looper is in code 10 since", "2 sends wait", "2 wait for it", wait=1100)
+@case("C4:1 C7:2 A1:2", "2 wait for it", wait=900)
+@case("U6:1 C7:2 A1:2", wait=20)
+@case("U6:1 C7:2 A1:2", wait=1100, took=150)
+@case("C6:1 C7:2 A1:2", "its only looper is in code 10 since", wait=1100, enters=False)
+@case("C6:1 C7:2 A1:2", "its only looper is in code 10 since", "2 wait for it", wait=1100, killed=True)
+def others_queue(s, wait, took=0, enters=True, killed=False):
+    """The only looper of a service never answers, and two more calls wait for it. Earlier calls of the first one's code
+    took as long; or the looper has not said that it is one, but takes calls; or the service is killed after the last
+    frame."""
+    service, client = s.two(enters=enters)
+    for _ in range(5):
+        client.main.asks(service.main, 2)
+    for _ in range(2 if took else 0):
+        client.main.asks(service.main, 10, took=took)
+    service.main.gets(client.main.sends(0, 10))
+    for number in 300, 301:
+        s.process(number, "other").main.sends(0, 1)
+    s.wait(wait)
+    if killed:
+        service.ends()
+
+
+@case("C3:2 A1:4", mains=True)
+@case("U6:2 A1:4", mains=True, wait=50)
+@case("C4:2 A1:4", "its main thread waits for the call at", mains=False)
+def embrace_of_mains(s, mains, wait=300):
+    """The loopers of two processes wait for their main threads, which wait for each other. The other way: the second
+    call is not by the main thread."""
+    service, client = s.two()
+    client.main.is_given(service.main, 1)
+    looper, back = service.looper(1), client.looper(1)
+    looper.gets(client.main.sends(0, 11))
+    back.gets((service.main if mains else service.looper(2)).sends(7, 2), 0x500)
+    s.wait(wait)
+
+
+@case("C3:2 C6:1 C7:1 A1:4", "3 wait for it; not got: its only looper is in code 3 since")
+def embrace_through_a_pool(s):
+    """A looper of the client serves a call, and waits for its main thread. That one calls the service, whose looper
+    waits for its own main thread, which calls back and gets no thread of the client. Another call waits at the
+    service."""
+    service, client = s.two(enters=False)
+    other = s.process(300, "other")
+    client.main.gives(service.main, 7)
+    other.main.is_given(service.main, 1, server_handle=7)
+    looper, back = service.looper(1), client.looper(1)
+    back.gets(other.main.sends(1, 3), 0x9700)
+    looper.gets(client.main.sends(0, 2))
+    service.main.sends(7, 4)
+    s.process(301, "late").main.sends(0, 1)
+    s.wait(1100)
+
+
+@case("C6:2 A1:4 C7:1", "its 2 loopers are in", free=False)
+@case("C4:2 A1:4 C5:1", free=True)
+@case("C6:2 A1:4 C7:1", free=True, exits=True)
+def pool_of_two(s, free, exits=False):
+    """Two loopers of a service are in calls, and a third call waits; or a third looper is free, and did not get it; or
+    that one is no looper any more."""
+    service, client = s.two()
+    second = service.looper(1)
+    if free:
+        third = service.looper(2)
+        if exits:
+            third.writes(record(BC_EXIT_LOOPER))
+    service.main.gets(client.main.sends(0, 10))
+    second.gets(s.process(300, "other").main.sends(0, 11))
+    s.process(301, "third").main.sends(0, 1)
+    s.wait(1100)
+
+
+@case("C6:1 C7:1", "its only looper is in oneway code 7 since", wait=1100)
+@case("U6:1 C7:1", wait=20)
+def pool_in_oneway(s, wait):
+    """The only looper of a service is in a oneway transaction, and a call waits."""
+    service, client = s.two()
+    client.main.asks(service.main, 2)
+    service.main.gets(client.main.sends(0, 7, ONE_WAY))
+    client.main.sends(0, 1)
+    s.wait(wait)
+
+
+@case("C6:1 C7:2 A1:2", "2 loopers are in ", "a call from before the capture", serves=1)
+@case("C6:1 C7:2 A1:2", "2 loopers are in ", "a call from before the capture", serves=1, nested=True)
+@case("C6:1 C7:2 A1:2", "a looper is in code 10 since", serves=0)
+@case("C6:1 C7:2 A1:2 P1:1", "a looper is in code 10 since", serves=1, replies=1)
+@case("C6:1 C7:2 A1:2 P1:1", "2 loopers are in ", "a call from before the capture", serves=2, replies=1)
+@case("C6:1 C7:2 A1:2", "a looper is in code 10 since", serves=1, ends=True)
+@case("C6:1 C7:2 A1:2", "a looper is in code 10 since", serves=1, process=200)
+def pool_of_a_flight_recorder(s, serves, replies=0, ends=False, process=100, nested=False):
+    """Before its first file, a flight recorder saw a looper get calls. It still serves them, with another one within
+    or not; or it replies now, or ends; or a thread of another process got them. The other looper of the service never
+    answers, and two calls wait."""
+    s.tell(f"calls 0 {process} 101 made={1 - serves if serves < 2 else 0} served={serves}")
+    service, client = s.two("before-file", enters=False)
+    other = service.thread(1)
+    client.main.asks(other if nested else service.main, 2)
+    for _ in range(replies):
+        other.writes(Sent(None, 0, 0, b"", b"").record(BC_REPLY))
+        other.reads(DONE)
+    if ends:
+        other.ends()
+    service.main.gets(client.main.sends(0, 10))
+    for number in 300, 301:
+        s.process(number, "other").main.sends(0, 1)
+    s.wait(1100)
+
+
+@case("C5:2", "not got: a looper is in a call from before the capture", serves=1)
+@case("C5:2", "(not got)", serves=0)
+def only_looper_serves_on(s, serves):
+    """The only looper of a service got a call before the first file of a flight recorder, and never answers. Two calls
+    wait. Another thread of the service only makes calls."""
+    s.tell(f"calls 0 300 301 made=0 served={serves}")
+    manager, client = s.two("before-file")
+    server = s.process(300, "server", "before-file")
+    server.main.gives(manager.main, 3, node=0x9000)
+    client.main.is_given(manager.main, 1, server_handle=3)
+    client.main.sends(1, 1)
+    client.thread(1).sends(1, 1)
+    s.wait(1100)
+
+
+@case("T1:1", "replied at", ends=1)
+@case("C1:1", "replied at", wait=200)
+@case("C2:1", "replied at", wait=50)
+def answer_unread(s, ends=0, wait=0):
+    """A call is answered after its thread has ended; or long, or shortly, before the end."""
+    service, client = s.two()
+    for _ in range(3):
+        client.main.asks(service.main)
+    address = service.main.gets(client.main.sends(0, 2))
+    s.wait(300)
+    if ends:
+        client.ends()
+    service.main.replies(address)
+    s.wait(wait)
+
+
+# ---- calls that failed
+
+
+@case("E3:1", sends=1, after=500)
+@case("E1:1", "told at", sends=1, after=1500)
+@case("E1:2", "told at", sends=2, after=10)
+def calls_the_dead(s, sends, after):
+    """The client is told of a death, and calls the dead object."""
+    service, client = s.two()
+    other = s.process(300, "short-lived")
+    other.main.gives(service.main, 3)
+    client.main.is_given(service.main, 1, server_handle=3)
+    client.main.writes(watch(BC_REQUEST_DEATH_NOTIFICATION, 1, 0xD))
+    other.ends()
+    client.main.reads(*each_long(BR_DEAD_BINDER, 0xD))
+    client.main.writes(*each_long(BC_DEAD_BINDER_DONE, 0xD), *each(BC_RELEASE, 1))
+    s.wait(after)
+    for _ in range(sends):
+        client.main.sends(1, 1)
+        client.main.reads(record(BR_DEAD_REPLY))
+
+
+@case("E3:2")
+def news_during_calls(s):
+    """Two threads are in calls of an object when a third reads of its death."""
+    service, client = s.two()
+    other = s.process(300, "short-lived")
+    other.main.gives(service.main, 3)
+    client.main.is_given(service.main, 1, server_handle=3)
+    client.main.writes(watch(BC_REQUEST_DEATH_NOTIFICATION, 1, 0xD))
+    both = client.main, client.thread(1)
+    for one in both:
+        one.sends(1, 1)
+    other.ends()
+    reader = client.thread(2)
+    reader.reads(*each_long(BR_DEAD_BINDER, 0xD))
+    reader.writes(*each_long(BC_DEAD_BINDER_DONE, 0xD), *each(BC_RELEASE, 1))
+    for one in both:
+        one.reads(record(BR_DEAD_REPLY))
+
+
+@case("E3:2", crossing=True)
+@case("E2:1 E3:1", crossing=False)
+def dead_reply_before(s, crossing):
+    """Two threads call an object that ends, both before it ends; or the second after the first has read so."""
+    service, client = s.two()
+    one, two = client.main, client.thread(1)
+    one.sends(0, 1)
+    if crossing:
+        two.sends(0, 1)
+    one.reads(record(BR_DEAD_REPLY))
+    if not crossing:
+        two.sends(0, 1)
+    two.reads(record(BR_DEAD_REPLY))
+
+
+@case("R1:3", "code 7 to service 100 node 0x0: -74 EBADMSG", wrong=3, right=0)
+@case("R2:2", wrong=2, right=0)
+@case("R1:4", wrong=4, right=1)
+@case("R2:3", wrong=3, right=1)
+def answered_with_a_status(s, wrong, right):
+    service, client = s.two()
+    for _ in range(right):
+        client.main.asks(service.main, 7)
+    for _ in range(wrong):
+        address = service.main.gets(client.main.sends(0, 7))
+        client.main.answered(service.main.replies(address, (-74 & MAX_32).to_bytes(4, "little"), flags=STATUS_CODE))
+
+
+@case("", value=0)
+@case("R2:1", value=1)
+def status_of_no_error(s, value):
+    service, client = s.two()
+    address = service.main.gets(client.main.sends(0, 7))
+    client.main.answered(service.main.replies(address, u32(value), flags=STATUS_CODE))
+
+
+def with_server(s):
+    """A manager, a client, and a server that the client has handle 1 of, by way of the manager."""
+    manager, client = s.two()
+    server = s.process(300, "server")
+    server.main.gives(manager.main, 3, node=0x9000)
+    client.main.is_given(manager.main, 1, server_handle=3)
+    return manager, client, server
+
+
+@case("R1:4", "code 1 to objects given by replies to code 5 of server 300 node 0x9000: 1")
+def status_of_many_objects(s):
+    """Each of four objects that came the same way gets one call, and answers with a status."""
+    _, client, server = with_server(s)
+    for handle in range(2, 6):
+        client.main.is_given(server.main, handle, via=1, ptr=0x9000)
+        address = server.main.gets(client.main.sends(handle, 1), 0x100 * handle)
+        client.main.answered(server.main.replies(address, u32(1), flags=STATUS_CODE))
+        client.main.writes(*each(BC_RELEASE, handle))
+
+
+@case("E5:1 U6:4", "3 oneway sends with 3,072 bytes waited or were held at service 100: 3 sends from client 200")
+def oneway_space_full(s):
+    service, client = s.two()
+    client.main.asks(service.main)
+    for _ in range(3):
+        client.main.sends(0, 7, ONE_WAY, bytes(1020), seen=False)
+    client.main.writes(Sent(None, 7, ONE_WAY, bytes(1020), b"").record(BC_TRANSACTION))
+    client.main.reads(record(BR_FAILED_REPLY))
+    client.main.sends(0, 7, ONE_WAY, bytes(4), seen=False)
+
+
+@case("E7:1", "code 7 to service 100 node 0x0")
+def spam(s):
+    service, client = s.two()
+    client.main.asks(service.main)
+    sent = Sent(client.main, 7, ONE_WAY, b"", b"")
+    client.main.writes(sent.record(BC_TRANSACTION))
+    client.main.reads(record(BR_ONEWAY_SPAM_SUSPECT))
+    service.main.frees(service.main.gets(sent))
+
+
+# ---- oneway sends
+
+
+@case("E3:3", "service 100 to client 200 code 7: 3 of 3", "service 100 to brief 302 code 7: 0 of 1", short=3)
+def oneway_to_short_lives(s, short):
+    """A service sends alike to a long-lived client and to short-lived ones that end before it comes. Each of the
+    long-lived one's is delivered, and only these."""
+    service, client = s.two()
+    client.main.gives(service.main, 1)
+    looper = client.looper(1)
+    for number in range(300, 300 + short):
+        brief = s.process(number, "brief")
+        brief.main.gives(service.main, number)
+        sent = service.main.sends(1, 7, ONE_WAY, b"same")
+        service.main.sends(number, 7, ONE_WAY, b"same")
+        brief.ends()
+        s.wait(1)
+        looper.frees(looper.gets(sent, 0x9100))
+        service.main.writes(*each(BC_RELEASE, number))
+
+
+@case("W2:1", freed=True, wait=50)
+@case("W3:1", freed=True, wait=200)
+@case("W2:1 U5:1", freed=False, wait=200)
+def oneway_after_another(s, freed, wait):
+    """A oneway send waits for the one before it, which is freed before the end of its process, or not at all."""
+    service, client = s.two()
+    client.main.gives(service.main, 1)
+    looper = client.looper(1)
+    for _ in range(3):
+        looper.frees(looper.gets(service.main.sends(1, 7, ONE_WAY), 0x9100))
+    address = looper.gets(service.main.sends(1, 7, ONE_WAY), 0x9100)
+    service.main.sends(1, 7, ONE_WAY)
+    s.wait(300)
+    if freed:
+        looper.frees(address)
+    s.wait(wait)
+    if freed:
+        client.ends()
+    s.wait(200)
+
+
+# ---- buffers
+
+
+def kept_buffers(s, kept, good, then=4, wait=200, held=0, lost=False, ends=False, name="client"):
+    """A service gets calls of code 1, answers all, and does not free the buffers of some. Then it serves code 2."""
+    service, client = s.two()
+    for at in range(kept + good):
+        address = service.main.gets(client.main.sends(0, 1))
+        s.wait(held if at < good else 0)
+        client.main.answered(service.main.replies(address if at < good else None))
+    if lost:
+        s.loses(service)
+    for _ in range(then):
+        client.main.asks(service.main, 2)
+    s.wait(wait)
+    if ends:
+        service.ends()
+        s.wait(500)
+
+
+@case("U3:3", kept=3, good=0)
+@case("U4:2", kept=2, good=0)
+@case("U3:4", kept=4, good=1)
+@case("U4:3", kept=3, good=1)
+@case("M2:3", kept=3, good=0, lost=True)
+@case("U2:1", kept=1, good=3)
+@case("U4:1", kept=1, good=2)
+@case("M2:1", kept=1, good=3, lost=True)
+@case("U2:1", kept=1, good=3, then=3)
+@case("U4:1", kept=1, good=3, then=2)
+@case("U6:1", kept=1, good=3, wait=60)
+@case("U6:1", kept=1, good=0, wait=60)
+@case("U4:1", kept=1, good=0, wait=110)
+@case("U2:1", kept=1, good=3, wait=1000, held=90)
+@case("U4:1", kept=1, good=3, wait=1000, held=120)
+@case("U1:1", kept=1, good=3, wait=100, held=150)
+@case("T1:2", kept=2, good=0, wait=60, ends=True)
+@case("U4:2", kept=2, good=0, wait=110, ends=True)
+def buffers(s, **given):
+    kept_buffers(s, **given)
+
+
+@case("U6:1", kept=1)
+@case("U4:1 U5:1", kept=2)
+@case("U4:1 U6:1", kept=2, wait=50, between=200)
+@case("U4:2 U5:1", kept=3)
+def last_buffer(s, kept, wait=500, between=0):
+    """A thread keeps the last reply that it got, and another before it or not."""
+    service, client = s.two()
+    for _ in range(kept):
+        s.wait(between)
+        client.main.asks(service.main, free=False)
+    s.wait(wait)
+
+
+@case("U1:1", wait=300, held=1)
+@case("U4:1", wait=1200, held=1)
+@case("U4:1", wait=300, held=0)
+def few_frames(s, wait, held):
+    """A reply that is held over one more call at the end, as the ones before it were, or over more than these."""
+    service, client = s.two()
+    for _ in range(3):
+        address = client.main.asks(service.main, free=False)
+        for _ in range(held):
+            client.main.asks(service.main, 2)
+        client.main.frees(address)
+    client.main.asks(service.main, free=False)
+    client.main.asks(service.main, 2)
+    s.wait(wait)
+
+
+# ---- calls
+
+
+@case("U2:1 A1:2", good=3, took=1, wait=150)
+@case("U6:1 A1:2", good=3, took=1, wait=80)
+@case("U1:1 A1:2", good=3, took=100, wait=190)
+@case("U6:1 A1:2", good=3, took=100, wait=230)
+@case("U2:1 A1:2", good=3, took=100, wait=1100)
+@case("U6:1 A1:2", good=3, took=100, wait=900)
+@case("C4:1 A1:2", good=2, took=100, wait=1100)
+@case("M2:1 A1:2", good=3, took=100, wait=1100, lost=1)
+@case("M2:1 A1:2", good=3, took=100, wait=1100, lost=0)
+def slow_answers(s, good, took, wait, lost=None):
+    """A call takes long. `lost`: a frame of the service, 0, or of the client, 1, is lost."""
+    service, client = s.two()
+    for _ in range(good):
+        client.main.asks(service.main, took=took)
+    if lost is not None:
+        s.loses((service, client)[lost])
+    service.main.gets(client.main.sends(0, 1))
+    s.wait(wait)
+
+
+@case("A1:2 T1:1", wait=50)
+@case("A1:2 C4:1", wait=400)
+def caller_ends(s, wait):
+    """A caller ends while its call is served: soon, or long after."""
+    service, client = s.two()
+    service.main.gets(client.main.sends(0, 1))
+    s.wait(wait)
+    client.ends()
+    s.wait(300)
+
+
+@case("E4:1", kind=BR_FROZEN_REPLY)
+@case("E3:1", kind=BR_DEAD_REPLY)
+@case("E5:1", kind=BR_FAILED_REPLY)
+@case("E6:1", kind=BR_FAILED_REPLY, confirmed=True)
+@case("M3:1", kind=BR_FAILED_REPLY, lost=True)
+def failed_call(s, kind, confirmed=False, lost=False):
+    service, client = s.two()
+    client.main.asks(service.main)
+    if lost:
+        s.loses(client)
+    client.main.sends(0, 1)
+    client.main.reads(*([DONE] if confirmed else []), record(kind))
+
+
+@case("S1:1", "the send at", known=True)
+@case("M3:1", known=True, lost=True)
+def refused_of_two(s, known, lost=False):
+    """Of two oneway sends in one write the driver refuses the second."""
+    service, client = s.two()
+    client.main.asks(service.main)
+    if lost:
+        s.loses(client)
+    sent = Sent(None, 7, ONE_WAY, b"", b"").record(BC_TRANSACTION)
+    client.main.writes(sent, sent)
+    client.main.reads(DONE, record(BR_FAILED_REPLY))
+    service.main.frees(service.main.gets(Sent(client.main, 7, ONE_WAY, b"", b"")))
+
+
+@case("E5:1 S2:1", "refused at")
+def reply_to_nothing(s):
+    service, client = s.two()
+    client.main.asks(service.main)
+    service.main.writes(Sent(None, 0, 0, b"", b"").record(BC_REPLY))
+    service.main.reads(record(BR_FAILED_REPLY))
+
+
+@case("S4:1 U6:1", met="from-start")
+@case("P1:1 U6:1", met="in-mid-life")
+@case("M1:1 U6:1", met="from-start", lost=True)
+def answer_to_nothing(s, met, lost=False):
+    service, client = s.two(met)
+    if lost:
+        s.loses(client)
+    client.main.reads(Sent(None, 0, 0, b"", b"").record(BR_REPLY, 0, client.address()))
+    client.main.writes(record(BC_EXIT_LOOPER))

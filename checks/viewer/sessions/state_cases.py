@@ -1,0 +1,371 @@
+"""More sessions as in cases.py: handles, nodes, deaths, clears, frees, objects, and oneway sends that never came."""
+
+from checks.viewer.sessions.cases import case, with_server
+from checks.viewer.sessions.session import *
+
+
+# ---- handles and nodes
+
+
+@case("H1:1", met="from-start")
+@case("P1:1", met="in-mid-life")
+@case("M1:1", met="from-start", lost=True)
+@case("P1:1", met="from-start", unseen=True)
+def handle_from_nowhere(s, met, lost=False, unseen=False):
+    """A process takes a handle that nobody gave it; or it got a delivery with objects that the recorder left out."""
+    service, client = s.two(met)
+    address = service.main.gets(client.main.sends(0, 5))
+    body, listed = (of_handle(2, 7), offsets(0)) if unseen else (b"data", b"")
+    client.main.answered(service.main.replies(address, body if not unseen else b"", b""), body, listed, seen=not unseen)
+    if lost:
+        s.loses(client)
+    client.main.writes(*each(BC_ACQUIRE, 7))
+
+
+@case("H2:1", met="from-start")
+@case("P1:1", met="in-mid-life")
+@case("M1:1", met="from-start", lost=True)
+def let_go_too_often(s, met, lost=False):
+    service, client = s.two(met)
+    client.main.is_given(service.main, 1)
+    if lost:
+        s.loses(client)
+    client.main.writes(*each(BC_RELEASE, 1, 1))
+
+
+def told_dead(s, count, wait, lost=False):
+    """The client holds handles of processes of whose death it is told."""
+    service, client = s.two()
+    others = [s.process(300 + at, "short-lived") for at in range(count)]
+    for at, other in enumerate(others, 1):
+        other.main.gives(service.main, at + 20, code=20 + at)
+        client.main.is_given(service.main, at, server_handle=at + 20, code=40 + at)
+        client.main.writes(watch(BC_REQUEST_DEATH_NOTIFICATION, at, 0xD + at))
+    for at, other in enumerate(others, 1):
+        other.ends()
+        client.main.reads(*each_long(BR_DEAD_BINDER, 0xD + at))
+        client.main.writes(*each_long(BC_DEAD_BINDER_DONE, 0xD + at))
+        service.main.writes(*each(BC_RELEASE, at + 20))
+    s.wait(wait)
+
+
+@case("H3:1", "told at", count=1, wait=1100)
+@case("", count=1, wait=900)
+@case("", count=2, wait=900)
+@case("H3:3", count=3, wait=200)
+@case("", count=3, wait=50)
+def proxies_of_the_dead(s, count, wait):
+    told_dead(s, count, wait)
+
+
+@case("H4:1", takes=2, releases=0, threads=1)
+@case("H4:1", takes=2, releases=1, threads=1)
+@case("", takes=2, releases=2, threads=1)
+@case("", takes=1, releases=0, threads=1)
+@case("", takes=2, releases=0, threads=2)
+@case("H4:1", takes=3, releases=0, threads=2)
+@case("", takes=3, releases=1, threads=2)
+@case("H4:1", takes=2, releases=0, threads=1, weak=True)
+@case("H4:1", takes=3, releases=0, threads=2, weak=True)
+def taken_again(s, takes, releases, threads, weak=False):
+    """A handle is taken several times, by one thread or by two in turns."""
+    service, client = s.two()
+    client.main.is_given(service.main, 1, take=False)
+    both = [client.main, client.thread(1)][:threads]
+    take, release = (BC_INCREFS, BC_DECREFS) if weak else (BC_ACQUIRE, BC_RELEASE)
+    for at in range(takes):
+        both[at % threads].writes(*each(take, 1))
+    for at in range(releases):
+        both[-1].writes(*each(release, 1))
+    s.wait(300)
+
+
+@case("", first=2, then=1)
+def taken_again_before(s, first, then):
+    """An earlier generation of a handle was taken twice; this one is taken once."""
+    service, client = s.two()
+    client.main.is_given(service.main, 1, take=False)
+    client.main.writes(*each(BC_ACQUIRE, *[1] * first))
+    client.main.writes(*each(BC_RELEASE, *[1] * first))
+    client.main.is_given(service.main, 1, take=False, node=0x800)
+    client.main.writes(*each(BC_INCREFS, 1))
+    for _ in range(then):
+        client.main.writes(*each(BC_ACQUIRE, 1))
+        client.main.writes(*each(BC_RELEASE, 1))
+    client.main.writes(*each(BC_ACQUIRE, 1))
+    s.wait(300)
+
+
+@case("H6:2 H7:2")
+def handles_and_nodes(s):
+    """A handle that is held and one that is not, and the same of nodes."""
+    service, client = s.two()
+    for handle in 1, 2:
+        client.main.is_given(service.main, handle)
+    client.main.writes(*each(BC_RELEASE, 2))
+    for ptr in 0x100, 0x200:
+        service.main.reads(node(BR_ACQUIRE, ptr, 0))
+        service.main.writes(node(BC_ACQUIRE_DONE, ptr, 0))
+    service.main.reads(node(BR_RELEASE, 0x200, 0))
+
+
+@case("H5:4", "given by replies to code 5 of server 300 node 0x9000", kept=4, let_go=0)
+@case("", kept=3, let_go=0)
+@case("H5:4", kept=4, let_go=1)
+@case("H5:4", "other 400 keeps 1 of 3", kept=4, let_go=1, others=3)
+@case("", kept=4, let_go=2)
+def sessions_kept(s, kept, let_go, others=0):
+    """A client keeps what replies gave it, or some of it; another one lets go of all but one."""
+    manager, client, server = with_server(s)
+    for handle in range(2, 2 + kept + let_go):
+        client.main.is_given(server.main, handle, via=1, ptr=0x9000)
+    client.main.writes(*each(BC_RELEASE, *range(2, 2 + let_go)))
+    if others:
+        other = s.process(400, "other")
+        other.main.is_given(manager.main, 1, server_handle=3)
+        for handle in range(2, 2 + others):
+            other.main.is_given(server.main, handle, via=1, ptr=0x9000, node=0xA00 + 0x100 * handle)
+        other.main.writes(*each(BC_RELEASE, *range(2, 1 + others)))
+    s.wait(300)
+
+
+@case("H5:4", "given by calls of code 4 from client 200", senders=1, each_gives=4)
+@case("", senders=4, each_gives=1)
+@case("", senders=2, each_gives=2)
+@case("", senders=1, each_gives=3)
+@case("", senders=1, each_gives=4, to_manager=True)
+def callbacks_kept(s, senders, each_gives, to_manager=False):
+    """Handles that calls brought: many from one client, or one from each of many. The context manager keeps all."""
+    manager, client, server = with_server(s)
+    others = [client] + [s.process(400 + at, "other") for at in range(1, senders)]
+    handle = 10
+    for other in others:
+        for _ in range(each_gives):
+            if to_manager:
+                other.main.gives(manager.main, handle)
+            else:
+                if other is not client and handle % each_gives == 10 % each_gives:
+                    other.main.is_given(manager.main, 1, server_handle=3)
+                body, listed = node_object(0x9000 + 0x100 * handle), offsets(0)
+                address = server.main.gets(other.main.sends(1, 4, body=body, listed=listed), 0x9000,
+                                           of_handle(2, handle))
+                server.main.writes(*each(BC_ACQUIRE, handle))
+                other.main.answered(server.main.replies(address))
+            handle += 1
+    s.wait(300)
+
+
+@case("U4:1", then=2, ends=0)
+@case("U6:1", then=1, ends=0)
+@case("M1:1", then=2, ends=0, lost=True)
+@case("T1:1", then=2, ends=1, wait=50)
+@case("U4:1", then=2, ends=1, wait=150)
+def not_acknowledged(s, then, ends, wait=200, lost=False):
+    """The driver asks for a reference, and the process does not acknowledge it, but goes on or ends."""
+    service, client = s.two()
+    client.main.asks(service.main)
+    if lost:
+        s.loses(client)
+    client.main.reads(node(BR_ACQUIRE, 0x500, 0x501))
+    for _ in range(then):
+        client.main.writes(ENTER)
+    s.wait(wait)
+    if ends:
+        client.ends()
+        s.wait(300)
+
+
+# ---- deaths and clears
+
+
+def watching(s, met="from-start", weakly=False):
+    service, client = s.two(met)
+    client.main.is_given(service.main, 1, take=not weakly)
+    client.main.writes(*(each(BC_INCREFS, 1) if weakly else []), watch(BC_REQUEST_DEATH_NOTIFICATION, 1, 0xD))
+    return service, client
+
+
+@case("T1:1", then=2, wait=60, ends=True)
+@case("U4:1", then=2, wait=150, ends=True)
+@case("U4:1", then=2, wait=200)
+@case("U6:1", then=1, wait=50)
+@case("U5:1", then=1, wait=200)
+@case("M1:1", then=2, wait=200, lost=True)
+@case("T1:1", then=2, wait=60, ends=True, thread=True)
+def clear_not_confirmed(s, then, wait, ends=False, lost=False, thread=False):
+    _, client = watching(s)
+    if lost:
+        s.loses(client)
+    clearing = client.thread(1) if thread else client.main
+    clearing.writes(watch(BC_CLEAR_DEATH_NOTIFICATION, 1, 0xD))
+    for _ in range(then):
+        clearing.writes(ENTER)
+    s.wait(wait)
+    if ends:
+        clearing.ends() if thread else client.ends()
+        s.wait(300)
+
+
+@case("T1:1", wait=60, ends=True)
+@case("U4:1", wait=150, ends=True)
+@case("D3:1 U4:1", wait=200, clears=True)
+def death_not_acknowledged(s, wait, ends=False, clears=False):
+    _, client = watching(s)
+    client.main.reads(*each_long(BR_DEAD_BINDER, 0xD))
+    if clears:
+        client.main.writes(watch(BC_CLEAR_DEATH_NOTIFICATION, 1, 0xD))
+    for _ in range(2):
+        client.main.writes(ENTER)
+    s.wait(wait)
+    if ends:
+        client.ends()
+        s.wait(300)
+
+
+@case("D6:1", "cookie 0xd", clears=2, confirmed=2)
+@case("D4:1 D6:1", clears=2, confirmed=3)
+@case("D4:1", clears=1, confirmed=2)
+@case("M1:1", clears=1, confirmed=2, lost=True)
+@case("P1:1", clears=1, confirmed=2, met="in-mid-life")
+def cookie_again(s, clears, confirmed, lost=False, met="from-start"):
+    """Requests of several handles with one cookie are cleared, and then all are confirmed."""
+    service, client = s.two(met)
+    for handle in range(1, clears + 1):
+        client.main.is_given(service.main, handle)
+        client.main.writes(watch(BC_REQUEST_DEATH_NOTIFICATION, handle, 0xD))
+    if lost:
+        s.loses(client)
+    client.main.writes(*(watch(BC_CLEAR_DEATH_NOTIFICATION, handle, 0xD) for handle in range(1, clears + 1)))
+    client.main.reads(*each_long(BR_CLEAR_DEATH_NOTIFICATION_DONE, *[0xD] * confirmed))
+
+
+@case("D4:1 U6:1", death=False)
+@case("D4:1 U6:1", death=True)
+def answer_of_another(s, death):
+    """A clear waits for its confirmation, and one of another cookie comes; or a death for its acknowledgement, and a
+    confirmation of its cookie comes."""
+    _, client = watching(s)
+    if death:
+        client.main.reads(*each_long(BR_DEAD_BINDER, 0xD))
+    else:
+        client.main.writes(watch(BC_CLEAR_DEATH_NOTIFICATION, 1, 0xD))
+    client.main.reads(*each_long(BR_CLEAR_DEATH_NOTIFICATION_DONE, 0xD if death else 0xE))
+
+
+@case("D4:1", deaths=1, done=2)
+@case("D6:1", deaths=2, done=2)
+def death_acknowledged_again(s, deaths, done):
+    _, client = watching(s)
+    client.main.reads(*each_long(BR_DEAD_BINDER, *[0xD] * deaths))
+    client.main.writes(*each_long(BC_DEAD_BINDER_DONE, *[0xD] * done))
+
+
+@case("D1:1", release=True)
+@case("P1:1", release=True, met="in-mid-life")
+@case("P1:1", release=True, met="before-file", held=1)
+@case("D1:1", release=True, met="before-file", held=2)
+@case("D1:1", release=True, weakly=True)
+@case("D5:1", release=False)
+@case("D5:1", release=False, met="in-mid-life")
+@case("D2:1 D5:1", "the one before is at", release=False, again=True)
+def request_left(s, release, again=False, met="from-start", held=None, weakly=False):
+    """A request stays. Its handle is let go of, or not; a flight recorder had met this handle before, or another."""
+    if held:
+        s.tell(f"handle 0 200 {held}")
+    _, client = watching(s, met, weakly)
+    if again:
+        client.main.writes(watch(BC_REQUEST_DEATH_NOTIFICATION, 1, 0xE))
+    if release:
+        client.main.writes(*each(BC_DECREFS if weakly else BC_RELEASE, 1))
+
+
+@case("D1:1", release=True)
+@case("D5:1", release=False)
+def request_of_the_manager(s, release):
+    """A request for the context manager, whose handle is let go of, or not."""
+    service, client = s.two()
+    client.main.asks(service.main)
+    client.main.writes(*each(BC_ACQUIRE, 0), watch(BC_REQUEST_DEATH_NOTIFICATION, 0, 0xD))
+    if release:
+        client.main.writes(*each(BC_RELEASE, 0))
+
+
+@case("D1:1 D5:1")
+def request_of_a_number_again(s):
+    """A request for an object whose handle is let go of, and one for the next object of the same number."""
+    service, client = watching(s)
+    client.main.writes(*each(BC_RELEASE, 1))
+    client.main.is_given(service.main, 1, node=0x800)
+    client.main.writes(watch(BC_REQUEST_DEATH_NOTIFICATION, 1, 0xE))
+
+
+# ---- frees, objects, flags
+
+
+@case("F1:1", "reply to code 1", met="from-start")
+@case("M1:1", met="from-start", lost=True)
+def freed_twice(s, met, lost=False):
+    service, client = s.two(met)
+    address = client.main.asks(service.main)
+    if lost:
+        s.loses(client)
+    client.main.frees(address)
+
+
+@case("F2:1", met="from-start")
+@case("P1:1", met="in-mid-life")
+@case("M1:1", met="from-start", lost=True)
+def freed_what_never_came(s, met, lost=False):
+    service, client = s.two(met)
+    if lost:
+        s.loses(client)
+    client.main.frees(0x1230)
+
+
+@case("O1:1 E5:1", sent=True)
+@case("O2:1", sent=False)
+def bad_object(s, sent):
+    """An object at an offset that is no multiple of four is sent, and refused; or is read."""
+    service, client = s.two()
+    body, listed = bytes(32), offsets(2)
+    if sent:
+        client.main.sends(0, 1, body=body, listed=listed)
+        client.main.reads(record(BR_FAILED_REPLY))
+    else:
+        address = service.main.gets(client.main.sends(0, 1, body=body), 0, body, listed)
+        client.main.answered(service.main.replies(address))
+
+
+@case("O3:2")
+def unknown_flag(s):
+    service, client = s.two()
+    address = service.main.gets(client.main.sends(0, 1, flags=0x80))
+    client.main.answered(service.main.replies(address))
+
+
+# ---- oneway sends that never came
+
+
+@case("W1:1", flags=ONE_WAY | UPDATE_TXN)
+@case("W3:1", flags=ONE_WAY)
+@case("W3:1", flags=ONE_WAY | 0x20)
+@case("U6:1", flags=ONE_WAY, wait=50)
+@case("M1:1", flags=ONE_WAY, lost=True)
+@case("E3:1", flags=ONE_WAY, wait=50, ends=True)
+@case("U1:1", flags=ONE_WAY, wait=190, good=3, took=100)
+@case("W3:1", flags=ONE_WAY, wait=1100, good=3, took=100)
+@case("U6:1", flags=ONE_WAY, wait=300, good=3, took=100)
+def oneway_never_came(s, flags, wait=200, good=0, took=0, lost=False, ends=False):
+    service, client = s.two()
+    client.main.asks(service.main)
+    for _ in range(good):
+        sent = client.main.sends(0, 7, flags)
+        s.wait(took)
+        service.main.frees(service.main.gets(sent))
+    if lost:
+        s.loses(client)
+    client.main.sends(0, 7, flags)
+    s.wait(wait)
+    if ends:
+        service.ends()
+        s.wait(300)

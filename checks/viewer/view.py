@@ -1,0 +1,116 @@
+#!/usr/bin/env python3
+"""Checks `view`, the page of a capture and its database.
+
+    checks/run view [-- PROGRAM]     PROGRAM is the auditor; without it, it takes the built one
+    checks/run view -- --browser     checks the page in Debian's chromium, without a window; by hand
+
+What must hold:
+
+- For each capture in samples/driver and samples/: the database is whole, and its counts, calls, deliveries, handles and
+  oneway sends are those of the report; the page has each row and each head of the report, word by word; every finding
+  has a rule.
+- For each scenario in samples/driver the groups of verdict real and maybe are those in checks/recorder/driver/verdicts.txt. So each
+  fault that was made on purpose has a group, and a scenario without a fault has none.
+- Captures without a fault, cut at 15 places, have no group of verdict real. They are cut from the end with the whole
+  side list, and without a side list; and from the front without a side list, and with one that says which openings were
+  met in mid-life.
+- If frames of a scenario are lost, in seven ways, only what is real in the whole capture is real. The side list says
+  for each lost frame whose it was, or only its number, or only that something without a number was missed.
+- The page says how long findings lasted, which fields a row has, who served failed calls, and what is held at the end.
+- The files of a flight recorder, each with its side list, are shown like the whole capture; the last one alone says
+  what it cannot know.
+- Page, database and side list of a capture have no secret of its payloads, and a redacted capture has none either.
+- A side list of another capture is refused. If a side list may belong to another capture, a line says so. A thread that
+  changed its name has the last one.
+- A malformed capture, in one file or in parts, has a page with the line of its fault and what comes before it, and
+  status 2.
+- SIGTERM leaves nothing in TMPDIR.
+- Names from a stranger run nothing, break nothing and change no direction of text. Existing files are not overwritten.
+- The driver's books at the end agree with the report, or a line says where not, or why they are not compared; copies
+  that are no such books are left out. A process is called what its command line says, where that is more than its name.
+- Of calls whose data name an interface, page, database, groups and timeline have that, and the methods of a table of
+  `viewer/methods/table.py`. A table changes no verdict, and nothing of a capture without names. A wrong one is refused.
+- Of a side list with stacks the page shows that of the first record of a group, and how many have the same; the
+  functions after the first twelve, and other stacks, are folded. It says which function tells the stacks of what was
+  not freed from those of what was. Files with the same build-id name functions.
+- A service has its name, and what means harm names nothing. In the captures of clients on libgbinder each transaction
+  has its interface and each registered object its service, the page has the methods of a table from sources, and those
+  without a fault have no verdict real and at most two maybe.
+- The loader in C and the one in Python make the same database of the same rows.
+- No statement of the rules takes the square of what a capture has.
+- The rules in docs/VIEW.md are those of the database, and so are the names and columns in docs/DATABASE.md.
+
+It calls the programs of the repository, and takes some 40 seconds on four cores. If all is well it prints nothing.
+Otherwise it prints what was expected and what came, and ends with status 1.
+"""
+
+import argparse
+import os
+import pathlib
+import tempfile
+from concurrent.futures import ProcessPoolExecutor
+
+from checks.kit.checking import FLAG, Fail, check
+from checks.kit.programs import DRIVER, ROOT, built_programs, programs
+from checks.viewer.page.books import check_books
+from checks.viewer.page.browser import check_browser
+from checks.viewer.page.growth import check_growth
+from checks.viewer.page.losses import CUTS, FAULTLESS, check_cuts, check_gaps
+from checks.viewer.page.methods import check_methods, check_unnamed
+from checks.viewer.page.reports import check_sample
+from checks.viewer.page.services import CAPTURES, check_libgbinder, check_services
+from checks.viewer.page.sides import check_files, check_loaders, check_renames, check_side
+from checks.viewer.page.stacks import check_stacks
+from checks.viewer.page.words import (check_hostile, check_malformed, check_secrets, check_stopped, check_told,
+                                      check_words)
+from viewer.database import raw_tables
+
+
+def check_all(folder: pathlib.Path, room: pathlib.Path, fail: Fail) -> None:
+    raw_tables.loader()
+    built = built_programs(room, (folder / "audit").resolve())
+    words, sides, files, malformed, hostile, methods, loaders, books, stacks, growth = rooms = [
+        room / name for name in ("words", "sides", "files", "malformed", "hostile", "methods", "loaders", "books",
+                                 "stacks", "growth")]
+    for here in rooms:
+        here.mkdir()
+    samples = [([path / "capture-1.cap"], path / "capture.side") for path in sorted(DRIVER.iterdir()) if path.is_dir()]
+    samples += [([path], None) for path in sorted(ROOT.glob("samples/*.cap"))]
+    samples += [([ROOT / "samples/rotated-1.cap", ROOT / "samples/rotated-2.cap"], None)]
+    with ProcessPoolExecutor(os.cpu_count()) as pool:
+        jobs = [pool.submit(check_sample, (built, room / f"sample-{number}", files, side))
+                for number, (files, side) in enumerate(samples)]
+        jobs += [pool.submit(check_cuts, (built, room, name, cut)) for name in FAULTLESS for cut in range(CUTS)]
+        jobs += [pool.submit(check_libgbinder, (built, methods, path)) for path in CAPTURES]
+        jobs += [pool.submit(check_gaps, (built, room, path.parent.name)) for path in DRIVER.glob("*/capture.side")]
+        check_words(folder, words, fail)
+        check_stopped(folder, words, fail)
+        check_side(built, sides, fail)
+        check_renames(built, sides, fail)
+        check_files(built, files, fail)
+        check_secrets(built, files, fail)
+        check_told(built, sides, fail)
+        check_malformed(built, malformed, fail)
+        check_hostile(built, hostile, fail)
+        check_methods(built, methods, fail)
+        check_unnamed(built, methods, fail)
+        check_services(built, methods, fail)
+        check_loaders(built, loaders, fail)
+        check_books(built, books, fail)
+        check_stacks(built, stacks, fail)
+        check_growth(built, growth, fail)
+        for job in jobs:
+            for what in job.result():
+                fail(what)
+
+
+def judge(given: argparse.Namespace, room: pathlib.Path, fail: Fail) -> None:
+    if given.browser:
+        room = pathlib.Path(tempfile.mkdtemp(prefix="checks-view."))  # its pictures stay
+        check_browser(programs(room, given.programs[0]), room, fail)
+    else:
+        check_all(programs(room, given.programs[0]), room, fail)
+
+
+if __name__ == "__main__":
+    check(judge, browser=FLAG)

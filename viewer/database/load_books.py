@@ -1,0 +1,178 @@
+"""What the driver held of each process when the recording began and when it ended: the copies of its books that are
+beside the side list."""
+
+import pathlib
+import re
+import sqlite3
+from collections import defaultdict
+from typing import Iterator, NamedTuple
+
+from viewer.database.books import Opening, Transaction, state
+from viewer.units import signed
+
+
+class Copy(NamedTuple):
+    """A copy, as the side list names it: when, which book, the last number before it was made and the last one when it
+    was there, its time and its length."""
+    moment: str
+    what: str
+    from_seq: int
+    after: int
+    ts: int
+    size: int
+
+
+class Matched(NamedTuple):
+    """An opening in the books that is one of the capture."""
+    upid: int
+    opening: Opening
+
+
+# ---- the files
+
+
+def places_of(copy: Copy, side: str) -> Iterator[pathlib.Path]:
+    """Where a copy may be, beside a side list OUT.side or, of a flight recorder, OUT-1.side."""
+    out = side.removesuffix(".side")
+    for base in dict.fromkeys((out, re.sub(r"-[0-9]+$", "", out))):
+        yield pathlib.Path(f"{base}.{copy.moment}.{copy.what}")
+
+
+def text_of(copy: Copy, sides: list[str]) -> tuple[str | None, str | None]:
+    """The text of a copy; or None, and why not."""
+    for side in sides:
+        for path in places_of(copy, side):
+            try:
+                data = path.read_bytes()
+            except OSError:
+                continue
+            if len(data) != copy.size:
+                return None, f"{path.name} has {len(data):,} bytes, and the side list names {copy.size:,}"
+            return data.decode(errors="replace"), None
+    return None, f"{next(places_of(copy, sides[0])).name} is not beside the side list"
+
+
+# ---- which opening is which
+
+
+def open_at(database: sqlite3.Connection, copy: Copy) -> dict[tuple[int, str], list[tuple[int, str]]]:
+    """The openings of the capture that were open when the copy was made, with how they were met, the first one first:
+    by the system's id of their process, and the name of their device. At the beginning only those that were met."""
+    found: dict[tuple[int, str], list[tuple[int, str]]] = defaultdict(list)
+    rows = database.execute(
+        "SELECT p.upid, p.pid, d.name, p.met FROM process p JOIN side_device d USING (device)"
+        " WHERE p.met NOTNULL AND coalesce(p.ended > :ts, 1)"
+        " AND iif(:begin, p.met = 'in-mid-life', p.first_seq <= :after) ORDER BY p.opening",
+        {"ts": copy.ts, "begin": copy.moment == "begin", "after": copy.after})
+    for upid, pid, device, met in rows:
+        found[pid, device].append((upid, met))
+    return found
+
+
+def matched(database: sqlite3.Connection, copy: Copy, openings: list[Opening]) -> list[Matched]:
+    """The openings of the books that are certainly some of the capture. Of several by one process, it is known in which
+    order they were opened only if all were seen to be opened."""
+    books: dict[tuple[int, str], list[Opening]] = defaultdict(list)
+    for opening in reversed(openings):
+        books[opening.pid, opening.context].append(opening)
+    found = []
+    for key, ours in open_at(database, copy).items():
+        theirs = books[key]
+        if len(ours) == len(theirs) and (len(ours) == 1 or all(met == "from-start" for _, met in ours)):
+            found += [Matched(upid, opening) for (upid, _), opening in zip(ours, theirs)]
+    return found
+
+
+# ---- the tables
+
+
+# A write gets its number before the driver works on it, and a read only when its call returns: so what a frame did is
+# surely in a copy, or not, if it came this long before or after it, in nanoseconds.
+AROUND = 100_000_000
+
+
+def widened(database: sqlite3.Connection, copy: Copy) -> Copy:
+    """The copy with its numbers further apart: what the frames up to `from_seq` did is surely in it, and what the frames
+    after `after` did is surely not."""
+    def last_until(ts: int) -> int:
+        return database.execute("SELECT max(seq) FROM side_time WHERE ts <= ?", (ts,)).fetchone()[0] or 0
+    return copy._replace(from_seq=min(copy.from_seq, last_until(copy.ts - AROUND)),
+                         after=max(copy.after, last_until(copy.ts + AROUND)))
+
+
+QUIET = {"begin": "SELECT first_seq > :after FROM raw_process WHERE upid = :upid",
+         "end": "SELECT last_seq <= :from FROM raw_process WHERE upid = :upid"}
+
+
+def is_quiet(database: sqlite3.Connection, copy: Copy, upid: int) -> int:
+    """Whether all frames of a process are surely in the copy or, at the beginning, surely not."""
+    row = database.execute(QUIET[copy.moment], {"after": copy.after, "from": copy.from_seq, "upid": upid}).fetchone()
+    return row[0]
+
+
+def sides_of(opening: Opening) -> Iterator[tuple[str, int, Transaction | None]]:
+    """The calls that threads have open: those that they make, also those whose answer is on its way, and those that
+    they serve. Of an error that is on its way no more is known."""
+    for item in opening.outgoing:
+        yield "made", item.thread, item
+    for item in opening.pending:
+        if item.is_reply:
+            yield "made", item.thread, item
+    for thread, count in opening.errors.items():
+        yield from [("made", thread, None)] * count
+    for item in opening.incoming:
+        yield "served", item.thread, item
+
+
+# Frames that the side list has and the capture has not, before its first one or between its last one and the copy: the
+# capture was cut.
+CUT = ("SELECT 1 FROM side_time s, raw_capture c WHERE c.last_seq IS NULL OR s.seq < c.first_seq"
+       " OR :end AND s.seq > c.last_seq AND s.seq <= :from LIMIT 1")
+
+
+def load_state(database: sqlite3.Connection, copy: Copy, text: str) -> None:
+    """What the openings of the capture had by the book `state`; nothing if the capture lacks frames around it."""
+    if database.execute(CUT, {"end": copy.moment == "end", "from": copy.from_seq}).fetchone():
+        return
+    found = matched(database, copy, state(text))
+    moment = copy.moment
+    owners = {number: (one.upid, *map(signed, node)) for one in found for node, number in
+              one.opening.node_numbers.items()}
+    threads = {(upid, tid): utid for upid, tid, utid in database.execute("SELECT upid, tid, utid FROM thread")}
+    for upid, opening in found:
+        database.execute("INSERT INTO book_opening VALUES (?, ?, ?, ?, ?)",
+                         (moment, upid, is_quiet(database, copy, upid), opening.deaths > 0,
+                          opening.clears + opening.cleared_and_dead))
+        database.executemany("INSERT OR REPLACE INTO book_handle VALUES (?, ?, ?, ?, ?, ?, ?, ?, ?, ?)", (
+            (moment, upid, handle, ref.strong, ref.weak, ref.is_dead, handle in opening.requests,
+             *owners.get(ref.node, (None, None, None))) for handle, ref in opening.refs.items()))
+        database.executemany("INSERT OR REPLACE INTO book_node VALUES (?, ?, ?, ?, ?, ?, ?, ?)", (
+            (moment, upid, *map(signed, node), *counts) for node, counts in opening.nodes.items()))
+        unread = {item.number for item in opening.pending}
+        database.executemany("INSERT OR REPLACE INTO book_buffer VALUES (?, ?, ?, ?, ?, ?, ?)", (
+            (moment, upid, number, signed(area.address), area.data, area.offsets, number in unread)
+            for number, area in opening.areas.items()))
+        database.executemany(
+            "INSERT INTO book_call(moment, upid, utid, tid, side, number, code) VALUES (?, ?, ?, ?, ?, ?, ?)",
+            ((moment, upid, threads.get((upid, tid)), tid, side, item and item.number, item and item.code)
+             for side, tid, item in sides_of(opening)))
+
+
+def load(database: sqlite3.Connection, copies: list[Copy], sides: list[str]) -> str | None:
+    """Puts the copies into the database. Returns what is wrong with those that are left out."""
+    wrong = []
+    for copy in copies:
+        text, why = text_of(copy, sides)
+        if text is None:
+            wrong.append(why)
+            continue
+        copy = widened(database, copy)
+        database.execute("INSERT OR REPLACE INTO book VALUES (?, ?, ?, ?, ?)", copy[:5])
+        if copy.what == "state" and copy.moment in ("begin", "end"):
+            try:
+                load_state(database, copy, text)
+            except OverflowError:
+                for table in ("book_opening", "book_handle", "book_node", "book_buffer", "book_call"):
+                    database.execute(f"DELETE FROM {table} WHERE moment = ?", (copy.moment,))
+                wrong.append(f"the copy of {copy.what} at the {copy.moment} has numbers that are none of the driver's")
+    return "; ".join(filter(None, wrong)) or None

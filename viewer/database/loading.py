@@ -1,0 +1,128 @@
+"""From a capture to its database: the programs that read it, the side list, and the rows of the proved report."""
+
+import os
+import pathlib
+import shutil
+import sqlite3
+import struct
+from typing import Callable
+
+from viewer.database import load_books
+from viewer.database.programs import answer, before_fault, build_programs, fault_in
+from viewer.database.raw_tables import load_rows
+from viewer.database.report import load_findings, load_report
+from viewer.database.side_list import SideList
+from viewer.database.sqlite import named_numbers, open_database
+from viewer.files import Stopped, refuse_unreadable
+from viewer.methods.known import Methods, load_methods
+from viewer.program_names import called
+from viewer.rules import agreement
+from viewer.rules.judging import judge
+
+# ---- the names of interfaces and of services
+
+
+def load_names(database: sqlite3.Connection, of: str) -> None:
+    """Puts names together, of which a raw table has eight characters in a number."""
+    names: dict[int, bytes] = {}
+    for number, letters in database.execute(f"SELECT id, letters FROM raw_{of} ORDER BY id, idx"):
+        names[number] = names.get(number, b"") + struct.pack("<q", letters).rstrip(b"\0")
+    database.executemany(f"INSERT INTO {of} VALUES (?, ?)",
+                         ((number, name.decode("ascii")) for number, name in names.items()))
+
+
+# ---- the numbers of replies that are a status
+
+
+# Before the body of an attachment entry come three numbers of 4 bytes (docs/ENVELOPE.md).
+ENTRY_HEAD = 12
+
+
+def status_places(database: sqlite3.Connection) -> list[tuple[int, int | None]]:
+    """The places of such replies, each with that of its attachment entry."""
+    return database.execute("SELECT place, attachment FROM raw_record WHERE kind = :BR_REPLY AND data_size = 4"
+                            " AND flags & :TF_STATUS_CODE", named_numbers(database)).fetchall()
+
+
+def load_status(database: sqlite3.Connection, files: list[str]) -> None:
+    """Reads these numbers in the capture. In the joined capture a part begins where the one before it ends, without
+    the header of its file."""
+    asked, found, shift = status_places(database), [], 0
+    for name in files if asked else ():
+        with open(name, "rb") as part:
+            size = os.fstat(part.fileno()).st_size
+            for place, entry in asked:
+                if entry is not None and 16 <= entry - shift < size:
+                    part.seek(entry - shift + ENTRY_HEAD)
+                    found.append((place, *struct.unpack("<i", part.read(4))))
+        shift += size - 16
+    database.executemany("INSERT INTO status VALUES (?, NULL)", [(place,) for place, _ in asked])
+    database.executemany("INSERT OR REPLACE INTO status VALUES (?, ?)", found)
+
+
+# ---- all of it
+
+
+def load_facts(database: sqlite3.Connection, files: list[str], malformed: str | None,
+               facts: dict[str, object]) -> None:
+    """The table `capture`."""
+    names = ("parts", "bytes", "frames", "records", "first_seq", "last_seq", "missing")
+    row = database.execute(f"SELECT {', '.join(names)} FROM raw_capture").fetchone()
+    shown = os.fsencode(" ".join(os.path.basename(name) for name in files)).decode(errors="replace")
+    known: dict[str, object] = {"file": shown, "side_list": 0, "side_doubt": None, "books_doubt": None,
+                                **dict(zip(names, row)), "malformed": malformed, **facts}
+    known["first_ts"], known["last_ts"] = database.execute(
+        "SELECT (SELECT ts FROM side_time WHERE seq = ?), (SELECT ts FROM side_time WHERE seq = ?)",
+        (row[4], row[5])).fetchone()
+    database.executemany("INSERT INTO capture VALUES (?, ?)", known.items())
+
+
+def fill(database: sqlite3.Connection, files: list[str], side: str | None, has_times: bool, report: pathlib.Path,
+         malformed: str | None, methods: Methods | None = None, beside: list[str] | None = None) -> None:
+    """Adds the side list, the report and its findings to the raw tables. The driver's books are beside the side lists
+    `beside`, or else beside the side list."""
+    database.execute("BEGIN")
+    taken = SideList(database, has_times)
+    if side is not None:
+        taken.load(side)
+        taken.judge()
+        taken.facts["books_doubt"] = load_books.load(database, taken.copies, beside or [side])
+    load_report(database, report)
+    load_facts(database, files, malformed, taken.facts if side is not None else {})
+    load_findings(database)
+    load_names(database, "interface")
+    load_names(database, "service")
+    load_methods(database, methods or {})
+    load_status(database, files)
+    database.execute("COMMIT")
+
+
+def database_of(root: pathlib.Path, files: list[str], side: str | None, made: pathlib.Path,
+                tell: Callable[[str], None], methods: Methods | None = None,
+                beside: list[str] | None = None) -> str | None:
+    """Makes the database of a capture, with the report and the verdicts of the rules, and the names of methods. Returns
+    the line of the capture's first fault, or None."""
+    refuse_unreadable(files)
+    build_programs(root)
+    rows, report, told = (made.with_suffix(f".{what}") for what in ("rows", "report", "told"))
+    rows.mkdir()
+    # One after another, since each of them may need more memory than the capture has bytes.
+    tell("checking the capture")
+    malformed = fault_in(answer(root, report, "audit", "report", *files), report)
+    tell("reading the capture")
+    listed = fault_in(answer(root, told, "listing", "--tables", rows, *files), told)
+    if listed != malformed:
+        raise Stopped(1, f"{called('listing')} and {called('audit')} do not agree: {listed!r} and {malformed!r}")
+    tell("making the database")
+    has_times = load_rows(made, rows, side)
+    shutil.rmtree(rows)
+    database = open_database(made)
+    if malformed:
+        answer(root, report, "audit", "report", *before_fault(database, files, made.parent))
+    tell("applying the rules")
+    fill(database, files, side, has_times, report, malformed, methods, beside)
+    report.unlink()
+    judge(database)
+    agreement.compare(database)
+    database.close()
+    return malformed

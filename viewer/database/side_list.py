@@ -1,0 +1,266 @@
+"""The side list of the recorder, line by line into the tables `side_..`."""
+
+import pathlib
+import re
+import shutil
+import sqlite3
+from typing import Iterable
+
+from viewer.database import load_books, side_belongs
+from viewer.database.process_names import long_name
+from viewer.files import Stopped, for_owner
+from viewer.units import signed
+
+# ---- numbers
+
+
+def number(word: str) -> int:
+    """A number of at most 64 bits, as SQLite has it."""
+    if not (word.isascii() and word.isdigit() and int(word) < 2**64):
+        raise ValueError(word)
+    return signed(int(word))
+
+
+def address(word: str) -> int:
+    """An address of at most 64 bits, as SQLite has it."""
+    if not re.fullmatch("0x[0-9a-f]{1,16}", word):
+        raise ValueError(word)
+    return signed(int(word, 16))
+
+
+def numbers(words: list[str], count: int) -> list[int]:
+    """The first `count` of some numbers; it is an error if there are fewer."""
+    if len(words) < count:
+        raise IndexError(count)
+    return [number(word) for word in words[:count]]
+
+
+# ---- the side list
+
+
+# The longest name that is kept. Those of the system have at most 15 bytes, and command lines at most 256.
+LONGEST_NAME = 256
+
+
+def unescaped(name: str) -> str:
+    """A name of the side list. In the list a control character or a backslash is written as `\\x` and two digits."""
+    name = re.sub(r"\\x([0-9a-f]{2})", lambda found: chr(int(found[1], 16)), name[:4 * LONGEST_NAME + 1])
+    return name if len(name) <= LONGEST_NAME else name[:LONGEST_NAME] + "…"
+
+
+def line_of(line: str, path: str) -> tuple[int, str, list[str], dict[str, str]]:
+    """A line of a side list: time, word, numbers by position, and fields by name."""
+    front, named, name = line.partition(" name=")
+    time, _, rest = front.partition(" ")
+    word, *fields = rest.split(" ")
+    if not (time.isascii() and time.isdigit() and int(time) < 2**63):
+        raise Stopped(4, f"{path} has a line without a time: {line[:80]!r}")
+    positional = [field for field in fields if "=" not in field]
+    keyed = dict(field.split("=", 1) for field in fields if "=" in field)
+    if named:
+        keyed["name"] = unescaped(name)
+    return int(time), word, positional, keyed
+
+
+def joined_sides(paths: list[str], to: pathlib.Path) -> str:
+    """The side lists of the files of a flight recorder as one. Each of them begins with what was met before its file;
+    of all but the first one, that is left out."""
+    if len(paths) == 1:
+        return paths[0]
+    with open(to, "wb", opener=for_owner) as out:
+        for at, path in enumerate(paths):
+            with open(path, "rb") as lines:
+                for line in lines if at else ():
+                    if line.split(b" ", 2)[1:2] == [b"file"]:
+                        break
+                shutil.copyfileobj(lines, out)
+    return str(to)
+
+
+# The most addresses of a stack.
+MOST_OF_STACK = 64
+
+# The time and the number of a frame, of at most 18 digits each.
+FRAME_LINE = re.compile(r"([0-9]{1,18}) frame ([0-9]{1,18})\n")
+
+# The number of a frame and that of its stack.
+CALL_LINE = re.compile(r"[0-9]{1,18} call ([0-9]{1,18}) stack=([0-9]{1,18})\n")
+
+
+class SideList:
+    """Puts the lines of a side list into the database, those of frames only if the database does not have them yet."""
+
+    def __init__(self, database: sqlite3.Connection, has_times: bool):
+        self.database, self.has_times = database, has_times
+        self.facts: dict[str, object] = {"side_list": 1}
+        self.pending: list[tuple[int, int]] = []
+        self.calls: list[tuple[str, str]] = []
+        self.frame: re.Match[str] | None = None
+        self.told = 0
+        self.copies: list[load_books.Copy] = []
+
+    def last(self) -> int:
+        """The last number that has come in the list, of a frame or of a lost frame."""
+        return max(self.told, int(self.frame[2])) if self.frame else self.told
+
+    def load(self, path: str) -> None:
+        """Takes all lines of a side list. A last line that was cut is left out."""
+        try:
+            with open(path, encoding="utf-8", errors="replace", newline="\n") as lines:
+                if next(lines, "") != "binder side list 1\n":
+                    raise Stopped(4, f"{path} is not a side list of version 1")
+                self.read_lines(lines, path)
+        except OSError as error:
+            raise Stopped(4, f"{path}: {error.strerror}") from error
+        self.flush()
+        self.name_processes()
+
+    def name_processes(self) -> None:
+        """A command line may say more than the name of a process. It is kept with spaces between its words."""
+        told = self.database.execute(
+            "SELECT rowid, name, command FROM side_process WHERE command NOTNULL").fetchall()
+        self.database.executemany(
+            "UPDATE side_process SET name = ?, command = ? WHERE rowid = ?",
+            [(long_name(name, command), command.replace("\0", " "), row) for row, name, command in told])
+
+    def judge(self) -> None:
+        """Refuses a list that certainly belongs to another capture, and keeps the doubt if it may belong to another."""
+        if why := side_belongs.why_other(self.database, self.last(), "end_ts" in self.facts):
+            raise Stopped(1, why)
+        self.facts["side_doubt"] = side_belongs.doubt(self.database, self.last())
+
+    def read_lines(self, lines: Iterable[str], path: str) -> None:
+        for line in lines:
+            # Nearly all lines are those of frames and of their stacks, so they are not split like the others.
+            if frame := FRAME_LINE.match(line):
+                self.frame = frame
+                if not self.has_times:
+                    self.add_time(int(frame[1]), int(frame[2]))
+            elif call := CALL_LINE.match(line):
+                self.add_call(call[1], call[2])
+            elif line.endswith("\n"):
+                self.take(line_of(line[:-1], path), path)
+
+    def take(self, line: tuple[int, str, list[str], dict[str, str]], path: str) -> None:
+        time, word, positional, keyed = line
+        taker = getattr(self, f"take_{word}", None)
+        if taker is None:
+            return
+        try:
+            taker(time, positional, keyed)
+        except (KeyError, ValueError, IndexError) as error:
+            raise Stopped(4, f"{path}: the line '{word}' at {time} is not valid") from error
+
+    def flush(self) -> None:
+        self.database.executemany("INSERT OR REPLACE INTO side_time(ts, seq) VALUES (?, ?)", self.pending)
+        self.pending.clear()
+        self.database.executemany("INSERT OR REPLACE INTO side_call VALUES (?, ?)", self.calls)
+        self.calls.clear()
+
+    def add_time(self, time: int, seq: int) -> None:
+        self.pending.append((time, seq))
+        if len(self.pending) >= 100_000:
+            self.flush()
+
+    def add_call(self, seq: str, stack: str) -> None:
+        self.calls.append((seq, stack))
+        if len(self.calls) >= 100_000:
+            self.flush()
+
+    def take_frame(self, time: int, positional: list[str], _: dict[str, str]) -> None:
+        seq, = numbers(positional, 1)
+        self.told = max(self.told, seq)
+        self.add_time(time, seq)
+
+    def take_begin(self, time: int, _: list[str], keyed: dict[str, str]) -> None:
+        self.facts.update(begin_ts=time, realtime=number(keyed["realtime"]), kernel=keyed["kernel"],
+                          machine=keyed["machine"], payloads=keyed.get("payloads"),
+                          boottime=number(keyed["boottime"]) if "boottime" in keyed else None)
+
+    def take_device(self, _: int, positional: list[str], keyed: dict[str, str]) -> None:
+        self.database.execute("INSERT OR REPLACE INTO side_device VALUES (?, ?)",
+                              (*numbers(positional, 1), keyed["name"]))
+
+    def take_process(self, time: int, positional: list[str], keyed: dict[str, str]) -> None:
+        self.database.execute(
+            "INSERT OR REPLACE INTO side_process VALUES (?, ?, ?, ?, ?, ?, ?, NULL, NULL, NULL, NULL)",
+            (*numbers(positional, 2), number(keyed["pid"]), number(keyed["opening"]), keyed["met"], keyed["name"],
+             time))
+
+    def take_command(self, _: int, positional: list[str], keyed: dict[str, str]) -> None:
+        """The last command line counts."""
+        self.database.execute("UPDATE side_process SET command = ?, uid = ? WHERE (device, process) = (?, ?)",
+                              (keyed["name"], number(keyed["uid"]), *numbers(positional, 2)))
+
+    def take_books(self, time: int, positional: list[str], keyed: dict[str, str]) -> None:
+        moment, what = positional[:2]
+        self.copies.append(load_books.Copy(moment, what, number(keyed["from"]), number(keyed["after"]), time,
+                                     number(keyed["bytes"])))
+
+    def take_thread(self, _: int, positional: list[str], keyed: dict[str, str]) -> None:
+        self.database.execute("INSERT OR REPLACE INTO side_thread VALUES (?, ?, ?, ?, ?, NULL, NULL, NULL, ?)",
+                              (*numbers(positional, 3), number(keyed["tid"]), keyed["name"], self.last() + 1))
+
+    def take_name(self, _: int, __: list[str], keyed: dict[str, str]) -> None:
+        """The last name counts. A process has the name of its first thread. What has ended keeps its name."""
+        pid, tid, name = number(keyed["pid"]), number(keyed["tid"]), keyed["name"]
+        self.database.execute("UPDATE side_thread SET name = ? WHERE tid = ? AND ended IS NULL", (name, tid))
+        if tid == pid:
+            self.database.execute("UPDATE side_process SET name = ? WHERE pid = ? AND ended IS NULL", (name, pid))
+
+    def take_lost(self, _: int, positional: list[str], keyed: dict[str, str]) -> None:
+        who = [number(keyed[name]) if name in keyed else None for name in ("device", "process", "thread")]
+        self.database.execute("INSERT OR REPLACE INTO side_lost VALUES (?, ?, ?, ?, ?)",
+                              (*numbers(positional, 1), *who, keyed["why"]))
+        self.told = max(self.last(), *numbers(positional, 1))
+
+    def take_calls(self, _: int, positional: list[str], keyed: dict[str, str]) -> None:
+        self.database.execute("INSERT OR REPLACE INTO side_calls VALUES (?, ?, ?, ?, ?)",
+                              (*numbers(positional, 3), number(keyed["made"]), number(keyed["served"])))
+
+    def take_handle(self, _: int, positional: list[str], __: dict[str, str]) -> None:
+        self.database.execute("INSERT OR REPLACE INTO side_handle VALUES (?, ?, ?)", numbers(positional, 3))
+
+    def take_missed(self, time: int, positional: list[str], keyed: dict[str, str]) -> None:
+        self.database.execute("INSERT INTO side_missed(count, what, from_seq, after, ts) VALUES (?, ?, ?, ?, ?)",
+                              (*numbers(positional, 1), keyed["what"], number(keyed["from"]), number(keyed["after"]),
+                               time))
+
+    def take_call(self, _: int, positional: list[str], keyed: dict[str, str]) -> None:
+        """A line that is not of the usual form."""
+        seq, = numbers(positional, 1)
+        self.database.execute("INSERT OR REPLACE INTO side_call VALUES (?, ?)", (seq, number(keyed["stack"])))
+
+    def take_stack(self, _: int, positional: list[str], keyed: dict[str, str]) -> None:
+        stack, memory, pid = *numbers(positional, 1), number(keyed["memory"]), number(keyed["pid"])
+        self.database.executemany("INSERT OR REPLACE INTO side_pc VALUES (?, ?, ?, ?, ?)",
+                                  [(stack, idx, memory, pid, address(word))
+                                   for idx, word in enumerate(keyed["pcs"].split(",", MOST_OF_STACK)[:MOST_OF_STACK])])
+
+    def take_map(self, _: int, positional: list[str], keyed: dict[str, str]) -> None:
+        """The address of a file that is not known is the place in it."""
+        start, end, offset = (address(keyed[name]) for name in ("start", "end", "offset"))
+        known, build_id = keyed["address"] != "-", keyed["build-id"]
+        if not re.fullmatch("-|([0-9a-f]{2}){1,64}", build_id):
+            raise ValueError(build_id)
+        self.database.execute("INSERT OR REPLACE INTO side_map VALUES (?, ?, ?, ?, ?, ?)",
+                              (*numbers(positional, 1), start, end, address(keyed["address"]) if known else offset,
+                               None if build_id == "-" else build_id, keyed["name"]))
+
+    def take_unstacked(self, _: int, positional: list[str], keyed: dict[str, str]) -> None:
+        self.database.execute("INSERT INTO side_unstacked(count, what, from_seq, after) VALUES (?, ?, ?, ?)",
+                              (*numbers(positional, 1), keyed["what"], number(keyed["from"]), number(keyed["after"])))
+
+    def take_end(self, time: int, positional: list[str], keyed: dict[str, str]) -> None:
+        after, what = number(keyed["after"]), positional[0]
+        if what == "thread":
+            self.database.execute("UPDATE side_thread SET ended_after = ?, ended = ?, why = ? WHERE (device, process,"
+                                  " thread) = (?, ?, ?)", (after, time, keyed["why"], *numbers(positional[1:], 3)))
+        elif what == "opening":
+            self.database.execute("UPDATE side_process SET ended_after = ?, ended = ? WHERE (device, process) = (?, ?)"
+                                  " AND ended IS NULL", (after, time, *numbers(positional[1:], 2)))
+        elif what == "pid":
+            self.database.execute("UPDATE side_process SET ended_after = ?, ended = ? WHERE pid = ? AND ended IS NULL",
+                                  (after, time, *numbers(positional[1:], 1)))
+        elif what == "recording":
+            self.facts.update(end_ts=time, lost=number(keyed["lost"]))

@@ -1,0 +1,150 @@
+#!/usr/bin/env python3
+"""Makes a table of the methods of interfaces, from their sources.
+
+    viewer/methods/table.py SOURCE...
+
+SOURCE... are .aidl and .hal files, and folders, in which it takes all of them. It writes to standard output a line for
+each method, in the order of interfaces and codes, with four fields separated by tabs: interface (as calls name it),
+code, method, and source (file and line, or `-` if it is in no source).
+
+docs/VIEW.md explains the codes. What is left out is told on standard error.
+
+Status 0: the table is written. 1: a source is wrong, and the line on standard error names its file and line; or two
+sources give one code of an interface to two methods; or no source is there. Then nothing is written to standard output.
+4: a file can't be read, or the table can't be written. 64: the command line is not valid.
+"""
+
+import argparse
+import os
+import pathlib
+import signal
+import sys
+from typing import Iterable, Iterator, NoReturn
+
+sys.dont_write_bytecode = True
+sys.path.insert(0, str(pathlib.Path(__file__).resolve().parents[2]))
+from viewer.methods import hal  # noqa: E402
+from viewer.methods.aidl import Aidl  # noqa: E402
+from viewer.methods.sources import Interface, Method, Wrong  # noqa: E402
+from viewer.program_names import as_called, called  # noqa: E402
+
+
+class Words(argparse.ArgumentParser):
+    """The command line. A mistake ends with status 64, as in the other programs here."""
+
+    def error(self, message: str) -> NoReturn:
+        self.print_usage(sys.stderr)
+        self.exit(64, f"{called('methods')}: {message}\n")
+
+
+def shown(text: str) -> str:
+    """A text for a terminal: signs that may change how others look are escaped."""
+    return "".join(sign if sign.isprintable() else ascii(sign)[1:-1] for sign in text)
+
+
+def tell(text: str) -> None:
+    if sys.stderr is not None:
+        sys.stderr.write(f"{called('methods')}: {shown(text)}\n")
+
+
+def fail(error: OSError) -> NoReturn:
+    raise error
+
+
+def files_of(words: Iterable[str]) -> Iterator[str]:
+    """The files that are named, or lie in a folder that is, each folder in the order of names."""
+    for word in words:
+        if not os.path.isdir(word):
+            yield word
+            continue
+        for folder, folders, names in os.walk(word, onerror=fail):
+            folders.sort()
+            for name in sorted(names):
+                path = os.path.join(folder, name)
+                if name.endswith((".aidl", ".hal")):
+                    if os.path.isfile(path):
+                        yield path
+                    else:
+                        tell(f"{path}: left out, as it is no file")
+
+
+def text_of(file: str) -> str:
+    """The text of a source. A name that can't be a field of the table, or has signs that show nothing, is refused."""
+    if not file.isprintable():
+        raise Wrong(file, 1, "the name has a sign that can't be printed")
+    data = pathlib.Path(file).read_bytes()
+    try:
+        return data.decode()
+    except UnicodeDecodeError as error:
+        raise Wrong(file, 1 + data.count(b"\n", 0, error.start), "not UTF-8") from None
+
+
+def interfaces_of(files: Iterable[str]) -> Iterator[Interface]:
+    """The interfaces of all files. Those of .hal come last, as each needs its parents."""
+    owns: list[hal.Own] = []
+    for file in files:
+        if file.endswith(".aidl"):
+            aidl = Aidl(file, text_of(file))
+            aidl.read()
+            for what in aidl.skipped:
+                tell(f"{what}: left out")
+            yield from aidl.found
+        elif file.endswith(".hal"):
+            source = hal.Hal(file, text_of(file))
+            source.read()
+            owns += source.found
+        else:
+            os.stat(file)  # a file that is not there is told as such
+            raise Wrong(file, 1, "neither .aidl nor .hal")
+    if owns:
+        yield from hal.with_parents(owns)
+
+
+def table_of(interfaces: Iterable[Interface]) -> dict[tuple[str, int], Method]:
+    """The methods by interface and code. An interface may come several times, as in the stored versions of a source,
+    as long as each code means one method."""
+    table: dict[tuple[str, int], Method] = {}
+    for interface in interfaces:
+        for method in interface.methods:
+            before = table.setdefault((interface.name, method.code), method)
+            if before.name != method.name:
+                raise Wrong(*place_of(method.source), f"code {method.code} of {interface.name} is {method.name} here,"
+                            f" and {before.name} at {before.source}")
+    return table
+
+
+def place_of(source: str) -> tuple[str, int]:
+    file, _, line = source.rpartition(":")
+    return file, int(line)
+
+
+def main() -> int:
+    line = Words(prog=called("methods"), description=as_called(__doc__ or ""), allow_abbrev=False,
+                 formatter_class=argparse.RawDescriptionHelpFormatter)
+    line.add_argument("sources", metavar="SOURCE", nargs="+")
+    words = line.parse_args().sources
+    try:
+        files = list(files_of(words))
+        if not files:
+            tell(f"no .aidl or .hal file in {' '.join(words)}")
+            return 1
+        table = table_of(interfaces_of(files))
+        if sys.stdout is None:
+            tell("standard output is closed")
+            return 4
+        signal.signal(signal.SIGPIPE, signal.SIG_DFL)
+        sys.stdout.reconfigure(encoding="utf-8", newline="\n")
+        for (interface, code), method in sorted(table.items()):
+            sys.stdout.write(f"{interface}\t{code}\t{method.name}\t{method.source}\n")
+        sys.stdout.flush()
+        return 0
+    except Wrong as wrong:
+        tell(str(wrong))
+        return 1
+    except OSError as error:
+        tell(f"{error.filename or 'standard output'}: {error.strerror}")
+        return 4
+
+
+if __name__ == "__main__":
+    sys.exit(main())

@@ -1,0 +1,91 @@
+"""What a thread did around a place: a line for each record, with the calls drawn as brackets."""
+
+import sqlite3
+from typing import Iterator, NamedTuple
+
+from viewer.rules.names import Names
+
+# At most RECORDS records before the place, and as many after it, within FRAMES frames of all threads; of each frame at
+# most BYTES bytes are looked at.
+RECORDS, FRAMES, BYTES = 6, 20_000, 4000
+
+# BR_TRANSACTION_COMPLETE and BR_NOOP say least.
+LEFT_OUT = "(262, 268)"
+
+
+class Line(NamedTuple):
+    place: int
+    seq: int
+    text: str
+
+
+def fields_of(names: Names, kind: str, handle: int | None, code: int | None, size: int | None, address: int | None,
+              cookie: int | None, interface: int | None, to: int | None, ptr: int | None) -> str:
+    is_call = code is not None and not kind.endswith("_REPLY")
+    told = [kind]
+    told += [f"{name}={value}" for name, value in (("handle", handle), ("code", code if is_call else None))
+             if value is not None]
+    told += [names.field(code, interface)] if is_call and names.named(code, None, None, interface) else []
+    told += [f"service={names.services[to, ptr]}"] if (to, ptr) in names.services else []
+    told += [f"data_size={size}"] if size is not None else []
+    told += [f"{name}=0x{value % 2**64:x}" for name, value in (("address", address), ("cookie", cookie)) if value]
+    return " ".join(told)
+
+
+# The last two say to which object something is sent, or has come.
+FIELDS = ("SELECT r.place, r.seq, k.name, r.handle, r.code, r.data_size, r.address, r.cookie, r.interface,"
+          + ",".join(f" coalesce((SELECT v.{key} FROM sent_to v WHERE v.place = r.place),"
+                     f" (SELECT v.{key} FROM came_to v WHERE v.place = r.place))" for key in ("upid", "ptr")))
+WANTED = f"JOIN kind k ON k.number = r.kind WHERE r.kind NOT IN {LEFT_OUT} ORDER BY r.place"
+OF_THREAD = "FROM (SELECT * FROM raw_frame WHERE utid = :utid AND records > 0 AND seq BETWEEN"
+ITS_SEQ = "(SELECT seq FROM raw_record WHERE place = :place)"
+BEFORE = (f"{FIELDS} {OF_THREAD} {ITS_SEQ} - {FRAMES} AND {ITS_SEQ} ORDER BY seq DESC LIMIT :count) f"
+          " JOIN raw_record r ON r.place"
+          " BETWEEN max(f.place + 32, min(f.place + 31 + f.command_length, :place) - :bytes)"
+          f" AND min(f.place + 31 + f.command_length, :place) {WANTED} DESC LIMIT :count")
+AFTER = (f"{FIELDS} {OF_THREAD} {ITS_SEQ} AND {ITS_SEQ} + {FRAMES} ORDER BY seq LIMIT :count) f"
+         " JOIN raw_record r ON r.place BETWEEN max(f.place + 32, :place + 1)"
+         f" AND min(f.place + 31 + f.command_length, max(f.place + 32, :place) + :bytes) {WANTED} LIMIT :count")
+
+
+def records(database: sqlite3.Connection, names: Names, query: str, utid: int, place: int, count: int) -> list[Line]:
+    """The records of a thread before a place or after it, in the order of the file."""
+    rows = database.execute(query, {"utid": utid, "place": place, "bytes": BYTES, "count": count})
+    return sorted(Line(row[0], row[1], fields_of(names, *row[2:])) for row in rows)
+
+
+def open_calls(database: sqlite3.Connection, utid: int, place: int) -> list[int]:
+    """The closers of the calls that a thread has open before a place, the outermost first; 2^63 for a call without
+    one."""
+    row = database.execute("SELECT place, closer, parent FROM raw_call WHERE utid = ? AND place < ?"
+                           " ORDER BY place DESC LIMIT 1", (utid, place)).fetchone()
+    found = []
+    while row is not None:
+        if row[1] is None or row[1] >= place:
+            found.append(2**63 if row[1] is None else row[1])
+        row = database.execute("SELECT place, closer, parent FROM raw_call WHERE place = ?", (row[2],)).fetchone()
+    return found[::-1]
+
+
+def lane_of(database: sqlite3.Connection, names: Names, utid: int, place: int) -> Iterator[tuple[str, bool]]:
+    """The lines of a lane, each with whether it is that of the place."""
+    lines = (records(database, names, BEFORE, utid, place, RECORDS + 1)
+             + records(database, names, AFTER, utid, place, RECORDS))
+    if not lines:
+        return
+    openers = dict(database.execute("SELECT place, coalesce(closer, 9223372036854775807) FROM raw_call"
+                                    " WHERE utid = ? AND place BETWEEN ? AND ?",
+                                    (utid, lines[0].place, lines[-1].place)))
+    stack = open_calls(database, utid, lines[0].place)
+    yield f"{'place':>10} {'seq':>8}", False
+    for line in lines:
+        while stack and stack[-1] < line.place:
+            stack.pop()
+        bars = "│ " * len(stack)
+        if line.place in openers:
+            bars += "┌ "
+            stack.append(openers[line.place])
+        elif stack and stack[-1] == line.place:
+            stack.pop()
+            bars = "│ " * len(stack) + "└ "
+        yield f"{line.place:>10} {line.seq:>8}  {bars}{line.text}", line.place == place

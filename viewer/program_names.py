@@ -1,0 +1,25 @@
+"""Where the programs are and how they are called: in the repository, or in a package of `./package`."""
+
+import pathlib
+import re
+
+FOLDER = pathlib.Path(__file__).resolve().parent
+
+# A package has no sources. Its programs are in lib/binder-audit, and their names begin with `binder-`.
+PACKED = not (FOLDER / "database/load.c").exists()
+LIBRARY = FOLDER.parents[2] / "lib/binder-audit"
+
+# The programs that the repository has, by the names that follow `binder-` in a package.
+PROGRAMS = {**{name: f"./{name}" for name in ("audit", "listing", "record", "view")},
+            "methods": "viewer/methods/table.py"}
+NAMES = {command: name for name, command in PROGRAMS.items()}
+
+
+def called(program: str) -> str:
+    """The command by which a user calls a program."""
+    return f"binder-{program}" if PACKED else PROGRAMS[program]
+
+
+def as_called(text: str) -> str:
+    """A text in which the programs are called as here."""
+    return re.sub(r"\./(audit|listing|record|view)\b|viewer/methods/table\.py", lambda found: called(NAMES[found[0]]), text)

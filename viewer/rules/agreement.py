@@ -1,0 +1,135 @@
+"""Whether the report agrees with the driver's books at the end of the recording. After the rules.
+
+An opening is compared if it had no frame any more when the books were copied, no frames of it are missing, and it is
+known what it held when the recording began: nothing, or what the books of then have. What the books say of it is in the
+tables that load_books.py fills."""
+
+import sqlite3
+
+from viewer.units import counted
+
+# The openings that are compared.
+COMPARED = """CREATE TEMP TABLE compared AS
+SELECT e.upid, e.deaths FROM book_opening e JOIN process p USING (upid)
+  LEFT JOIN book_opening b ON b.moment = 'begin' AND b.upid = e.upid
+WHERE e.moment = 'end' AND e.quiet AND e.upid NOT IN (SELECT upid FROM lossy)
+  AND (p.met = 'from-start' OR p.met = 'in-mid-life' AND b.quiet)"""
+
+# What both sides say of an opening: its section, what it is about, and a number. The report counts from nothing, so
+# what the books had at the beginning is added to it. What is on its way to a process is in the books alone.
+
+# A buffer with objects holds references too. Where one was on its way, or was from before the recording, the references
+# of handles are not compared.
+CARRIERS = "SELECT upid FROM book_buffer WHERE offsets_size > 0 AND (unread OR moment = 'begin')"
+
+QUERIES = {
+    # The driver ignores a release of what is not held; the report counts it, and its low makes up for that.
+    "handles": f"""
+SELECT upid, 'handle ' || handle || what, sum(counted + had + held) - min(0, sum(low + had)), sum(books) FROM (
+  SELECT p.upid, number_in(r.section, r.text, 'handle') AS handle, w.what,
+    number_in(r.section, r.text, w.name) AS counted, number_in(r.section, r.text, w.name || '_low') AS low,
+    number_in(r.section, r.text, 'held_' || w.name) AS held, 0 AS had, 0 AS books
+  FROM report r JOIN process p USING (device, process), way w WHERE r.section = 'handles'
+  UNION ALL SELECT upid, handle, what, 0, 0, 0, iif(moment = 'begin', iif(name = 'strong', strong, weak), 0),
+    iif(moment = 'end', iif(name = 'strong', strong, weak), 0) FROM book_handle, way)
+WHERE upid NOT IN ({CARRIERS}) GROUP BY upid, handle, what""",
+    # The driver itself has references to the node of a context manager.
+    "nodes": """
+SELECT upid, 'node ' || printf('0x%x', ptr) || what, sum(report), sum(books) FROM (
+  SELECT f.upid, f.ptr, f.cookie, w.what, number_in(r.section, r.text, w.name) AS report, 0 AS books
+  FROM finding f JOIN report r ON r.id = f.report, way w WHERE f.section = 'nodes'
+  UNION ALL SELECT upid, ptr, cookie, what,
+    iif(moment = 'begin', iif(name = 'strong', strong, weak), 0) + (moment = 'end' AND ptr = 0 AND cookie = 0)
+      - (moment = 'begin' AND ptr = 0 AND cookie = 0),
+    iif(moment = 'end', iif(name = 'strong', strong, weak), 0) FROM book_node, way)
+GROUP BY upid, ptr, cookie, what""",
+    "buffers": """
+SELECT upid, what, sum(iif(of = 'buffers', report_n, report_bytes)), sum(iif(of = 'buffers', books_n, books_bytes))
+FROM (SELECT upid, 1 AS report_n, number_in('buffers', text, 'data_size') AS report_bytes, 0 AS books_n,
+    0 AS books_bytes FROM report JOIN process USING (device, process) WHERE section = 'buffers'
+  UNION ALL SELECT upid, 0, 0, 1, data_size FROM book_buffer e WHERE moment = 'end' AND NOT unread
+    AND NOT EXISTS (SELECT 1 FROM book_buffer b WHERE b.moment = 'begin' AND (b.upid, b.number) = (e.upid, e.number)
+      AND NOT b.unread)),
+  (SELECT 'buffers' AS of, 'buffers' AS what UNION ALL SELECT 'bytes', 'bytes in buffers')
+GROUP BY upid, what""",
+    # A thread that left or ended has no calls any more. Of a call that was made before the recording it is not known
+    # which answer is on its way.
+    "calls": """
+SELECT upid, 'calls ' || side, sum(report), sum(books) FROM (
+  SELECT t.upid, iif(f.section = 'calls', 'made', 'served') AS side, 1 AS report, 0 AS books
+  FROM finding f JOIN thread t USING (utid), book k
+  WHERE f.section IN ('calls', 'served') AND f.what = 'open' AND k.moment = 'end' AND k.what = 'state'
+    AND coalesce(t.ended > k.ts, 1)
+  UNION ALL SELECT upid, side, 0, 1 FROM book_call e WHERE moment = 'end' AND NOT EXISTS (
+    SELECT 1 FROM book_call b WHERE b.moment = 'begin' AND (b.upid, b.number) = (e.upid, e.number)))
+WHERE upid NOT IN (SELECT upid FROM book_call WHERE moment = 'begin' AND side = 'made') GROUP BY upid, side""",
+    # The driver says that deaths wait for acknowledgement, and not how many.
+    "deaths": """
+SELECT upid, 'deaths not acknowledged', max(report), max(books) FROM (
+  SELECT upid, 1 AS report, 0 AS books FROM finding WHERE section = 'deaths' AND what = 'unacknowledged'
+  UNION ALL SELECT upid, 0, deaths FROM compared)
+WHERE upid NOT IN (SELECT upid FROM book_opening WHERE moment = 'begin' AND deaths) GROUP BY upid""",
+    # A request that waits for a death. The driver keeps it after it has told of the death.
+    "requests": """
+SELECT upid, 'request for handle ' || handle, max(report), max(books) FROM (
+  SELECT upid, handle, 1 AS report, 0 AS books FROM finding WHERE rule = 'D5'
+  UNION ALL SELECT upid, handle, 0, 1 FROM book_handle b WHERE moment = 'end' AND requested
+    AND NOT EXISTS (SELECT 1 FROM told t WHERE (t.upid, t.handle) = (b.upid, b.handle))
+    AND NOT EXISTS (SELECT 1 FROM book_handle x WHERE x.moment = 'begin' AND (x.upid, x.handle) = (b.upid, b.handle)
+      AND x.requested))
+GROUP BY upid, handle"""}
+
+
+INSERT = """WITH said(upid, what, report, books) AS ({query})
+INSERT INTO disagreement(upid, section, what, report, books)
+SELECT upid, ?, what, report, books FROM said JOIN compared USING (upid)
+WHERE report IS NOT books ORDER BY upid, what"""
+
+
+def compare(database: sqlite3.Connection) -> None:
+    """Puts what differs into the table `disagreement`, and how many openings were compared into `capture`."""
+    if not database.execute("SELECT 1 FROM book_opening WHERE moment = 'end'").fetchone():
+        return
+    database.execute(COMPARED)
+    database.execute("CREATE TEMP TABLE way AS SELECT 'strong' AS name, '' AS what UNION ALL SELECT 'weak', ', weakly'")
+    for section, query in QUERIES.items():
+        database.execute(INSERT.format(query=query), (section,))
+    database.execute("INSERT INTO capture SELECT 'books_compared', count(*) FROM compared")
+    database.execute("INSERT INTO capture SELECT 'books_left_out', count(*) - (SELECT count(*) FROM compared)"
+                     " FROM book_opening WHERE moment = 'end'")
+
+
+# The most differences that the line names.
+NAMED = 8
+
+
+# Why no opening is in the books of the end that are there.
+NOTHING = """SELECT CASE
+  WHEN NOT EXISTS (SELECT 1 FROM process p WHERE p.met NOTNULL AND coalesce(p.ended > b.ts, 1))
+  THEN 'all processes had ended before the copy of them was made'
+  WHEN c.last_seq IS NULL OR EXISTS (SELECT 1 FROM side_time s WHERE s.seq < c.first_seq
+    OR s.seq > c.last_seq AND s.seq <= b.from_seq) THEN 'the capture was cut'
+  ELSE 'it is not certain which of the openings in them are those of the capture' END
+FROM book b, raw_capture c WHERE b.moment = 'end' AND b.what = 'state'"""
+
+
+def line_of(database: sqlite3.Connection) -> str | None:
+    """Says that both agree, or where not, or why nothing is compared; None if there are no books of the end."""
+    known = dict(database.execute("SELECT key, value FROM capture WHERE key GLOB 'books_*'"))
+    left = known.get("books_left_out", 0)
+    if not known.get("books_compared"):
+        nothing = database.execute(NOTHING).fetchone()
+        if nothing is None:
+            return None
+        why = f"of {counted(left, 'opening')} it is not certain what was held then" if left else nothing[0]
+        return f"The driver's books at the end are not compared with the report: {why}."
+    of = counted(known["books_compared"], "opening")
+    more = f"; {counted(left, 'other')} cannot be compared" if left else ""
+    rows = database.execute("SELECT who, what, report, books FROM disagreement JOIN who USING (upid)"
+                            " ORDER BY disagreement.id").fetchall()
+    if not rows:
+        return f"The driver's books at the end agree with the report on {of}{more}."
+    told = "; ".join(f"{who}: {what} {report} by the report and {books} by the books"
+                     for who, what, report, books in rows[:NAMED])
+    told += f"; and {len(rows) - NAMED} more" if len(rows) > NAMED else ""
+    return f"The driver's books at the end differ from the report on {of}: {told}{more}."

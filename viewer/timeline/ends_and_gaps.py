@@ -1,0 +1,75 @@
+"""What a timeline shows that is not a record: ends of threads and processes, and frames that are missing."""
+
+import sqlite3
+from typing import Iterator
+
+from viewer.timeline.tracks import MARK, Mark, Tracks
+
+# A place after all others.
+LAST = 2**64
+
+# The place of the first frame after one.
+NEXT_FRAME = "coalesce((SELECT f.place FROM raw_frame f WHERE f.seq > {} ORDER BY f.seq LIMIT 1), 9223372036854775807)"
+
+# A place before which a mark comes, what the row is about, and the mark.
+Row = tuple[int, int, Mark]
+
+
+def ends_of(database: sqlite3.Connection, tracks: Tracks) -> list[Row]:
+    """The ends of threads and processes up to the last frame. What has ended has no later frame."""
+    found: list[Row] = []
+    after = f"max(t.ended_after, t.last_seq) AS after, {NEXT_FRAME.format('max(t.ended_after, t.last_seq)')}"
+    for utid, why, seq, place, ts in database.execute(
+            f"SELECT t.utid, t.why, {after}, t.ended FROM thread t, raw_capture c WHERE t.ended_after <= c.last_seq"):
+        found.append((place, MARK, Mark(seq, ts, "thread ended", "end", {"after": seq, "why": why}, utid=utid,
+                                        why="its thread ended", threads=(utid,))))
+    of: dict[int, list[int]] = {}
+    for utid, upid in tracks.upid_of.items():
+        of.setdefault(upid, []).append(utid)
+    for upid, seq, place, ts in database.execute(
+            f"SELECT t.upid, {after}, t.ended FROM process t, raw_capture c WHERE t.ended_after <= c.last_seq"):
+        found.append((place, MARK, Mark(seq, ts, "process ended", "end", {"after": seq}, upid=upid,
+                                        why="its process ended", threads=tuple(of.get(upid, ())), processes=(upid,))))
+    return sorted(found, key=lambda row: (row[0], row[2].seq, len(row[2].processes)))
+
+
+def lost_of(database: sqlite3.Connection, tracks: Tracks) -> Iterator[Row]:
+    """The frames that the recorder lost, as the side list tells."""
+    threads = {numbers: utid for utid, _, *numbers_, _ in tracks.threads for numbers in [tuple(numbers_)]}
+    processes = {(device, process): upid for upid, device, _, process, *_ in tracks.processes}
+    for seq, device, process, thread, why, place in database.execute(
+            f"SELECT l.seq, l.device, l.process, l.thread, l.why, {NEXT_FRAME.format('l.seq')} FROM side_lost l,"
+            " raw_capture c WHERE l.seq BETWEEN c.first_seq AND c.last_seq ORDER BY l.seq"):
+        utid, upid = threads.get((device, process, thread)), processes.get((device, process))
+        yield place, MARK, Mark(seq, None, "lost frame", "lost", {"seq": seq, "why": why}, utid=utid, upid=upid)
+
+
+def missed_of(database: sqlite3.Connection) -> Iterator[Row]:
+    """What the recorder missed without giving it a number."""
+    for what, count, first, after, ts, place in database.execute(
+            f"SELECT m.what, m.count, m.from_seq, m.after, m.ts, {NEXT_FRAME.format('m.after')} FROM side_missed m,"
+            " raw_capture c WHERE m.after >= c.first_seq - 1 AND m.from_seq <= c.last_seq ORDER BY m.after, m.id"):
+        yield place, MARK, Mark(after, ts, "missed", "lost", {"what": what, "count": count, "from": first,
+                                                              "after": after})
+
+
+# The frames after a number that no frame has, each with the number of the frame before. A number of 2**63 or more is
+# stored less 2**64. Looking each number up takes a tenth of the time in which the frames are sorted.
+AFTER_GAPS = """
+SELECT g.place, g.before, g.seq, (SELECT count(*) FROM side_lost l WHERE l.seq > g.before AND l.seq < g.seq)
+FROM (SELECT f.place, f.seq, coalesce((SELECT max(b.seq) FROM raw_frame b WHERE b.seq < f.seq AND (b.seq < 0) =
+    (f.seq < 0)), iif(f.seq < 0, (SELECT max(b.seq) FROM raw_frame b WHERE b.seq >= 0), NULL)) AS before
+  FROM raw_frame f WHERE NOT EXISTS (SELECT 1 FROM raw_frame p WHERE p.seq = f.seq - 1)) g
+WHERE g.before NOTNULL ORDER BY g.place"""
+
+
+def gaps_of(database: sqlite3.Connection) -> Iterator[Row]:
+    """Numbers that no frame has and of which the side list says nothing."""
+    missing, lost = database.execute("SELECT missing, (SELECT count(*) FROM side_lost WHERE seq BETWEEN first_seq AND"
+                                     " last_seq) FROM raw_capture").fetchone()
+    if missing % 2**64 == lost:
+        return
+    for place, before, seq, told in database.execute(AFTER_GAPS):
+        count = (seq - before - 1) % 2**64 - told
+        if count:
+            yield place, MARK, Mark(before, None, "missing frames", "lost", {"after": before % 2**64, "count": count})

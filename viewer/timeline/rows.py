@@ -1,0 +1,144 @@
+"""The rows of which a timeline is made, in the order of the capture. A process of its own reads them from the database,
+while the timeline of those before is made."""
+
+import marshal
+import operator
+import os
+import pathlib
+import signal
+import sqlite3
+from typing import BinaryIO, Iterator, NoReturn
+
+from viewer.database.sqlite import named_numbers
+from viewer.timeline.tracks import MARK
+
+# What a row is about, and its order among rows of one place.
+SEND, DELIVERY, RECORD, FINDING = range(MARK + 1, MARK + 5)
+
+# How many bytes of the capture are read at a time.
+STRETCH = 2**18
+
+# The rows of a stretch of the capture.
+QUERIES = {
+    # A send, its call, its delivery if each names the other, and the node that its handle leads to.
+    SEND: """
+SELECT s.place, :what, s.seq, x.ts, s.utid, r.code, r.data_size, r.handle, c.verdict, c.closer, s.refused, s.certain,
+  s.fits, e.place, e.utid, e.seq, n.upid, n.certain, n.ptr, r.interface
+FROM raw_send s CROSS JOIN raw_record r ON r.place = s.place LEFT JOIN side_time x ON x.seq = s.seq
+  LEFT JOIN raw_call c ON c.place = s.place LEFT JOIN raw_delivery e ON e.place = s.delivery AND e.send = s.place
+  LEFT JOIN node_of n ON n.generation = s.generation
+WHERE s.place >= :begin AND s.place < :end ORDER BY s.place""",
+    # A delivery, its call, and its send if each names the other.
+    DELIVERY: """
+SELECT d.place, :what, d.seq, x.ts, d.utid, r.kind, r.code, r.flags, r.data_size, r.ptr, r.cookie, r.sender_pid,
+  d.freed_by, c.verdict, c.closer, p.place, p.utid, p.seq, p.certain, p.fits,
+  iif(r.flags & :TF_ONE_WAY, (SELECT y.ts FROM side_time y WHERE y.seq = p.seq), NULL), r.interface
+FROM raw_delivery d CROSS JOIN raw_record r ON r.place = d.place LEFT JOIN side_time x ON x.seq = d.seq
+  LEFT JOIN raw_call c ON c.place = d.place LEFT JOIN raw_send p ON p.place = d.send AND p.delivery = d.place
+WHERE d.place >= :begin AND d.place < :end ORDER BY d.place""",
+    RECORD: """
+SELECT r.place, :what, r.seq, x.ts, r.utid, r.kind, r.handle, r.cookie, r.value,
+  iif(r.kind IN (:BR_DEAD_REPLY, :BR_FAILED_REPLY, :BR_FROZEN_REPLY),
+    (SELECT q.place FROM raw_send q WHERE q.refused = r.place), NULL)
+FROM raw_record r LEFT JOIN side_time x ON x.seq = r.seq
+WHERE r.kind IN (:BC_FREE_BUFFER, :BC_ACQUIRE, :BC_RELEASE, :BR_ERROR, :BR_DEAD_REPLY, :BR_FAILED_REPLY,
+  :BR_FROZEN_REPLY, :BR_DEAD_BINDER, :BR_ONEWAY_SPAM_SUSPECT)
+  AND r.place >= :begin AND r.place < :end ORDER BY r.place"""}
+
+FINDINGS = """
+SELECT f.place, :what, f.seq, x.ts, f.utid, u.verdict, g.title, f.section, f.path, f.rule, u.text, f.note
+FROM finding f JOIN rule u ON u.id = f.rule JOIN finding_head h ON h.id = f.id JOIN finding_group g ON g.grp = h.grp
+  LEFT JOIN side_time x ON x.seq = f.seq
+WHERE f.utid NOTNULL AND f.place NOTNULL AND u.verdict <> 'normal' ORDER BY f.place, f.id"""
+
+BY_PLACE = operator.itemgetter(0)
+
+
+class Ahead:
+    """Rows in the order of places, of which the next one is known."""
+
+    def __init__(self, rows: Iterator[tuple]):
+        self.rows = rows
+        self.next = next(rows, None)
+
+    def before(self, place: float) -> Iterator[tuple]:
+        while self.next is not None and self.next[0] < place:
+            yield self.next
+            self.next = next(self.rows, None)
+
+
+# ---- in the process that reads
+
+
+def read(database: sqlite3.Connection) -> Iterator[list[tuple]]:
+    """The rows of stretch after stretch. Sorting goes to the disk."""
+    for setting in ("cache_size=-16384", "temp_store=FILE"):
+        database.execute(f"PRAGMA {setting}")
+    numbers = named_numbers(database)
+    findings = Ahead(database.execute(FINDINGS, {"what": FINDING}))
+    last, = database.execute("SELECT coalesce(max(place), 0) FROM raw_record").fetchone()
+    for begin in range(0, last + 1, STRETCH):
+        rows: list[tuple] = []
+        for what, query in QUERIES.items():
+            rows += database.execute(query, {**numbers, "what": what, "begin": begin, "end": begin + STRETCH})
+        rows += findings.before(begin + STRETCH)
+        rows.sort(key=BY_PLACE)  # rows of one place stay in this order
+        yield rows
+
+
+def send(path: str, into: int) -> NoReturn:
+    """Writes the rows into a pipe, and ends the process with status 0 if that is all of them."""
+    status = 1
+    try:
+        for which in (signal.SIGINT, signal.SIGTERM):
+            signal.signal(which, signal.SIG_DFL)
+        # Nobody writes to the database meanwhile, and it is locked.
+        database = sqlite3.connect(f"{pathlib.Path(path).as_uri()}?immutable=1", uri=True)
+        with open(into, "wb") as pipe:
+            for rows in read(database):
+                data = marshal.dumps(rows)
+                pipe.write(len(data).to_bytes(8, "little") + data)
+        status = 0
+    finally:
+        os._exit(status)
+
+
+# ---- in the process that asks
+
+
+def received(pipe: BinaryIO) -> Iterator[list[tuple]]:
+    """What comes from the pipe, up to its end, or to a stretch that is cut off because the other process was killed."""
+    while head := pipe.read(8):
+        length = int.from_bytes(head, "little")
+        if len(data := pipe.read(length)) < length:
+            return
+        yield marshal.loads(data)
+
+
+class Rows:
+    """The rows, stretch after stretch, each in a list. The process that reads them ends with the block."""
+
+    def __init__(self, database: sqlite3.Connection):
+        path = next(file for _, name, file in database.execute("PRAGMA database_list") if name == "main")
+        out, into = os.pipe()
+        self.reader = os.fork()
+        if self.reader == 0:
+            os.close(out)
+            send(path, into)
+        os.close(into)
+        self.pipe = open(out, "rb")
+
+    def __enter__(self) -> Iterator[list[tuple]]:
+        return self.all()
+
+    def __exit__(self, *_: object) -> None:
+        self.pipe.close()
+        if self.reader:
+            os.kill(self.reader, signal.SIGKILL)
+            os.waitpid(self.reader, 0)
+
+    def all(self) -> Iterator[list[tuple]]:
+        yield from received(self.pipe)
+        reader, self.reader = self.reader, 0
+        if os.waitpid(reader, 0)[1]:
+            raise sqlite3.OperationalError("its rows can't be read")
