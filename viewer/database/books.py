@@ -6,7 +6,7 @@ from typing import NamedTuple
 
 TRANSACTION = re.compile(
     r"(outgoing|incoming|bad|pending|pending async) transaction (\d+): \S+ from (-?\d+):(-?\d+) to (-?\d+):(-?\d+)"
-    r"(?: context \S+)? code ([0-9a-f]+) flags ([0-9a-f]+)(?: .*?\br(\d+))?(?:.* node (\d+) )?")
+    r"(?: context \S+)? code ([0-9a-f]+) flags ([0-9a-f]+)(?: .*?\b(a\d+ )?r(\d+))?(?:.* node (\d+) )?")
 NODE = re.compile(r"node (\d+): u([0-9a-f]+) c([0-9a-f]+) (?:pri \d+:\d+ )?hs (\d+) hw (\d+) ls (-?\d+) lw (-?\d+)")
 REF = re.compile(r"ref \d+: desc (\d+) (dead )?node (\d+) s (-?\d+) w (-?\d+) d ([0-9a-f]+|\(____ptrval____\))")
 BUFFER = re.compile(r"buffer (\d+): ([0-9a-f]+) size (\d+):(\d+):(\d+) (active|delivered)")
@@ -93,8 +93,9 @@ class Opening:
 
     def take_transaction(self, found: re.Match[str], thread: int) -> None:
         kind, flags = found[1], int(found[8], 16)
-        is_reply = kind == "pending" and found[9] == "0" and not flags & TF_ONE_WAY
-        item = Transaction(int(found[2]), thread, int(found[7], 16), flags, int(found[10] or 0), is_reply)
+        # `r` says whether a reply is needed; after `a`, in newer kernels, whether this is one.
+        is_reply = kind == "pending" and found[10] == ("1" if found[9] else "0") and not flags & TF_ONE_WAY
+        item = Transaction(int(found[2]), thread, int(found[7], 16), flags, int(found[11] or 0), is_reply)
         lists = {"outgoing": self.outgoing, "incoming": self.incoming}
         lists.get(kind, self.pending).append(item)
 

@@ -6,6 +6,7 @@ tables that load_books.py fills."""
 
 import sqlite3
 
+from viewer.database.sqlite import named_numbers
 from viewer.units import counted
 
 # The openings that are compared.
@@ -69,20 +70,23 @@ SELECT upid, 'deaths not acknowledged', max(report), max(books) FROM (
   SELECT upid, 1 AS report, 0 AS books FROM finding WHERE section = 'deaths' AND what = 'unacknowledged'
   UNION ALL SELECT upid, 0, deaths FROM compared)
 WHERE upid NOT IN (SELECT upid FROM book_opening WHERE moment = 'begin' AND deaths) GROUP BY upid""",
-    # A request that waits for a death. The driver keeps it after it has told of the death.
+    # A request that waits for a death. The driver keeps it after it has told of the death, until nothing holds the
+    # handle; then the number may mean another object, with a request of its own.
     "requests": """
 SELECT upid, 'request for handle ' || handle, max(report), max(books) FROM (
   SELECT upid, handle, 1 AS report, 0 AS books FROM finding WHERE rule = 'D5'
   UNION ALL SELECT upid, handle, 0, 1 FROM book_handle b WHERE moment = 'end' AND requested
-    AND NOT EXISTS (SELECT 1 FROM told t WHERE (t.upid, t.handle) = (b.upid, b.handle))
-    AND NOT EXISTS (SELECT 1 FROM book_handle x WHERE x.moment = 'begin' AND (x.upid, x.handle) = (b.upid, b.handle)
-      AND x.requested))
+    AND coalesce((SELECT max(place) FROM dead_record q WHERE (q.upid, q.handle) = (b.upid, b.handle)
+        AND q.kind = :BC_REQUEST_DEATH_NOTIFICATION)
+      > coalesce((SELECT max(place) FROM told t WHERE (t.upid, t.handle) = (b.upid, b.handle)), -1),
+      NOT EXISTS (SELECT 1 FROM book_handle x WHERE x.moment = 'begin' AND (x.upid, x.handle) = (b.upid, b.handle)
+        AND x.requested)))
 GROUP BY upid, handle"""}
 
 
 INSERT = """WITH said(upid, what, report, books) AS ({query})
 INSERT INTO disagreement(upid, section, what, report, books)
-SELECT upid, ?, what, report, books FROM said JOIN compared USING (upid)
+SELECT upid, :section, what, report, books FROM said JOIN compared USING (upid)
 WHERE report IS NOT books ORDER BY upid, what"""
 
 
@@ -91,9 +95,10 @@ def compare(database: sqlite3.Connection) -> None:
     if not database.execute("SELECT 1 FROM book_opening WHERE moment = 'end'").fetchone():
         return
     database.execute(COMPARED)
+    numbers = named_numbers(database)
     database.execute("CREATE TEMP TABLE way AS SELECT 'strong' AS name, '' AS what UNION ALL SELECT 'weak', ', weakly'")
     for section, query in QUERIES.items():
-        database.execute(INSERT.format(query=query), (section,))
+        database.execute(INSERT.format(query=query), {**numbers, "section": section})
     database.execute("INSERT INTO capture SELECT 'books_compared', count(*) FROM compared")
     database.execute("INSERT INTO capture SELECT 'books_left_out', count(*) - (SELECT count(*) FROM compared)"
                      " FROM book_opening WHERE moment = 'end'")

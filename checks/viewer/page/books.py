@@ -14,29 +14,49 @@ from checks.viewer.sessions.session import *
 
 # ---- a session that ends with one of each thing that is compared, and the book of that
 
-REQUESTED = ref(1).replace(" d 0000000000000000", " d ff49ec2a01bc3840")
+
+def asking(reference: str) -> str:
+    """The line of a handle whose death is asked for."""
+    return reference.replace(" d 0000000000000000", " d ff49ec2a01bc3840")
+
+
+REQUESTED = asking(ref(1))
 CLIENT = thread(200, transaction_of("outgoing")) + REQUESTED
 SERVICE = (thread(100, transaction_of("incoming")) + own(0x100) + buffer(0x7238).replace("size 28", "size 4")
            + "  buffer 102: 0000000000007300 size 0:0:0 active\n")
+# The same if the call waits for a thread.
+WAITING = SERVICE.removeprefix(thread(100, transaction_of("incoming"))) + f"  {transaction_of('pending')}\n"
 AGREED = "The driver's books at the end agree with the report on 2 openings."
 NOT_COMPARED = "The driver's books at the end are not compared with the report"
 
 
 def play(s: Session, client: str = CLIENT, service: str = SERVICE, later: int = 0, had: bool = False,
-         ended: bool = False, absent: bool = False) -> None:
+         ended: bool = False, absent: bool = False, waits: bool = False, asked: bool = False,
+         restarted: bool = False) -> None:
     """What the book of the end has. `later`: so many of both go on after it; `had`: the client was met with two more
-    references; `ended`: both have ended before; `absent`: the book has neither."""
+    references; `ended`: both have ended before; `absent`: the book has neither; `waits`: no thread got the call;
+    `asked`: with `had`, the client had asked for the death of the handle before; `restarted`: the handle meant an
+    object of another process before, whose death was told."""
     if had:
-        s.books("begin", of_200=ref(1, 2), of_100="")
+        s.books("begin", of_200=(asking if asked else str)(ref(1, 2)), of_100="")
         s.wait(200)
     ours, theirs = s.two("in-mid-life" if had else "from-start")
+    if restarted:
+        old = s.process(300, "old")
+        theirs.main.is_given(old.main, 1, node=0x900)
+        theirs.main.writes(watch(BC_REQUEST_DEATH_NOTIFICATION, 1, 0xC))
+        old.ends()
+        theirs.main.reads(*each_long(BR_DEAD_BINDER, 0xC))
+        theirs.main.writes(*each_long(BC_DEAD_BINDER_DONE, 0xC), *each(BC_RELEASE, 1))
     theirs.main.is_given(ours.main, 1)
     ours.main.reads(node(BR_INCREFS, 0x100, 0), node(BR_ACQUIRE, 0x100, 0))
     ours.main.writes(node(BC_INCREFS_DONE, 0x100, 0), node(BC_ACQUIRE_DONE, 0x100, 0))
     theirs.main.writes(watch(BC_REQUEST_DEATH_NOTIFICATION, 1, 0xD))
     ours.main.gets(theirs.main.sends(0, 2, body=b"data"))
     theirs.main.answered(ours.main.replies())
-    ours.main.gets(theirs.main.sends(0, 3))
+    call = theirs.main.sends(0, 3)
+    if not waits:
+        ours.main.gets(call)
     s.wait(200)
     if ended:
         ours.ends()
@@ -65,6 +85,9 @@ LINES: list[tuple[dict, str]] = [
         "client 200: calls made 1 by the report and 0 by the books; client 200: calls served 0 by the report and 1 by"
         " the books")),
     ({"client": CLIENT.replace("outgoing", "pending").replace(" r1", " r0")}, AGREED),
+    ({"client": CLIENT.replace("outgoing", "pending").replace(" r1", " a0 r1")}, AGREED),
+    ({"waits": True, "service": WAITING}, AGREED),
+    ({"waits": True, "service": WAITING.replace(" r1", " a0 r0")}, AGREED),
     ({"client": CLIENT.replace(transaction_of("outgoing"), "transaction error: 29189")}, AGREED),
     ({"client": CLIENT + "  has delivered dead binder\n"},
      differ("client 200: deaths not acknowledged 0 by the report and 1 by the books")),
@@ -82,7 +105,11 @@ LINES: list[tuple[dict, str]] = [
     ({"ended": True}, f"{NOT_COMPARED}: all processes had ended before the copy of them was made."),
     ({"absent": True}, f"{NOT_COMPARED}: it is not certain which of the openings in them are those of the capture."),
     ({"had": True, "client": CLIENT.replace(" s 1 ", " s 3 ")}, AGREED),
-    ({"had": True}, differ("client 200: handle 1 3 by the report and 1 by the books"))]
+    ({"had": True}, differ("client 200: handle 1 3 by the report and 1 by the books")),
+    ({"had": True, "asked": True, "client": CLIENT.replace(" s 1 ", " s 3 ")}, AGREED),
+    ({"restarted": True}, AGREED),
+    ({"restarted": True, "client": CLIENT.replace(REQUESTED, ref(1))},
+     differ("client 200: request for handle 1 1 by the report and 0 by the books"))]
 
 
 def written(session: Session, room: pathlib.Path, name: str) -> tuple[str, str]:
