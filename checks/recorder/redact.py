@@ -31,10 +31,6 @@ from typing import Iterator, NamedTuple
 from checks.kit.checking import Fail, check
 from checks.kit.programs import CHECKS, LISTING, ROOT
 
-RECORDER = ROOT / "recorder"
-# The parts of the recorder that need a kernel.
-LEFT_OUT = ("main.c", "kernel.c", "missed.c", "books.c", "record.bpf.c")
-
 BC_TRANSACTION, BC_REPLY, BC_FREE_BUFFER = 0x40406300, 0x40406301, 0x40086303
 BR_TRANSACTION, BR_REPLY = 0x80407202, 0x80407203
 TF_ONE_WAY, TF_CLEAR_BUF = 0x01, 0x20
@@ -96,11 +92,8 @@ class Programs(NamedTuple):
 
 
 def build(room: pathlib.Path) -> pathlib.Path:
-    made = room / "redact"
-    sources = [path for path in sorted(RECORDER.glob("*.c")) if path.name not in LEFT_OUT]
-    subprocess.run(["cc", "-O1", "-g", "-std=gnu11", "-Wall", "-Wextra", "-Werror", "-fsanitize=address,undefined",
-                    "-fno-sanitize-recover=all", f"-I{RECORDER}", "-o", made, CHECKS / "recorder/redact.c", *sources], check=True)
-    return made
+    subprocess.run([CHECKS / "recorder/build.sh", "--sanitize", "redact", room], check=True)
+    return room / "redact"
 
 
 def redacted(programs: Programs, room: pathlib.Path, data: bytes, which: str = "all") -> bytes:
