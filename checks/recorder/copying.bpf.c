@@ -18,20 +18,24 @@ static __always_inline struct thread *caller(void)
 	return bpf_map_lookup_elem(&threads, &id);
 }
 
-static __always_inline void begin_measured_call(struct thread *t)
+/* The caller, in a call that begins. */
+static __always_inline struct thread *measured_call(void)
 {
+	struct thread *t = caller();
+	if (!t)
+		return NULL;
 	t->reads_own_memory = 1;
 	t->attachments = t->is_over = t->has_late = t->commands = 0;
 	t->attached = t->spent = 0;
+	return t;
 }
 
 /* The driver begins a command, and the next bytes of the write are copied. */
 SEC("raw_tp/measured") int measure_command(void *unused)
 {
-	struct thread *t = caller();
+	struct thread *t = measured_call();
 	if (!t)
 		return 1;
-	begin_measured_call(t);
 	t->write_number = 1;
 	t->write_from = commands_from;
 	t->write_bytes = MOST_COMMANDS;
@@ -49,10 +53,9 @@ SEC("raw_tp/measured") int measure_command(void *unused)
 
 SEC("raw_tp/played") int play_entry(void *unused)
 {
-	struct thread *t = caller();
+	struct thread *t = measured_call();
 	if (!t)
 		return 1;
-	begin_measured_call(t);
 	t->write_number = 1;
 	t->write_from = commands_from;
 	t->write_bytes = t->copied = MOST_COMMANDS;	/* the commands themselves are not copied */
@@ -96,10 +99,9 @@ SEC("raw_tp/played") int play_look(void *unused)
 /* The stack of the call that runs this is taken. */
 SEC("raw_tp/measured") int measure_stack(void *context)
 {
-	struct thread *t = caller();
+	struct thread *t = measured_call();
 	if (!t)
 		return 1;
-	begin_measured_call(t);
 	t->write_number = 1;
 	t->write_told = t->stack_of = 0;
 	u64 begun = bpf_ktime_get_ns();
@@ -112,11 +114,10 @@ SEC("raw_tp/measured") int measure_stack(void *context)
 /* A read comes back, with as many bytes and attachments as are taken. */
 SEC("raw_tp/measured") int measure_return(void *unused)
 {
-	struct thread *t = caller();
+	struct thread *t = measured_call();
 	struct scratch *s = scratch();
 	if (!s || !t)
 		return 1;
-	begin_measured_call(t);
 	t->spent = 2 * FIRST_BYTES;		/* by the write of the call */
 	begin_run(s);
 	u64 begun = bpf_ktime_get_ns();

@@ -2,7 +2,7 @@
  * when the recording ends: so nearly all frames are written after its books were copied. See loader. */
 #define _GNU_SOURCE
 #include "kernel.h"
-#include "messages.h"
+#include "kit.h"
 #include "names.h"
 #include "needs.h"
 #include <fcntl.h>
@@ -23,18 +23,12 @@ static int is_stopped, is_written;
 static u64 last;		/* the number that was taken last */
 static u64 missed;		/* events */
 
-static struct message head_of(u32 type, u32 direction, u64 number)
-{
-	return (struct message){ .type = type, .direction = direction, .number = number, .time = now(),
-				 .opening = 1, .thread = direction };
-}
-
 /* A frame of so many codes without a payload. */
 static void hear_codes(void (*hear)(const void *, u64), u32 direction, u32 code, u32 count)
 {
 	u32 bytes = count * (u32)sizeof code;
 	struct chunk *chunk = allocate(sizeof *chunk + bytes);
-	*chunk = (struct chunk){ .head = head_of(MESSAGE_CHUNK, direction, ++last), .commands = bytes,
+	*chunk = (struct chunk){ .head = head_of(MESSAGE_CHUNK, direction, ++last, direction), .commands = bytes,
 				 .next = direction == DIRECTION_WRITE ? bytes : 0 };
 	for (u32 i = 0; i < count; i++)
 		memcpy((u8 *)(chunk + 1) + i * sizeof code, &code, sizeof code);
@@ -58,7 +52,8 @@ long ring_drain(struct ring *ring, void (*hear)(const void *message, u64 bytes))
 			hear_codes(hear, DIRECTION_READ, BR_NOOP, RETURNS);
 		missed += 3;
 	} else if (is_stopped && !is_written) {
-		struct event event = { .head = head_of(MESSAGE_WRITTEN, DIRECTION_WRITE, 3), .written = { 4 } };
+		struct event event = { .head = head_of(MESSAGE_WRITTEN, DIRECTION_WRITE, 3, DIRECTION_WRITE),
+				       .written = { 4 } };
 		hear(&event, sizeof event);
 		is_written = 1;
 		return 1;

@@ -1,6 +1,7 @@
 /* loader OUT: gives the recorder's loader messages of callers that hand over as much as they can. See loader. */
 #include "command.h"
 #include "frame.h"
+#include "kit.h"
 #include "names.h"
 #include "parts.h"
 #include "redact.h"
@@ -10,8 +11,6 @@
 #include <stdio.h>
 #include <stdlib.h>
 #include <string.h>
-#include <sys/resource.h>
-#include <time.h>
 
 enum {
 	ENTRIES = 30000,	/* of one frame */
@@ -23,35 +22,6 @@ enum {
 };
 
 static u64 last;		/* the number that was taken last */
-static int failed;
-
-static void should(int is_so, const char *what, double value)
-{
-	if (is_so)
-		return;
-	printf("checks/loader: %s: %g\n", what, value);
-	failed = 1;
-}
-
-static double processor_seconds(void)
-{
-	struct timespec time;
-	clock_gettime(CLOCK_PROCESS_CPUTIME_ID, &time);
-	return (double)time.tv_sec + (double)time.tv_nsec / 1e9;
-}
-
-static double mebibytes(void)
-{
-	struct rusage used;
-	getrusage(RUSAGE_SELF, &used);
-	return (double)used.ru_maxrss / 1024;
-}
-
-static struct message head_of(u32 type, u64 number, u32 thread)
-{
-	return (struct message){ .type = type, .direction = DIRECTION_WRITE, .number = number, .time = now(),
-				 .opening = 1, .thread = thread };
-}
 
 /* The commands of a write: oneway sends with so many bytes of data each. */
 static void hear_commands(u64 number, u32 thread, u32 records, u64 each)
@@ -59,7 +29,8 @@ static void hear_commands(u64 number, u32 thread, u32 records, u64 each)
 	u32 bytes = records * RECORD, word = BC_TRANSACTION;
 	struct binder_transaction_data made = { .flags = TF_ONE_WAY, .data_size = each };
 	struct chunk *chunk = allocate(sizeof *chunk + bytes);
-	*chunk = (struct chunk){ .head = head_of(MESSAGE_CHUNK, number, thread), .commands = bytes, .next = bytes };
+	*chunk = (struct chunk){ .head = head_of(MESSAGE_CHUNK, DIRECTION_WRITE, number, thread), .commands = bytes,
+				 .next = bytes };
 	for (u32 i = 0; i < records; i++) {
 		memcpy((u8 *)(chunk + 1) + i * RECORD, &word, sizeof word);
 		memcpy((u8 *)(chunk + 1) + i * RECORD + sizeof word, &made, sizeof made);
@@ -71,16 +42,26 @@ static void hear_commands(u64 number, u32 thread, u32 records, u64 each)
 static void hear_data(u64 number, u32 thread, u32 record, u32 bytes)
 {
 	struct piece *piece = allocate(sizeof *piece + bytes);
-	*piece = (struct piece){ .head = head_of(MESSAGE_PIECE, number, thread), .record = record, .data = bytes,
-				 .bytes = bytes };
+	*piece = (struct piece){ .head = head_of(MESSAGE_PIECE, DIRECTION_WRITE, number, thread), .record = record,
+				 .data = bytes, .bytes = bytes };
 	window_hear(piece, sizeof *piece + bytes);
 	free(piece);
 }
 
 static void hear_written(u64 number, u32 thread, u64 consumed)
 {
-	struct event event = { .head = head_of(MESSAGE_WRITTEN, number, thread), .written = { consumed } };
+	struct event event = { .head = head_of(MESSAGE_WRITTEN, DIRECTION_WRITE, number, thread),
+			       .written = { consumed } };
 	window_hear(&event, sizeof event);
+}
+
+/* A whole write of the second thread, and what can be written then. */
+static void hear_much(void)
+{
+	hear_commands(++last, 2, 1, DATA);
+	hear_data(last, 2, 0, DATA);
+	hear_written(last, 2, RECORD);
+	window_settle();
 }
 
 /* One frame of very many entries is put together in a moment. */
@@ -103,7 +84,7 @@ static void many_lines(void)
 	double began = processor_seconds();
 	hear_commands(++last, 1, 1, 0);
 	for (u32 i = 0; i < LINES; i++) {
-		struct event event = { .head = head_of(MESSAGE_ENDED, last, 0),
+		struct event event = { .head = head_of(MESSAGE_ENDED, DIRECTION_WRITE, last, 0),
 				       .ended = { .process = i + 1, .is_last = 1 } };
 		window_hear(&event, sizeof event);
 	}
@@ -118,12 +99,8 @@ static void many_lines(void)
 static void much_memory(void)
 {
 	hear_commands(++last, 1, 1, 0);
-	for (u32 i = 0; i < FRAMES; i++) {
-		hear_commands(++last, 2, 1, DATA);
-		hear_data(last, 2, 0, DATA);
-		hear_written(last, 2, RECORD);
-		window_settle();
-	}
+	for (u32 i = 0; i < FRAMES; i++)
+		hear_much();
 	while (window_settle())
 		continue;
 	should(mebibytes() < 320, "MiB of memory at most", mebibytes());
@@ -142,12 +119,8 @@ static void long_settling(void)
 	int more = 1;
 	hear_commands(++last, 1, 1, 0);
 	u64 held = last;
-	for (u32 i = 0; i < KEPT; i++) {
-		hear_commands(++last, 2, 1, DATA);
-		hear_data(last, 2, 0, DATA);
-		hear_written(last, 2, RECORD);
-		window_settle();
-	}
+	for (u32 i = 0; i < KEPT; i++)
+		hear_much();
 	should(window_frames() == frames, "frames written before their time", (double)(window_frames() - frames));
 	hear_written(held, 1, RECORD);
 	while (more) {
@@ -162,7 +135,8 @@ static void long_settling(void)
 
 static void hear_command(u32 opening, const char *text, u32 bytes, u32 claimed)
 {
-	struct command command = { .head = head_of(MESSAGE_COMMAND, last, 0), .user = 10123, .bytes = claimed };
+	struct command command = { .head = head_of(MESSAGE_COMMAND, DIRECTION_WRITE, last, 0), .user = 10123,
+				   .bytes = claimed };
 	command.head.opening = opening;
 	memcpy(command.text, text, bytes);
 	window_hear(&command, sizeof command);
@@ -171,12 +145,11 @@ static void hear_command(u32 opening, const char *text, u32 bytes, u32 claimed)
 /* Whether the side list has this line, after its time. */
 static int has_line(const char *line)
 {
-	static char text[64 << 20];
-	FILE *file = fopen(side_path(), "r");
-	text[file ? fread(text, 1, sizeof text - 1, file) : 0] = 0;
-	if (file)
-		fclose(file);
-	return strstr(text, line) != NULL;
+	u64 bytes;
+	char *text = whole_file(side_path(), &bytes);
+	int found = strstr(text, line) != NULL;
+	free(text);
+	return found;
 }
 
 /* The longest command line, of bytes that are written as four each; one that is said to be longer; one that comes when

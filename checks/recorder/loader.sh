@@ -12,20 +12,9 @@
 # or what came, and ends with status 1.
 set -euo pipefail
 
-here=$(readlink -f -- "${BASH_SOURCE[0]}")
-root=${here%/*/*/*}
+here=$(dirname -- "$(readlink -f -- "${BASH_SOURCE[0]}")")
 room=$(mktemp -d -t checks-loader.XXXXXX)
 trap 'rm -rf -- "$room"' EXIT
-
-# Builds a program of one of the checks and the recorder's sources, but for those that are named.
-build() { # PROGRAM WITHOUT [OPTION]..
-  local program=$1 without=" $2 " sources=() source
-  for source in "$root"/recorder/*.c; do
-    if [[ $without != *" ${source##*/} "* && $source != *.bpf.c ]]; then sources+=("$source"); fi
-  done
-  cc -O1 -std=gnu11 -Wall -Wextra -Werror "-I$root/recorder" "${@:3}" "$root/checks/recorder/$program.c" "${sources[@]}" \
-    -o "$room/$program"
-}
 
 # Checks what side lists say of the driver's books and of the end, and that each copy has the length that they name.
 tells() { # OUT DUE SIDE..
@@ -42,10 +31,10 @@ tells() { # OUT DUE SIDE..
 }
 
 failed=0
-build loader 'main.c kernel.c missed.c books.c'
+"$here/build.sh" loader "$room"
 "$room/loader" "$room/out" || failed=1
 
-build flight 'kernel.c needs.c ring.c' -Wl,--wrap=open
+"$here/build.sh" flight "$room" -Wl,--wrap=open
 ends='end state,end transactions,end stats,recording'
 "$room/flight" -o "$room/whole" -- true 2>/dev/null
 tells "$room/whole" "begin state,begin transactions,begin stats,$ends" "$room/whole.side"

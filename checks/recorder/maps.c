@@ -3,6 +3,7 @@
 #define _GNU_SOURCE
 #include "code_file.h"
 #include "frame.h"
+#include "kit.h"
 #include "maps.h"
 #include "parts.h"
 #include "redact.h"
@@ -15,8 +16,6 @@
 #include <stdlib.h>
 #include <string.h>
 #include <sys/mman.h>
-#include <sys/resource.h>
-#include <time.h>
 #include <unistd.h>
 
 enum {
@@ -25,50 +24,15 @@ enum {
 	STRANGER = 4194303,	/* the id of no process */
 };
 
-static int failed;
 static u64 last;
 static char *list;		/* what the side list has so far */
-
-static void should(int is_so, const char *what, double value)
-{
-	if (is_so)
-		return;
-	printf("checks/maps: %s: %g\n", what, value);
-	failed = 1;
-}
-
-static double processor_seconds(void)
-{
-	struct timespec time;
-	clock_gettime(CLOCK_PROCESS_CPUTIME_ID, &time);
-	return (double)time.tv_sec + (double)time.tv_nsec / 1e9;
-}
-
-static double mebibytes(void)
-{
-	struct rusage used;
-	getrusage(RUSAGE_SELF, &used);
-	return (double)used.ru_maxrss / 1024;
-}
-
-static char *all_of(const char *path, u64 *bytes)
-{
-	FILE *file = fopen(path, "r");
-	char *text = allocate(64 << 20);
-	if (!file)
-		fail("%s can't be opened", path);
-	*bytes = fread(text, 1, (64 << 20) - 1, file);
-	text[*bytes] = 0;
-	fclose(file);
-	return text;
-}
 
 static void read_list(void)
 {
 	u64 bytes;
 	side_flush();
 	free(list);
-	list = all_of(side_path(), &bytes);
+	list = whole_file(side_path(), &bytes);
 }
 
 /* How often the side list has a text. (With the sanitizers strstr looks at the whole rest each time.) */
@@ -106,7 +70,7 @@ static int is_same(const struct code_file *one, const struct code_file *other)
 static void damaged_files(const char *self)
 {
 	u64 bytes;
-	char *whole = all_of(self, &bytes), *made = allocate(bytes);
+	char *whole = whole_file(self, &bytes), *made = allocate(bytes);
 	struct code_file good = code_file_read(file_with(whole, bytes));
 	double began = processor_seconds();
 	int same = 0;
@@ -148,19 +112,13 @@ static u64 own_start(void)
 {
 	unsigned long long ticks = 0;
 	u64 bytes;
-	char *text = all_of("/proc/self/stat", &bytes), *rest = strrchr(text, ')');
+	char *text = whole_file("/proc/self/stat", &bytes), *rest = strrchr(text, ')');
 	for (int field = 2; field < 22 && rest; field++)
 		rest = strchr(rest + 1, ' ');
 	if (!rest || sscanf(rest, "%llu", &ticks) != 1)
 		fail("/proc/self/stat");
 	free(text);
 	return ticks * (1000000000u / (u64)sysconf(_SC_CLK_TCK));
-}
-
-static struct message head_of(u32 type)
-{
-	return (struct message){ .type = type, .direction = DIRECTION_WRITE, .number = last, .time = now(),
-				 .opening = 1, .thread = 1 };
 }
 
 /* A write with one command and the stack of these addresses; it is finished and written. */
@@ -171,9 +129,10 @@ static void hear_call(u32 process, u64 start, u64 memory, const u64 *addresses, 
 	struct stack stack = { .memory = memory, .start = start, .process = process, .count = count };
 	struct event event;
 	last++;
-	write.chunk = (struct chunk){ .head = head_of(MESSAGE_CHUNK), .commands = 12, .next = 12 };
-	stack.head = head_of(MESSAGE_STACK);
-	event = (struct event){ .head = head_of(MESSAGE_WRITTEN), .written = { 12 } };
+	write.chunk = (struct chunk){ .head = head_of(MESSAGE_CHUNK, DIRECTION_WRITE, last, 1), .commands = 12,
+				      .next = 12 };
+	stack.head = head_of(MESSAGE_STACK, DIRECTION_WRITE, last, 1);
+	event = (struct event){ .head = head_of(MESSAGE_WRITTEN, DIRECTION_WRITE, last, 1), .written = { 12 } };
 	memcpy(stack.addresses, addresses, count * sizeof *addresses);
 	window_hear(&write, sizeof write);
 	window_hear(&stack, offsetof(struct stack, addresses) + count * sizeof *addresses);
@@ -204,7 +163,7 @@ static void own_stacks(void)
 	       "stacks of this process", times(" stack "));
 	should(times(" stack=1\n") == 3 && times(" stack=2\n") == 1, "calls with a stack", times(" call "));
 	should(times(" map 1 ") >= 1 && times("build-id=-") == 0, "maps of this process", times(" map 1 "));
-	should(times(" name=/") && times("/loader") == 1, "the path of this program", times("/loader"));
+	should(times(" name=/") && times("/maps") == 1, "the path of this program", times("/maps"));
 	should(times(",0x10\n") == 1 && times(" unmapped ") == 0, "an address that is not mapped", times(" unmapped "));
 }
 
@@ -241,18 +200,23 @@ static void many_stacks(void)
 	should(processor_seconds() - began < 60, "seconds for new stacks", processor_seconds() - began);
 }
 
+static void begin_list(const char *out, const char *name)
+{
+	char path[4096];
+	snprintf(path, sizeof path, "%s-%s", out, name);
+	side_close();
+	if (side_create(path, 0))
+		fail("no side list %s", path);
+}
+
 /* A new side list has the stacks anew that calls in it have, also of calls that waited. */
 static void new_list(const char *out)
 {
 	u64 stack[] = { (u64)(uintptr_t)&own_start + 3 };
-	char path[4096];
 	hear_call((u32)getpid(), own_start(), 1, stack, 1);
 	wait_for_maps();
 	stacks_tell_again();
-	snprintf(path, sizeof path, "%s-other", out);
-	side_close();
-	if (side_create(path, 0))
-		fail("no second side list");
+	begin_list(out, "other");
 	hear_call((u32)getpid(), own_start(), 1, stack, 1);
 	hear_call((u32)getpid(), own_start(), 1, stack, 1);
 	read_list();
@@ -264,19 +228,15 @@ static void new_list(const char *out)
  * one whose stack was not kept. */
 static void forgotten_stacks(const char *out)
 {
-	struct stack stack = { .head = head_of(MESSAGE_STACK), .memory = 3, .start = 1, .process = STRANGER,
-			       .count = 2 };
+	struct stack stack = { .head = head_of(MESSAGE_STACK, DIRECTION_WRITE, last, 1), .memory = 3, .start = 1,
+			       .process = STRANGER, .count = 2 };
 	u32 *numbers = allocate(MANY * sizeof *numbers);
-	char path[4096];
 	for (u32 i = 0; i < MANY; i++) {
 		stack.addresses[0] = 0x70000000 + i;
 		numbers[i] = stacks_hear(&stack);
 	}
 	stacks_tell_again();
-	snprintf(path, sizeof path, "%s-third", out);
-	side_close();
-	if (side_create(path, 0))
-		fail("no third side list");
+	begin_list(out, "third");
 	for (u32 i = 0; i < MANY; i++)
 		stacks_tell_call(1, i, numbers[i]);
 	read_list();

@@ -14,17 +14,8 @@
 # If all is well it prints nothing. Otherwise it prints what is wrong, and ends with status 1.
 set -euo pipefail
 
-here=$(readlink -f -- "${BASH_SOURCE[0]}")
-root=${here%/*/*/*}
+here=$(dirname -- "$(readlink -f -- "${BASH_SOURCE[0]}")")
 room=$(mktemp -d -t checks-maps.XXXXXX)
 trap 'rm -rf -- "$room"' EXIT
-sources=()
-for source in "$root"/recorder/*.c; do
-  case ${source##*/} in
-    main.c | kernel.c | missed.c | books.c | *.bpf.c) ;;
-    *) sources+=("$source") ;;
-  esac
-done
-cc -O1 -g -std=gnu11 -Wall -Wextra -Werror -fsanitize=address,undefined -fno-sanitize-recover=all -Wl,--build-id \
-  "-I$root/recorder" "$root/checks/recorder/maps.c" "${sources[@]}" -o "$room/loader"
-"$room/loader" "$room/out"
+"$here/build.sh" --sanitize maps "$room" -Wl,--build-id
+"$room/maps" "$room/out"

@@ -6,6 +6,7 @@
  */
 #include "blake2s.h"
 #include "frame.h"
+#include "kit.h"
 #include "parts.h"
 #include "redact.h"
 #include <stdio.h>
@@ -13,20 +14,6 @@
 #include <string.h>
 
 #define FRAME_HEAD 32u
-
-static u8 *all_of(FILE *file, u64 *count)
-{
-	u8 *bytes = NULL;
-	u64 room = 0;
-	for (*count = 0;;) {
-		if (*count == room)
-			bytes = resize(bytes, room = room * 2 + 4096);
-		size_t got = fread(bytes + *count, 1, room - *count, file);
-		if (!got)
-			return bytes;
-		*count += got;
-	}
-}
 
 static void add_entries(struct frame *frame, const u8 *bytes, u64 count)
 {
@@ -62,12 +49,8 @@ static void write_again(const u8 *bytes, u64 number, u32 commands, u32 entries)
 
 static void again(const char *path, const char *out)
 {
-	FILE *file = fopen(path, "rb");
 	u64 count, number;
-	if (!file)
-		fail("%s can't be read", path);
-	u8 *bytes = all_of(file, &count);
-	fclose(file);
+	u8 *bytes = whole_file(path, &count);
 	if (parts_begin(out, MOST_TOGETHER, 0))
 		fail("%s can't be written", out);
 	for (u64 at = FILE_HEAD; at < count;) {

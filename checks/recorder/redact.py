@@ -28,18 +28,15 @@ import subprocess
 from collections import Counter
 from typing import Iterator, NamedTuple
 
+from checks.kit import captures
+from checks.kit.captures import BC_REPLY, BC_TRANSACTION, BR_REPLY, BR_TRANSACTION, HEADER_2
 from checks.kit.checking import Fail, check
+from checks.kit.frames import entries_of, frames_of
 from checks.kit.programs import CHECKS, LISTING, ROOT
+from checks.kit.tokens import GATHER, MANAGER, NO_SOURCE, PARTITIONS, marked, numbers, partition, string16
 
-RECORDER = ROOT / "recorder"
-# The parts of the recorder that need a kernel.
-LEFT_OUT = ("main.c", "kernel.c", "missed.c", "books.c", "record.bpf.c")
-
-BC_TRANSACTION, BC_REPLY, BC_FREE_BUFFER = 0x40406300, 0x40406301, 0x40086303
-BR_TRANSACTION, BR_REPLY = 0x80407202, 0x80407203
 TF_ONE_WAY, TF_CLEAR_BUF = 0x01, 0x20
-SORTS = {0x73622a85: 24, 0x77622a85: 24, 0x73682a85: 24, 0x77682a85: 24, 0x66642a85: 24, 0x66646185: 32,
-         0x70742a85: 40}
+SORTS = {int.from_bytes(one[:4], "little"): len(one) for one in captures.SORTS}	# the bytes of each
 
 # The bit of the column service in a row of the table record. It is the last column.
 SERVICE = 1 << 19
@@ -55,14 +52,13 @@ class Payload(NamedTuple):
 
 def frame(number: int, direction: int, word: int, payload: Payload, flags: int = 0) -> bytes:
     """A frame with one transaction or reply, and its entry. Two processes take turns."""
-    record = struct.pack("<IQQIIiIQQQQ", word, 1, 0, 7, flags, 0, 0, len(payload.data), len(payload.offsets), 4096,
-                         8192)
-    entry = struct.pack("<III", 0, len(payload.data), len(payload.offsets)) + payload.data + payload.offsets
-    return struct.pack("<QIIIIII", number, direction, direction, direction, len(record), len(entry), 0) + record + entry
+    sizes = len(payload.data), len(payload.offsets)
+    record = captures.transaction(word, target=1, code=7, flags=flags, sizes=sizes, buffer=4096)
+    return captures.frame(direction, number, direction, direction, [record], [captures.entry(0, *payload)])
 
 
 def capture(frames: list[bytes]) -> bytes:
-    return struct.pack("<8sII", b"BNDRCAP2", 8, 0) + b"".join(frames)
+    return HEADER_2 + b"".join(frames)
 
 
 def crossing(payloads: list[tuple[Payload, int]]) -> bytes:
@@ -75,15 +71,9 @@ def crossing(payloads: list[tuple[Payload, int]]) -> bytes:
 
 
 def payloads_in(data: bytes) -> Iterator[Payload]:
-    at = 16
-    while at < len(data):
-        commands, attached = struct.unpack_from("<II", data, at + 20)
-        here, end = at + 32 + commands, at + 32 + commands + attached
-        while here < end:
-            _, size, offsets = struct.unpack_from("<III", data, here)
-            yield Payload(data[here + 12:here + 12 + size], data[here + 12 + size:here + 12 + size + offsets])
-            here += 12 + size + offsets
-        at = end
+    for one in frames_of(data):
+        for _, *payload in entries_of(one.attached):
+            yield Payload(*payload)
 
 
 # ---- what is run
@@ -96,11 +86,8 @@ class Programs(NamedTuple):
 
 
 def build(room: pathlib.Path) -> pathlib.Path:
-    made = room / "redact"
-    sources = [path for path in sorted(RECORDER.glob("*.c")) if path.name not in LEFT_OUT]
-    subprocess.run(["cc", "-O1", "-g", "-std=gnu11", "-Wall", "-Wextra", "-Werror", "-fsanitize=address,undefined",
-                    "-fno-sanitize-recover=all", f"-I{RECORDER}", "-o", made, CHECKS / "recorder/redact.c", *sources], check=True)
-    return made
+    subprocess.run([CHECKS / "recorder/build.sh", "--sanitize", "redact", room], check=True)
+    return room / "redact"
 
 
 def redacted(programs: Programs, room: pathlib.Path, data: bytes, which: str = "all") -> bytes:
@@ -226,36 +213,21 @@ def check_random(programs: Programs, room: pathlib.Path, fail: Fail) -> None:
         fail(f"made at random: no bad object of the causes {missing}")
 
 
-def string16(text: str) -> bytes:
-    made = struct.pack("<I", len(text)) + text.encode("utf-16-le") + b"\0\0"
-    return made + bytes(-len(made) % 4)
-
-
-def head(strict: int, *more: int) -> bytes:
-    return struct.pack(f"<{1 + len(more)}I", strict, *more)
-
-
-def letters(word: str) -> int:
-    return int.from_bytes(word.encode(), "big")
-
-
 SECRET = b"the launch code is 0000-0001, and the second one 4711-0815"
-NAME = "android.os.IServiceManager"
 TOKENS = {
-    "of Android 9": head(0x400000) + string16(NAME),
-    "of Android 10": head(0x400000, 2**32 - 1) + string16(NAME),
-    **{f"of Android 11, {word}": head(0x400000, 2**32 - 1, letters(word)) + string16(NAME)
-       for word in ("SYST", "VNDR", "RECO", "UNKN")},
+    "of Android 9": numbers(GATHER) + string16(MANAGER),
+    "of Android 10": numbers(GATHER, NO_SOURCE) + string16(MANAGER),
+    **{f"of Android 11, {word}": marked(MANAGER, word) for word in PARTITIONS},
     "of HIDL": b"android.hardware.nfc@1.2::INfc\0",
-    "of an inner class": head(0) + string16("com.example.a_b2.IThing$Sub")}
+    "of an inner class": numbers(0) + string16("com.example.a_b2.IThing$Sub")}
 NO_TOKENS = {
-    "a text": head(7) + string16("swordfish"),
-    "a text with a point": head(7) + string16("sword.fish"),
-    "a text of another language": head(7) + string16("пароль.Iароль"),
-    "a name without its end": (head(7) + string16(NAME))[:-4] + b"abcd",
+    "a text": numbers(7) + string16("swordfish"),
+    "a text with a point": numbers(7) + string16("sword.fish"),
+    "a text of another language": numbers(7) + string16("пароль.Iароль"),
+    "a name without its end": (numbers(7) + string16(MANAGER))[:-4] + b"abcd",
     "ASCII": b"swordfish\0",
     "ASCII with a point": b"sword.fish.IFish\0",
-    "letters of no partition": head(1, 2, letters("SWRD")) + string16(NAME)}
+    "letters of no partition": numbers(1, 2, partition("SWRD")) + string16(MANAGER)}
 
 
 def pieces(secret: bytes) -> set[bytes]:

@@ -16,9 +16,11 @@ import sys
 import tempfile
 from collections import Counter, defaultdict
 
+from checks.kit.captures import BR_TRANSACTION, BR_TRANSACTION_SEC_CTX
+from checks.kit.frames import frames_of
 from checks.kit.programs import ROOT
 from checks.recorder.driver import books as books_of
-from checks.recorder.driver.recording import Recording, Report, frames_of, report_on
+from checks.recorder.driver.recording import Recording, Report, report_on
 from checks.recorder.driver.sections import both
 from checks.recorder.driver.stacked import stack_differences
 from checks.viewer.page.common import groups_due, groups_of
@@ -96,7 +98,7 @@ def witness_differences(recording, folder):
     devices = {int(a): b for a, b in re.findall(r"^device (\d+) name (\S+)", names, re.M)}
     processes = re.findall(r"^process (\d+) (\d+) pid (\d+)", names, re.M)
     openings = numbered(devices, [tuple(map(int, words)) for words in processes])
-    frames = sorted(frames_of((folder / "frames").read_bytes()), key=lambda frame: frame.sequence)
+    frames = sorted(frames_of((folder / "frames").read_bytes(), 0), key=lambda frame: frame.sequence)
     theirs = threads(frames, openings)
     mine = threads(recording.frames, numbered(recording.devices, [(*key, pid) for key, pid in recording.pids.items()]))
     for key in sorted(set(mine) | set(theirs)):
@@ -263,7 +265,6 @@ FACTS_BEFORE = {"books_doubt": None, "books_compared": 5, "books_left_out": 0}
 # ---- namespaces, and openings from before the recording
 
 OWN_NUMBERS = 4194304	# numbers from here on are no ids of Linux
-BR_TRANSACTIONS = {0x80407202, 0x80487202}
 
 
 def sender_differences(recording):
@@ -272,7 +273,7 @@ def sender_differences(recording):
         if key[1] < OWN_NUMBERS:
             yield "senders", recording.names[key], "number", key[1], OWN_NUMBERS
     for _, _, frame, word, payload in recording.records():
-        if word not in BR_TRANSACTIONS:
+        if word not in (BR_TRANSACTION, BR_TRANSACTION_SEC_CTX):
             continue
         flags, sender = struct.unpack_from("<Ii", payload, 20)
         here = recording.spaces.get((frame.device, frame.process), (0, 0))[0]

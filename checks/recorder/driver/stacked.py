@@ -4,12 +4,12 @@ import re
 import struct
 from typing import NamedTuple
 
-from checks.recorder.driver.recording import records_of
+from checks.kit.captures import BC_TRANSACTION
+from checks.kit.frames import records_of
 from viewer.database import symbols
 
 # The commands that make the recorder take the stack of their call, by number.
 WITH_STACK = {0, 1, 3, 4, 5, 14, 15, 17, 18}
-BC_TRANSACTION = 0x40406300
 
 
 class Map(NamedTuple):

@@ -86,15 +86,6 @@ watch_memory() {
 	echo $most >$here/memory
 }
 
-hoard() {
-	watch_memory & watcher=$!
-	/record $more --size 8388608 --files 4 -o $here/capture -- /scenarios.static $scenario $here $number
-	status=$?
-	touch $here/ended
-	wait $watcher
-	return $status
-}
-
 # Looks again and again how many captures there are, and how much memory the recorder has, until it has ended.
 count_files() {
 	most=0 look=0
@@ -108,12 +99,12 @@ count_files() {
 	echo $most >$here/most-files
 }
 
-flight() {
-	count_files & counter=$!
-	/record $more --size 131072 --files 4 -o $here/capture -- /scenarios.static $scenario $here $number
+newest_files() { # BYTES WATCHER: keeps the newest 4 files of so many bytes, while the watcher looks
+	$2 & watcher=$!
+	/record $more --size $1 --files 4 -o $here/capture -- /scenarios.static $scenario $here $number
 	status=$?
 	touch $here/ended
-	wait $counter
+	wait $watcher
 	return $status
 }
 
@@ -160,8 +151,8 @@ play() {
 	redact) /record --redact -o $here/capture -- /scenarios.static $scenario $here $number;;
 	stacks) with_stacks /scenarios.framed;;
 	frameless) with_stacks /scenarios;;
-	flight) flight;;
-	hoard) hoard;;
+	flight) newest_files 131072 count_files;;
+	hoard) newest_files 8388608 watch_memory;;
 	bare) /scenarios $scenario $here $number;;
 	late) background TERM;;
 	before) before;;

@@ -34,6 +34,28 @@ pid_t start(const char *name, void (*process)(void))
 	return started;
 }
 
+pid_t start_ready(const char *name, void (*process)(void))
+{
+	int before = shared->ready;
+	pid_t started = start(name, process);
+	wait_until(&shared->ready, before + 1);
+	return started;
+}
+
+void run_to_rest(int count, const char *name, void (*process)(void))
+{
+	int before = shared->resting;
+	for (int i = 0; i < count; i++) start(name, process);
+	wait_until(&shared->resting, before + count);
+}
+
+pthread_t start_thread(void *(*work)(void *), struct opening *opening)
+{
+	pthread_t thread;
+	if (pthread_create(&thread, NULL, work, opening)) fail("pthread_create");
+	return thread;
+}
+
 void wait_until(_Atomic int *counter, int least)
 {
 	time_t began = time(NULL);
@@ -43,10 +65,21 @@ void wait_until(_Atomic int *counter, int least)
 	}
 }
 
+void wait_long(_Atomic int *counter, int least)
+{
+	while (*counter < least) usleep(10000);
+}
+
 void end_of(pid_t process)
 {
 	int status;
 	if (waitpid(process, &status, 0) != process || status) fail("a process of the scenario did not end well");
+}
+
+void kill_process(pid_t process)
+{
+	kill(process, SIGKILL);
+	waitpid(process, NULL, 0);
 }
 
 void make_file(const char *name)
@@ -127,6 +160,11 @@ void dump_books(const char *suffix)
 		copy_file(from, to);
 	}
 	write_moment(suffix);
+}
+
+void nothing(int signal)
+{
+	(void)signal;
 }
 
 /* Interrupts each thread that waits in the driver: it then has no call under way, and begins no other. */

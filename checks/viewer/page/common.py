@@ -3,10 +3,9 @@
 import pathlib
 import re
 import sqlite3
-import struct
 import subprocess
-from typing import NamedTuple
 
+from checks.kit.frames import Frame as Frame, frames_of as frames_of
 from checks.kit.programs import CHECKS
 from viewer.page import page
 
@@ -24,24 +23,6 @@ def told_by(stderr: str) -> str:
 def texts_of(path: pathlib.Path) -> str:
     """The text of a page without its markup."""
     return " ".join(re.sub(r"<[^>]*>", " ", path.read_text()).split())
-
-
-class Frame(NamedTuple):
-    place: int
-    sequence: int
-    device: int
-    process: int
-    thread: int
-    direction: int
-
-
-def frames_of(capture: bytes) -> list[Frame]:
-    found, at = [], 16
-    while at < len(capture):
-        sequence, process, thread, direction, commands, attached, device = struct.unpack_from("<QIIIIII", capture, at)
-        found.append(Frame(at, sequence, device, process, thread, direction))
-        at += 32 + commands + attached
-    return found
 
 
 def without_numbers(path: str) -> str:

@@ -1,0 +1,28 @@
+#!/usr/bin/env bash
+# Builds a program of these checks with what it needs of the recorder's loader. What the program defines itself, it has
+# in place of that.
+#
+#     build.sh [--sanitize] PROGRAM FOLDER [OPTION]..
+#
+# PROGRAM is the name of its source here, without `.c`. The OPTIONs are for the compiler. With --sanitize the program
+# runs under the address and undefined-behaviour sanitizers, which end it at a fault.
+set -euo pipefail
+
+here=$(dirname -- "$(readlink -f -- "${BASH_SOURCE[0]}")")
+recorder=$here/../../recorder
+flags=(-O1 -std=gnu11 -Wall -Wextra -Werror "-I$recorder")
+if [[ $1 == --sanitize ]]; then
+  flags+=(-g -fsanitize=address,undefined -fno-sanitize-recover=all)
+  shift
+fi
+program=$1 folder=$2
+flags+=("${@:3}")
+
+# Only these are about the programs in the kernel, which are not built here.
+sources=("$here/kit.c")
+for source in "$recorder"/*.c; do
+  if [[ $source != *.bpf.c && $source != */kernel.c ]]; then sources+=("$source"); fi
+done
+objects=$(mktemp -d -- "$folder/objects.XXXXXX")
+(cd -- "$objects" && cc "${flags[@]}" -c "${sources[@]}" && ar rc loader.a ./*.o)
+cc "${flags[@]}" "$here/$program.c" "$objects/loader.a" -o "$folder/$program"

@@ -1,0 +1,62 @@
+/* What the programs that check the recorder's loader share: see kit.h. */
+#define _GNU_SOURCE
+#include "kit.h"
+#include "common.h"
+#include <errno.h>
+#include <sys/resource.h>
+#include <sys/stat.h>
+#include <time.h>
+
+int failed;
+
+void should(int is_so, const char *what, double value)
+{
+	if (is_so)
+		return;
+	printf("checks/%s: %s: %g\n", program_invocation_short_name, what, value);
+	failed = 1;
+}
+
+double processor_seconds(void)
+{
+	struct timespec time;
+	clock_gettime(CLOCK_PROCESS_CPUTIME_ID, &time);
+	return (double)time.tv_sec + (double)time.tv_nsec / 1e9;
+}
+
+double mebibytes(void)
+{
+	struct rusage used;
+	getrusage(RUSAGE_SELF, &used);
+	return (double)used.ru_maxrss / 1024;
+}
+
+void *all_of(FILE *file, u64 *bytes)
+{
+	struct stat about;
+	u64 room = 4096 + (fstat(fileno(file), &about) ? 0 : (u64)about.st_size);
+	char *text = allocate(room);
+	*bytes = fread(text, 1, room - 1, file);
+	while (*bytes == room - 1) {
+		text = resize(text, room *= 2);
+		*bytes += fread(text + *bytes, 1, room - 1 - *bytes, file);
+	}
+	text[*bytes] = 0;
+	return text;
+}
+
+void *whole_file(const char *path, u64 *bytes)
+{
+	FILE *file = fopen(path, "r");
+	if (!file)
+		fail("%s can't be read", path);
+	void *text = all_of(file, bytes);
+	fclose(file);
+	return text;
+}
+
+struct message head_of(u32 type, u32 direction, u64 number, u32 thread)
+{
+	return (struct message){ .type = type, .direction = direction, .number = number, .time = now(),
+				 .opening = 1, .thread = thread };
+}

@@ -1,0 +1,17 @@
+/* What the programs that check the recorder's loader share. */
+#ifndef KIT_H
+#define KIT_H
+#include "common.h"
+#include "messages.h"
+#include <stdio.h>
+
+extern int failed;			/* whether something did not hold */
+void should(int is_so, const char *what, double value);	/* says what does not hold, and what came */
+double processor_seconds(void);
+double mebibytes(void);			/* the most memory so far */
+
+void *all_of(FILE *, u64 *bytes);	/* what is left of a file, and a NUL behind it */
+void *whole_file(const char *path, u64 *bytes);
+
+struct message head_of(u32 type, u32 direction, u64 number, u32 thread);
+#endif
