@@ -1,4 +1,3 @@
-#!/usr/bin/env python3
 """A large capture of made-up traffic, for the checks `limits`, `load` and others.
 
     checks/run traffic -- BYTES FILE [DEVICES]    writes a capture of at most this many bytes into the file
@@ -196,6 +195,9 @@ def write_traffic(path, most, devices=1):
 
 
 if __name__ == "__main__":
-    if len(sys.argv) not in (3, 4):
+    if sys.argv[1:] in (["--help"], ["-h"]):
+        print(__doc__.rstrip())
+    elif len(sys.argv) in (3, 4):
+        print(write_traffic(sys.argv[2], int(sys.argv[1]), *map(int, sys.argv[3:])))
+    else:
         sys.exit("usage: checks/run traffic -- BYTES FILE [DEVICES]")
-    print(write_traffic(sys.argv[2], int(sys.argv[1]), *map(int, sys.argv[3:])))
