@@ -10,11 +10,9 @@ from typing import Iterator, NamedTuple
 
 from checks.kit.checking import Fail, compare
 from checks.kit.programs import ROOT
-from checks.viewer.page.common import groups_due, groups_of
-from viewer.database import loading
-from viewer.database.sqlite import open_database
-from viewer.units import signed
+from checks.viewer.page.common import groups_due, groups_of, loaded
 from viewer.page import page
+from viewer.units import signed
 
 
 def rows_of(report: str, section: str) -> list[list[str]]:
@@ -204,6 +202,13 @@ def shown_of(text: str) -> Shown:
     return shown
 
 
+def check_harmless(what: str, text: str, fail: Fail) -> None:
+    """Names on a page run nothing, and change no direction of text."""
+    shown, marks = shown_of(text), [one for one in text if one in "\u202a\u202b\u202d\u202e\u2066\u2067"]
+    compare(f"{what}: scripts, what would run, and marks of direction", (shown.scripts, shown.bad, marks), (1, [], []),
+            fail)
+
+
 def proved_due(report: str) -> set[str]:
     """The texts of a report that its page must show: heads, and the rows that are findings."""
     due, section = set(), ""
@@ -227,8 +232,7 @@ def check_sample(given: tuple[pathlib.Path, pathlib.Path, list[pathlib.Path], pa
     report = subprocess.run([folder / "audit", "report", *files], capture_output=True, text=True).stdout
     if not report.startswith("BINDER AUDIT "):
         return failed
-    loading.database_of(folder, list(map(str, files)), None if side is None else str(side), made, lambda _: None)
-    database = open_database(made)
+    database = loaded(folder, made, files, side)
     for claim in claims(report):
         compare(f"{name}, {claim.name}", database.execute(claim.query).fetchall(), claim.due, failed.append)
     compare(f"{name}, what is held at the end", held_at_end(database), held_due(report), failed.append)
