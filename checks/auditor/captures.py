@@ -1,7 +1,7 @@
 """Compares the captures of crates/audit_cases/data, and copies of some of them in other crates, with `kit/captures.py`,
 which makes them.
 
-    checks/run captures              prints nothing if they are the same, else names each file that differs
+    checks/run captures              names each file that differs
     checks/run captures -- --write   first writes them into the folder
 """
 

@@ -17,8 +17,7 @@ And a program is run on captures of twenty frames, for each two of which there i
 captures with a fault of a header beside one of a record: each with 1, 3 and 64 workers and pieces of 1, 3 and 20
 frames. Before that the second reading is compared with the place of the first fault.
 
-With --table it prints how many captures are made of each file. If all is well it prints nothing else. Otherwise it
-names each line or capture that failed, and ends with status 1.
+With --table it prints how many captures are made of each file.
 """
 
 import os

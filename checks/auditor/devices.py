@@ -3,8 +3,7 @@
     checks/run devices [-- PROGRAM..]
 
 It is run by hand and not by `.ci/run`: it makes some 3,400 runs, which took a minute and a half on a busy machine. It
-builds only `devices.c` beside it, for which it needs `cc`. If all is well it prints nothing. Otherwise it names each
-case that failed, and ends with status 1. A device that hangs is not tested.
+builds only `devices.c` beside it, for which it needs `cc`. A device that hangs is not tested.
 
 The answer that is due for a capture comes from kit/second_reading.py. For a file that changes while it is read, it is
 the answer for the bytes that the reads gave, which the shim records.

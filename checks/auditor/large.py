@@ -11,8 +11,7 @@ seconds of processor time; a body that looks for each place frame by frame would
 each capture four times, with each of these numbers of workers and each of these pieces.
 
 It takes some 45 seconds on four cores, 2 GB of memory and 200 MB of disk. With --table it prints a line for each
-capture: its bytes, and the bytes and lines of the report that is due. If all is well it prints nothing else. Otherwise
-it names each capture that is not large and each run with another answer, and ends with status 1.
+capture: its bytes, and the bytes and lines of the report that is due.
 """
 
 import gc
@@ -27,7 +26,7 @@ from typing import Callable, Iterator, NamedTuple
 
 from checks.kit.captures import *
 from checks.kit.checking import FLAG, check, row
-from checks.kit.runs import answer, due, report_by, under
+from checks.kit.runs import answer, due, report_by, shown, under
 from checks.kit.written import write_frames
 from checks.kit.traffic import write_traffic
 
@@ -357,8 +356,7 @@ def wrong(command: list[object], wanted: Answer) -> str | None:
     if status == -signal.SIGXCPU:
         return f"expected an end within {PROCESSOR_SECONDS} seconds of processor time"
     if (status, err) != (wanted[0], b""):
-        return (f"expected status {wanted[0]} and no error; came status {status}, {len(out)} bytes of standard output"
-                f" and {err[:80]!r}")
+        return f"expected status {wanted[0]} and no error; came {shown((status, out, err))}"
     return None if out == wanted[1] else first_difference(out, wanted[1])
 
 

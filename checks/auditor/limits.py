@@ -6,9 +6,8 @@ compares the most memory that the program takes with a ceiling.
 
 Each limit is tried with 1, 4 and 64 workers, 20 times each, or N times; four runs are under way at once. This takes 3
 GB of memory and some three minutes; it is run by hand. It prints a table: for each limit and each number of workers,
-how many runs answered with the report. What is wrong goes to standard error, a line each, and the status is then 1.
-With --peaks, as `.ci/run` calls it, it looks only at the ceilings, which takes some seconds. Then it prints nothing if
-all is well.
+how many runs answered with the report. With --peaks, as `.ci/run` calls it, it looks only at the ceilings, which takes
+some seconds, and prints no table.
 
 A limit is what the program needs for itself, plus some times the size of the capture: ten limits from 1 to 4 times, and
 seven greater ones. What the program needs for itself is the least limit, to a page, under which one worker reports on a

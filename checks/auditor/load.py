@@ -3,8 +3,7 @@
     checks/run load [-- [--part dear|large|often] [PROGRAM..]]
 
 It makes its captures itself, one after another. It needs 1 GiB of disk, up to 10 GiB of memory, `cc`, and some three
-minutes. It is run by hand, and not by `.ci/run`. It prints its tables. What is wrong goes to standard error, a line
-each, and the status is then 1.
+minutes. It is run by hand, and not by `.ci/run`. It prints its tables.
 
 Everything runs under `ulimit -s 256`: 256 KiB of stack, for the first thread and for each further thread. A function
 that called itself once for each record, frame, process, object or call could not end there: a call takes at least 16
@@ -58,10 +57,8 @@ class Run(NamedTuple):
 
 def heads_and_digest(path):
     """The lines of a report that begin in the first column, and the digest of the whole report."""
-    digest = hashlib.sha256()
     with open(path, "rb") as text:
-        while part := text.read(2**20):
-            digest.update(part)
+        digest = hashlib.file_digest(text, "sha256")
     return answer(["grep", "-a", "-v", "^  ", path])[1].decode().splitlines(), digest.hexdigest()
 
 

@@ -3,8 +3,7 @@ is about. Whole captures are in crates/audit_cases.
 
     checks/run program [-- PROGRAM..]
 
-It takes 2 GB of memory and 200 MB of disk. If all is well it prints nothing. Otherwise it names each command that
-answered something else, and ends with status 1.
+It takes 2 GB of memory and 200 MB of disk.
 """
 
 import itertools

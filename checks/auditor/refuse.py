@@ -5,8 +5,7 @@
 It goes through three captures with one worker. With --all, as `.ci/run` calls it, it goes through eight, with one
 worker and with four, and then through the calls of the built crates/refusal_cases; `rows`, `text` and the faults of
 audits are also compared with kit/second_reading.py. It builds only `refuse.c` beside it, for which it needs `cc`. With
---table it prints the two tables that docs/MEASURED.md has, of the program and of the calls. If all is well it prints
-nothing else. Otherwise it names each line below that failed, and ends with status 1.
+--table it prints the two tables that docs/MEASURED.md has, of the program and of the calls.
 
 A run has its n-th growth refused, for n = 1, 2 and so on until a run meets no refusal. It answers Memory: nothing on
 standard output, `fault Memory`, status 3; a call answers with the line `Memory`. No refused growth is ignored, with one

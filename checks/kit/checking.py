@@ -14,6 +14,10 @@ from checks.kit.programs import AUDITOR, BY_RATTLE
 
 Fail = Callable[[str], None]
 
+# How each check ends, as `--help` says.
+ENDING = """If all is well, nothing is printed but what is asked for. If not, a line on standard error says of each thing
+what is wrong with it, or what was expected and what came, and the status is 1."""
+
 # An option without a value, as `check` takes it.
 FLAG = {"action": "store_true"}
 
@@ -36,6 +40,13 @@ def run_parts(parts: Iterable[Callable], folder: pathlib.Path, room: pathlib.Pat
         part(folder, room / part.__name__, fail)
 
 
+def failures_of(part: Callable, *given: object) -> list[str]:
+    """The failures of a part of a check, which can so run in a process of its own."""
+    failed: list[str] = []
+    part(*given, failed.append)
+    return failed
+
+
 @contextlib.contextmanager
 def own_room(prefix: str = "checks-") -> Iterator[pathlib.Path]:
     """A folder that is removed afterwards. A signal that ends the check removes it too, and ends the check without a
@@ -55,7 +66,7 @@ def check(judge: Callable[[argparse.Namespace, pathlib.Path, Fail], Iterable[str
     form of argparse, and programs. If it names no program, `given.programs` has the built auditor, and that by Rattle's
     own compiler if it is there."""
     line = argparse.ArgumentParser(description=sys.modules["__main__"].__doc__, allow_abbrev=False,
-                                   formatter_class=argparse.RawDescriptionHelpFormatter)
+                                   epilog=ENDING, formatter_class=argparse.RawDescriptionHelpFormatter)
     line.add_argument("programs", metavar="PROGRAM", nargs="*", type=pathlib.Path,
                       default=[AUDITOR, *[BY_RATTLE] * BY_RATTLE.exists()],
                       help="the auditor, or several; without it the built ones")

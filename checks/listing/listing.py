@@ -7,8 +7,6 @@ crates/audit_cases/data and samples/ the listing and the auditor's report must a
 line of the first fault, and in the status. A narrowed listing must be the lines of the whole listing that fit. Several
 files are one capture, also if each capture is cut into a file for each frame. In version 2 a frame has a device. Of the
 payloads in kit/tokens.py each must have the interface and the service that it names, and no other.
-
-If all is well it prints nothing. Otherwise it prints what was expected and what came, and ends with status 1.
 """
 
 import argparse

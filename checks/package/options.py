@@ -9,8 +9,7 @@ What must hold for each of the five commands of the package:
 - The completions are there for it, for bash and for zsh, and offer these options and no others.
 - The page of the manual names them, its command line no others.
 
-Of the recorder it builds only the file with the command line, with cc. It takes some two seconds. If all is well it
-prints nothing. Otherwise it prints what was expected and what came, and ends with status 1.
+Of the recorder it builds only the file with the command line, with cc. It takes some two seconds.
 """
 
 import pathlib

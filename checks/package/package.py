@@ -20,7 +20,6 @@ What must hold:
 By hand, since it needs root, the network, and debootstrap, lintian, mandoc and zsh; for the guest also QEMU and cpio.
 It takes some 5 minutes, and 2 to 12 more for the guest, without KVM. It proves what is not proved yet. What was
 changed since the commit is packed too, under another version. ROOM is where the new Debian is kept for the next time.
-If all is well it prints nothing. Otherwise it prints what was expected and what came, and ends with status 1.
 """
 
 import argparse
@@ -38,6 +37,7 @@ from checks.kit.checking import FLAG, Fail, check, compare
 from checks.kit.programs import CHECKS, PACKAGED, ROOT, linked
 from checks.kit.runs import output_of
 from checks.package.options import check_options
+from checks.pages.pages import commands_in
 from packager import manual
 
 SUITE, MIRROR = "bookworm", "http://deb.debian.org/debian"
@@ -245,10 +245,9 @@ def commands_of(page: manual.Page) -> Iterator[tuple[str, list[str]]]:
     for document, headings in page.documents.items():
         for section in manual.sections_under(document, headings):
             for block in manual.joined(manual.blocks_of(section.text)):
-                lines = [line.removeprefix("    ") for line in block]
-                starts = [at for at, line in enumerate(lines) if line.startswith("$ ") and block[at].startswith("    ")]
-                for start, end in zip(starts, [*starts[1:], len(lines)]):
-                    yield manual.as_installed(lines[start][2:]), lines[start + 1:end]
+                if block[0].startswith("    "):
+                    for _, command, due in commands_in([line.removeprefix("    ") for line in block]):
+                        yield manual.as_installed(command), due
 
 
 def check_commands(system: pathlib.Path, fail: Fail) -> None:

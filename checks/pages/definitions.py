@@ -1,7 +1,6 @@
 """Makes docs/DEFINITIONS.md: all definitions that the headline rests on, each with its comment, in an order of reading.
 
-    checks/run definitions              compares docs/DEFINITIONS.md with the page: prints nothing if they are the same,
-                                        else the first line that differs, with status 1
+    checks/run definitions              compares docs/DEFINITIONS.md with the page; names the first line that differs
     checks/run definitions -- --print   prints the page
 
 It starts at ROOTS and follows each name by the `use` lines of its file: to definitions in specs/, and to types and

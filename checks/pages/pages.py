@@ -15,8 +15,6 @@ What must hold:
 - The wrong bodies in a crate's page are those in its must-fail/, each of which names the goal at which it is refused.
   Those that docs/PROMISES.md names after ✗ exist.
 - docs/DEFINITIONS.md is the page that checks/run definitions makes.
-
-If all is well it prints nothing. Otherwise it names page and line, and ends with status 1.
 """
 
 import os
@@ -76,6 +74,13 @@ def blocks(page):
             heading = line.strip("# ")
 
 
+def commands_in(block):
+    """The commands in an indented block: where each one is, the command, and the lines that it must print."""
+    starts = [at for at, line in enumerate(block) if line.startswith("$ ")]
+    for start, end in zip(starts, [*starts[1:], len(block)]):
+        yield start, block[start][2:], block[start + 1:end]
+
+
 def told(report):
     """A report without the heads that have no number above 0."""
     title, totals, *lines = report.splitlines()
@@ -119,13 +124,11 @@ def wrong_answers(page, program, room):
     linked(folder, {name: ROOT / name for name in ("samples", "checks", "docs")})
     path = f"{folder}/bin:{os.environ['PATH']}" if with_sqlite3(folder) else os.environ["PATH"]
     for number, block, _ in blocks(page):
-        starts = [at for at, line in enumerate(block) if line.startswith("$ ")]
-        for start, end in zip(starts, [*starts[1:], len(block)]):
-            ran = subprocess.run(["bash", "-c", block[start][2:]], cwd=folder, timeout=120, text=True,
-                                 env={**os.environ, "PATH": path}, stdout=subprocess.PIPE, stderr=subprocess.STDOUT)
-            came = [line for line in ran.stdout.splitlines() if not line.startswith(WITHOUT_LOADER)]
-            if came != block[start + 1:end]:
-                yield number + start, f"it prints {ran.stdout!r}"
+        for at, command, due in commands_in(block):
+            _, said, _ = answer(["bash", "-c", command], timeout=120, cwd=folder, env={**os.environ, "PATH": path},
+                                text=True, stderr=subprocess.STDOUT)
+            if [line for line in said.splitlines() if not line.startswith(WITHOUT_LOADER)] != due:
+                yield number + at, f"it prints {said!r}"
 
 
 def changes(words, sample):

@@ -18,8 +18,7 @@ With --compilers:
   How many each took is printed.
 
 The compilers are those of Debian sid. They are fetched by apt-get into FOLDER, if they are not there yet, and not
-installed. That takes some minutes; without, this takes a second. If all is well it prints nothing else.
-Otherwise it prints what was expected and what came, and ends with status 1.
+installed. That takes some minutes; without, this takes a second.
 """
 
 import argparse

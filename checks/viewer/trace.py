@@ -30,8 +30,7 @@ What must hold, for stored captures with and without a side list, of one device 
 TRACE_VIEWER is the file trace_viewer_full.html of Catapult, with webcomponents.min.js beside it. Debian's package
 golang-1.19-src has both; its chromium has no chrome://tracing.
 
-It takes some 5 seconds of the processor. If all is well it prints nothing. Otherwise it prints what was expected and
-what came, and ends with status 1.
+It takes some 5 seconds of the processor.
 """
 
 import argparse

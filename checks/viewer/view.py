@@ -40,17 +40,17 @@ What must hold:
 - No statement of the rules takes the square of what a capture has.
 - The rules in docs/VIEW.md are those of the database, and so are the names and columns in docs/DATABASE.md.
 
-It calls the programs of the repository, and takes some 40 seconds on four cores. If all is well it prints nothing.
-Otherwise it prints what was expected and what came, and ends with status 1.
+It calls the programs of the repository, and takes some 40 seconds on four cores.
 """
 
 import argparse
+import itertools
 import os
 import pathlib
 import tempfile
 from concurrent.futures import ProcessPoolExecutor
 
-from checks.kit.checking import FLAG, Fail, check, run_parts
+from checks.kit.checking import FLAG, Fail, check, failures_of, run_parts
 from checks.kit.programs import DRIVER, ROOT, built_programs, programs
 from checks.viewer.page.books import check_agreement, check_commands, check_copies
 from checks.viewer.page.browser import check_browser
@@ -73,11 +73,13 @@ def check_all(folder: pathlib.Path, room: pathlib.Path, fail: Fail) -> None:
     samples += [([path], None) for path in sorted(ROOT.glob("samples/*.cap"))]
     samples += [([ROOT / "samples/rotated-1.cap", ROOT / "samples/rotated-2.cap"], None)]
     with ProcessPoolExecutor(os.cpu_count()) as pool:
-        jobs = [pool.submit(check_sample, (built, room / f"sample-{number}", files, side))
+        jobs = [pool.submit(failures_of, check_sample, built, room / f"sample-{number}", files, side)
                 for number, (files, side) in enumerate(samples)]
-        jobs += [pool.submit(check_cuts, (built, room, name, cut)) for name in FAULTLESS for cut in range(CUTS)]
-        jobs += [pool.submit(check_libgbinder, (built, room, path)) for path in CAPTURES]
-        jobs += [pool.submit(check_gaps, (built, room, path.parent.name)) for path in DRIVER.glob("*/capture.side")]
+        jobs += [pool.submit(failures_of, check_cuts, built, room, *which)
+                 for which in itertools.product(FAULTLESS, range(CUTS))]
+        jobs += [pool.submit(failures_of, check_libgbinder, built, room, name) for name in CAPTURES]
+        jobs += [pool.submit(failures_of, check_gaps, built, room, path.parent.name)
+                 for path in DRIVER.glob("*/capture.side")]
         run_parts((check_words, check_stopped), folder, room, fail)
         run_parts((check_side, check_renames, check_files, check_secrets, check_told, check_malformed, check_hostile,
                    check_methods, check_unnamed, check_services, check_loaders, check_agreement, check_copies,

@@ -8,7 +8,7 @@ import struct
 from collections import Counter
 from typing import Callable, NamedTuple
 
-from checks.kit.checking import compare
+from checks.kit.checking import Fail, compare
 from checks.kit.frames import Frame, frames_of
 from checks.viewer.page.common import groups_due, groups_of, loaded, texts_stored
 
@@ -30,13 +30,11 @@ def met_later(side: str, first: int) -> str:
     return "".join(lines)
 
 
-def check_cuts(given: tuple[pathlib.Path, pathlib.Path, str, int]) -> list[str]:
+def check_cuts(folder: pathlib.Path, room: pathlib.Path, name: str, cut: int, fail: Fail) -> None:
     """Checks one capture without a fault, cut at one place in four ways."""
-    folder, room, name, cut = given
     capture, side = texts_stored(name)
     frames = frames_of(capture)
     place, sequence, *_ = frames[max(1, min(len(frames) - 1, len(frames) * (2 * cut + 1) // (2 * CUTS)))]
-    failed: list[str] = []
     for way, data, list_ in (("end", capture[:place], None), ("end with the side list", capture[:place], side),
                              ("front", capture[:16] + capture[place:], None),
                              ("front, met in mid-life", capture[:16] + capture[place:], met_later(side, sequence))):
@@ -46,10 +44,9 @@ def check_cuts(given: tuple[pathlib.Path, pathlib.Path, str, int]) -> list[str]:
         (here / "cut.side").write_text(list_ or "")
         database = loaded(folder, here / "cut.db", [here / "cut.cap"], here / "cut.side" if list_ else None)
         real = database.execute("SELECT title, path, rules FROM finding_group WHERE verdict = 'real'").fetchall()
-        compare(f"{name}, cut {cut} from the {way}: real", real, [], failed.append)
+        compare(f"{name}, cut {cut} from the {way}: real", real, [], fail)
         database.close()
         shutil.rmtree(here)
-    return failed
 
 
 class Loss(NamedTuple):
@@ -125,10 +122,8 @@ def real_of(groups: list[tuple[str, ...]]) -> set[tuple[str, str]]:
     return {(title, path) for verdict, title, _, _, path, _ in groups if verdict == "real"}
 
 
-def check_gaps(given: tuple[pathlib.Path, pathlib.Path, str]) -> list[str]:
+def check_gaps(folder: pathlib.Path, room: pathlib.Path, name: str, fail: Fail) -> None:
     """Checks a capture with lost frames: only what is real in the whole capture is real."""
-    folder, room, name = given
-    failed: list[str] = []
     capture, side = texts_stored(name)
     due = real_of(groups_due(name))
     for number, loss in enumerate(losses(frames_of(capture))):
@@ -142,8 +137,7 @@ def check_gaps(given: tuple[pathlib.Path, pathlib.Path, str]) -> list[str]:
             "SELECT c.missing, (SELECT value FROM capture WHERE key = 'side_doubt'), (SELECT count(*) FROM side_missed)"
             " FROM raw_capture c").fetchone()
         compare(f"{name}, {loss.name}: frames are missing, and the list tells of them",
-                (missing > 0 or not loss.numbered, missed > 0, doubt), (True, not loss.numbered, None), failed.append)
-        compare(f"{name}, {loss.name}: real", real_of(groups_of(database)) - due, set(), failed.append)
+                (missing > 0 or not loss.numbered, missed > 0, doubt), (True, not loss.numbered, None), fail)
+        compare(f"{name}, {loss.name}: real", real_of(groups_of(database)) - due, set(), fail)
         database.close()
         shutil.rmtree(here)
-    return failed

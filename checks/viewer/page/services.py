@@ -83,37 +83,34 @@ def check_hostile_names(folder: pathlib.Path, room: pathlib.Path, fail: Fail) ->
 # ---- clients on libgbinder
 
 SOURCES = DRIVER.parent / "interfaces"
-CAPTURES = sorted(path for path in DRIVER.glob("hello-*"))
+CAPTURES = sorted(path.name for path in DRIVER.glob("hello-*"))
 HEALTHY = ("hello-9", "hello-10", "hello-11", "hello-hidl")
 SERVICES = [("hello", "org.example.IHello"), ("org.example.IClock/default", "org.example.IClock")]
 OF_HIDL_ONLY = [(None, "org.example@1.0::IHello")]
 TRANSACTIONS = "kind LIKE '%TRANSACTION%' AND kind NOT LIKE '%COMPLETE' AND code BETWEEN 1 AND 16777215"
 
 
-def check_libgbinder(given: tuple[pathlib.Path, pathlib.Path, pathlib.Path]) -> list[str]:
+def check_libgbinder(folder: pathlib.Path, room: pathlib.Path, name: str, fail: Fail) -> None:
     """A stored capture of clients on libgbinder: each transaction has its interface and each registered object its
     service, and the page has the methods of a table from sources. One without a fault has no verdict real, and at most
     two maybe."""
-    folder, room, capture = given
-    name, failed = capture.name, []
     make_table(room, SOURCES, f"{name}.methods")
     made = view(folder, room, *stored(name), "--methods", f"{name}.methods", "-o", f"{name}.html", "--database",
                 f"{name}.db")
-    compare(name, made, (0, "", ""), failed.append)
+    compare(name, made, (0, "", ""), fail)
     database = sqlite3.connect(room / f"{name}.db")
     many, named = database.execute(f"SELECT count(*), count(interface) FROM record WHERE {TRANSACTIONS}").fetchone()
-    compare(f"{name}, transactions with an interface", (named, named > 25), (many, True), failed.append)
+    compare(f"{name}, transactions with an interface", (named, named > 25), (many, True), fail)
     is_hidl, = database.execute("SELECT count(*) FROM interface WHERE name LIKE '%::IHello'").fetchone()
     compare(f"{name}, services", database.execute("SELECT service, interface FROM node_service WHERE rests_on = 'bytes'"
                                                   " ORDER BY 1").fetchall(),
-            OF_HIDL_ONLY if is_hidl else SERVICES, failed.append)
+            OF_HIDL_ONLY if is_hidl else SERVICES, fail)
     text = texts_of(room / f"{name}.html")
     lacks = [one for one in ("IHello.echo (code 1)", "IHello.callBack (code 2)", "ISession.use (code 1)")
              if one not in text]
-    compare(f"{name}, methods that the page lacks", lacks, [], failed.append)
+    compare(f"{name}, methods that the page lacks", lacks, [], fail)
     verdicts = dict(database.execute("SELECT verdict, count(*) FROM finding_group GROUP BY 1"))
     if name in HEALTHY:
-        compare(f"{name}, verdicts", ("real" in verdicts, verdicts.get("maybe", 0) <= 2), (False, True), failed.append)
+        compare(f"{name}, verdicts", ("real" in verdicts, verdicts.get("maybe", 0) <= 2), (False, True), fail)
     else:
-        compare(f"{name}, a verdict", "real" in verdicts or "maybe" in verdicts, True, failed.append)
-    return failed
+        compare(f"{name}, a verdict", "real" in verdicts or "maybe" in verdicts, True, fail)
