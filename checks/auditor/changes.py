@@ -1,12 +1,11 @@
-#!/usr/bin/env python3
 """Compares the built program with a plain second reading, on captures that are cut or changed, and on parts.
 
     checks/run changes [-- [--table] [PROGRAM..]]
 
-Without PROGRAM it takes the built ones. The lines of crates/audit_changes/stdin
-say how the captures are made; that crate's README.md explains the lines. A program is run on each different capture,
-with two workers and pieces of one frame. Its status and its output must be, byte for byte, what `second_reading.py` says. Before that the second reading is compared with what is stored in that crate: the answer in
-each line, and in `stdout` the numbers of captures and of reports.
+The lines of crates/audit_changes/stdin say how the captures are made; that crate's README.md explains the lines. A
+program is run on each different capture, with two workers and pieces of one frame. Its status and its output must be,
+byte for byte, what kit/second_reading.py says. Before that the second reading is compared with what is stored in that
+crate: the answer in each line, and in `stdout` the numbers of captures and of reports.
 
 Each capture of crates/audit_cases is also cut into parts: between frames, into two, three and as many as it has frames,
 with file headers of either version; and into parts that are no capture together, for example by a cut within a frame. A
@@ -18,19 +17,20 @@ And a program is run on captures of twenty frames, for each two of which there i
 captures with a fault of a header beside one of a record: each with 1, 3 and 64 workers and pieces of 1, 3 and 20
 frames. Before that the second reading is compared with the place of the first fault.
 
-With --table it prints how many captures are made of each file. If all is well it prints nothing else. Otherwise it
-names each line or capture that failed, and ends with status 1.
+With --table it prints how many captures are made of each file.
 """
 
 import os
 import subprocess
 from typing import NamedTuple
 
+from checks.kit import captures
 from checks.kit.captures import changed, loopers
-from checks.kit.checking import FLAG, check
+from checks.kit.checking import FLAG, check, row
+from checks.kit.frames import frames_of
 from checks.kit.programs import CASES, ROOT
-from checks.kit.runs import answer, as_answer, at_once
-from checks.kit.second_reading import number, reading, reading_of_parts
+from checks.kit.runs import answer, as_answer, at_once, report_by
+from checks.kit.second_reading import reading, reading_of_parts
 
 CRATE = ROOT / "crates/audit_changes"
 
@@ -39,12 +39,12 @@ WHOLE = {"reply.cap": 224, "attachment.cap": 160, "refused-oneway.cap": 356, "ba
          "unknown-flags.cap": 116, "two-devices.cap": 248}
 
 # The bytes of a file header, and the magics of the two versions.
-HEADER = 16
-MAGICS = b"BNDRCAP1", b"BNDRCAP2"
+HEADER = len(captures.HEADER)
+MAGICS = captures.HEADER[:8], captures.HEADER_2[:8]
 
 # The most files of a capture; and the workers and the piece with which reports on parts are made, in turn.
 MOST_PARTS = 256
-MANNERS = ("1", "256"), ("2", "1"), ("7", "1"), ("3", "2"), ("4", "256")
+MANNERS = (1, 256), (2, 1), (7, 1), (3, 2), (4, 256)
 
 
 class Case(NamedTuple):
@@ -54,15 +54,6 @@ class Case(NamedTuple):
     capture: bytes
 
 
-def bytes_of(*names):
-    with open(CRATE.joinpath(*names), "rb") as file:
-        return file.read()
-
-
-def replaced(whole, at, other):
-    return whole[:at] + other + whole[at + len(other):]
-
-
 def captures_of(words, whole):
     """The captures that a line makes of a file, and what is changed in each."""
     match words:
@@ -70,20 +61,20 @@ def captures_of(words, whole):
             for length in range(int(first), int(last) + 1):
                 yield f"cut at {length}", whole[:length]
         case ["change", _, at, value, _]:
-            yield f"number {at} to {value}", replaced(whole, int(at), int(value, 0).to_bytes(4, "little"))
+            yield f"number {at} to {value}", changed(whole, (int(at), captures.u32(int(value, 0))))
         case ["every", _]:
             for length in range(len(whole)):
                 yield f"cut at {length}", whole[:length]
             for at, byte in enumerate(whole):
                 for value in 0, 0xFF, (byte + 1) % 256:
-                    yield f"byte {at} to 0x{value:02x}", replaced(whole, at, bytes([value]))
+                    yield f"byte {at} to 0x{value:02x}", changed(whole, (at, bytes([value])))
 
 
 def all_cases():
     cases = []
-    for line in bytes_of("stdin").decode().splitlines():
+    for line in (CRATE / "stdin").read_text().splitlines():
         words = line.split("\t")
-        whole = bytes_of("data", words[1])
+        whole = (CRATE / "data" / words[1]).read_bytes()
         cases += [Case(line, words[1], *made) for made in captures_of(words, whole)]
     return cases
 
@@ -104,7 +95,7 @@ def judge_lines(cases, due, fail):
             fail(f"{line}: not the answer of the second reading")
         reports = sum(status == 0 for status, _ in answers)
         wanted += [f"> {line}", f"captures {len(answers)} reports {reports}"]
-    stored = bytes_of("stdout").decode().splitlines()
+    stored = (CRATE / "stdout").read_text().splitlines()
     for line in [line for line, other in zip(wanted, stored) if line != other][:1]:
         fail(f"crates/audit_changes/stdout: not '{line}'")
     if len(stored) != len(wanted):
@@ -117,8 +108,7 @@ def judge_lines(cases, due, fail):
 
 def judge_program(program, first, due, fail):
     """Runs a program on each different capture, and compares its answers with the second reading."""
-    words = [program, "report", "--workers", "2", "--piece", "1", "/dev/stdin"]
-
+    words = [program, *report_by(2, 1), "/dev/stdin"]
     answers = at_once(os.cpu_count(), lambda capture: answer(words, timeout=60, input=capture), first)
     for (capture, case), answered in zip(first.items(), answers):
         if answered != as_answer(*due[capture]):
@@ -139,13 +129,7 @@ class Joined(NamedTuple):
 def frame_ends(whole):
     """Where a capture may be cut into parts: after its file header, and after each frame, as far as the lengths of
     frames show."""
-    ends = [HEADER] if len(whole) >= HEADER else []
-    while ends and ends[-1] + 32 <= len(whole):
-        end = ends[-1] + 32 + number(whole, ends[-1] + 16 + 4, 4) + number(whole, ends[-1] + 24, 4)
-        if end > len(whole):
-            break
-        ends.append(end)
-    return ends
+    return [HEADER, *(frame.end for frame in frames_of(whole))] if len(whole) >= HEADER else []
 
 
 def spread(things, most):
@@ -205,12 +189,11 @@ def broken(whole):
 def all_joined():
     """For each different list of parts, the first capture that gives it."""
     joined = {}
-    for file in sorted(os.listdir(CASES)):
-        with open(CASES / file, "rb") as capture:
-            whole = capture.read()
+    for file in sorted(CASES.iterdir()):
+        whole = file.read_bytes()
         made = list(cut_at_frames(whole)) + [(*case, None) for case in broken(whole)]
         for change, parts, cuts in made:
-            joined.setdefault(parts, Joined(file, change, parts, cuts))
+            joined.setdefault(parts, Joined(file.name, change, parts, cuts))
     return list(joined.values())
 
 
@@ -240,8 +223,7 @@ def judge_program_on_parts(program, joined, due, files, fail):
     def differs(numbered):
         index, case = numbered
         names = [files[part] for part in case.parts]
-        workers, piece = MANNERS[index % len(MANNERS)]
-        asked = [["report", "--workers", workers, "--piece", piece], *([["first-fault"]] if index % 2 else [])]
+        asked = [report_by(*MANNERS[index % len(MANNERS)]), *([["first-fault"]] if index % 2 else [])]
         return [" ".join(words) for words, wanted in zip(asked, due[case.parts])
                 if answer([program, *words, *names], timeout=60, stdin=subprocess.DEVNULL) != as_answer(*wanted)]
 
@@ -256,9 +238,8 @@ def judge_parts(programs, room, fail):
     judge_joined(joined, {parts: report for parts, (report, _) in due.items()}, fail)
     files = {}
     for part in dict.fromkeys(part for case in joined for part in case.parts):
-        files[part] = os.path.join(room, str(len(files)))
-        with open(files[part], "wb") as file:
-            file.write(part)
+        files[part] = room / str(len(files))
+        files[part].write_bytes(part)
     for program in programs:
         judge_program_on_parts(program, joined, due, files, fail)
 
@@ -280,16 +261,15 @@ def two_faults():
 
 def judge_two_faults(programs, fail):
     """Runs each program on them, with different workers and pieces."""
-    runs = [(*made, (program, "report", "--workers", workers, "--piece", piece, "/dev/stdin"))
-            for made in two_faults() for program in programs
-            for workers in ("1", "3", "64") for piece in ("1", "3", "20")]
+    runs = [(*made, [program, *report_by(workers, piece), "/dev/stdin"]) for made in two_faults()
+            for program in programs for workers in (1, 3, 64) for piece in (1, 3, 20)]
     for capture, what, line in two_faults():
         if reading(capture) != (2, [line]):
             fail(f"{what}: the second reading does not say '{line}'")
     answers = at_once(os.cpu_count(), lambda run: answer(run[3], timeout=60, input=run[0]), runs)
     for (_, what, line, words), answered in zip(runs, answers):
         if answered != as_answer(2, [line]):
-            fail(f"{' '.join(words)}: {what}: not '{line}'")
+            fail(f"{' '.join(map(str, words))}: {what}: not '{line}'")
 
 
 # ---- the table, and the command line
@@ -300,8 +280,7 @@ def print_table(cases, due):
         own = [case for case in cases if case.file == file]
         reports = sum(due[case.capture][0] == 0 for case in own)
         different = len({case.capture for case in own})
-        print(f"| `{file}` | {len(bytes_of('data', file))} | {len(own)} | {different} | {reports} |"
-              f" {len(own) - reports} |")
+        row(f"`{file}`", (CRATE / "data" / file).stat().st_size, len(own), different, reports, len(own) - reports)
 
 
 def judge(given, room, fail):

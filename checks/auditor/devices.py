@@ -1,15 +1,12 @@
-#!/usr/bin/env python3
 """Runs the built program on devices that fail, are slow or change, and checks its answers.
 
     checks/run devices [-- PROGRAM..]
 
-Without PROGRAM it takes the built ones. It is run by hand and not by `.ci/run`: it
-makes some 3,400 runs, which took a minute and a half on a busy machine. It builds only `devices.c` beside it, for which
-it needs `cc`. If all is well it prints nothing. Otherwise it names each case that failed, and ends with status 1. A
-device that hangs is not tested.
+It is run by hand and not by `.ci/run`: it makes some 3,400 runs, which took a minute and a half on a busy machine. It
+builds only `devices.c` beside it, for which it needs `cc`. A device that hangs is not tested.
 
-The answer that is due for a capture comes from slow_reading.py. For a file that changes while it is read, it is the
-answer for the bytes that the reads gave, which the shim records.
+The answer that is due for a capture comes from kit/second_reading.py. For a file that changes while it is read, it is
+the answer for the bytes that the reads gave, which the shim records.
 """
 
 import errno
@@ -20,15 +17,15 @@ from typing import NamedTuple
 
 from checks.kit import runs
 from checks.kit.captures import BC_ACQUIRE, BC_REPLY, HEADER, each, transaction, write
-from checks.kit.checking import check
+from checks.kit.checking import check, compare
 from checks.kit.programs import ROOT, preloadable
 
 # How many bytes the program asks for in a read.
 ASKED = 65536
 
 FIRST_FAULT = ["first-fault", "capture"]
-REPORT = ["report", "--workers", "1", "capture"]
-BY_FOUR = ["report", "--workers", "4", "--piece", "1", "capture"]
+REPORT = [*runs.report_by(1), "capture"]
+BY_FOUR = [*runs.report_by(4, 1), "capture"]
 
 READ = 4, b"", b"fault Read\n"
 WRITE = 4, b"", b"fault Write\n"
@@ -54,18 +51,16 @@ class Run(NamedTuple):
 
 class Program(NamedTuple):
     """A program, the folder with `capture` that it runs in, and the shim."""
-    path: str
+    path: pathlib.Path
     room: pathlib.Path
-    shim: str
+    shim: pathlib.Path
 
     def run(self, words, capture, **devices):
         """A run with the shim."""
         for name in ("log", "given"):
             (self.room / name).write_bytes(b"")
         (self.room / "capture").write_bytes(capture)
-        around = dict(
-            os.environ, LD_PRELOAD=self.shim, DEVICE_FILE="capture", DEVICE_LOG="log", DEVICE_BYTES="given",
-            **{name: str(value) for name, value in devices.items()})
+        around = runs.with_library(self.shim, DEVICE_FILE="capture", DEVICE_LOG="log", DEVICE_BYTES="given", **devices)
         answer = runs.answer([self.path, *words], timeout=60, cwd=self.room, env=around)
         lines = (self.room / "log").read_text().splitlines()
         calls = [(name, int(answered)) for name, _, answered in map(str.split, lines)]
@@ -156,14 +151,11 @@ def changed_files(program, fail):
 
 def failing_streams(program, fail):
     """Full and closed streams. The status is the same even if the line of the failure can't be written."""
-    def hold(what, got, wanted):
-        if got != wanted:
-            fail(f"{what}: {got}")
-
     for words in (REPORT, BY_FOUR, FIRST_FAULT):
         for capture, size in ((REPLY, "short"), (REPLIES, "long")):
             for streams in (">/dev/full", ">&-"):
-                hold(f"{words[0]} on a {size} capture {streams}", program.plain(words, capture, streams), WRITE)
+                came = program.plain(words, capture, streams)
+                compare(f"{words[0]} on a {size} capture {streams}", came, WRITE, fail)
     failures = [
         (["report"], "", 64),
         (["report", "no-such-file"], "", 4),
@@ -173,10 +165,11 @@ def failing_streams(program, fail):
     ]
     for words, streams, status in failures:
         for error in ("2>/dev/full", "2>&-"):
-            hold(f"{words} {streams} {error}", program.plain(words, REPLY, f"{streams} {error}"), (status, b"", b""))
+            compare(f"{words} {streams} {error}", program.plain(words, REPLY, f"{streams} {error}"),
+                    (status, b"", b""), fail)
         with unread_pipe() as end:
-            hold(f"{words} {streams} with standard error unread",
-                 program.plain(words, REPLY, streams, stderr=end), (status, b"", None))
+            compare(f"{words} {streams} with standard error unread", program.plain(words, REPLY, streams, stderr=end),
+                    (status, b"", None), fail)
 
 
 def unread_pipe():
@@ -192,9 +185,8 @@ def left_pipes(program, fail):
     for words in (REPORT, BY_FOUR, FIRST_FAULT):
         for capture, size in ((REPLY, "short"), (REPLIES, "long")):
             with unread_pipe() as end:
-                got = program.plain(words, capture, stdout=end)
-            if got != (4, None, b"fault Write\n"):
-                fail(f"{words[0]} on a {size} capture, into a pipe that nobody reads: {got}")
+                compare(f"{words[0]} on a {size} capture, into a pipe that nobody reads",
+                        program.plain(words, capture, stdout=end), (4, None, b"fault Write\n"), fail)
     for words in (REPORT, BY_FOUR):
         for part in (1, 4096, ASKED):
             taken, got = read_in_part(program, words, part)

@@ -1,24 +1,22 @@
-#!/usr/bin/env python3
 """Compares the built program with the second reading, on captures that are large in each way.
 
     checks/run large [-- [--table] [PROGRAM..]]
 
-Without PROGRAM it takes the built ones. The captures are made here, the same ones
-in each run. Each is large in one way or several: more than 65,536 of one thing in a process, a thread or a frame, more
-than 65,536 rows in a section, a report of more than 16 MiB, two million frames. Each has more than 131,072 frames. Most
-records that belong together are in different halves of a capture, so that several workers have ledgers of them, which
-are joined. The program is run with 1, 3, 33 and 64 workers, and with pieces of 1, 256 and 65,536 frames. It must write,
-byte for byte, what `second_reading.py` says. It must end within 8 seconds of processor time; a body
-that looks for each place frame by frame would not. Each further program is run on each capture four times, with each of
-these numbers of workers and each of these pieces.
+The captures are made here, the same ones in each run. Each is large in one way or several: more than 65,536 of one
+thing in a process, a thread or a frame, more than 65,536 rows in a section, a report of more than 16 MiB, two million
+frames. Each has more than 131,072 frames. Most records that belong together are in different halves of a capture, so
+that several workers have ledgers of them, which are joined. The program is run with 1, 3, 33 and 64 workers, and with
+pieces of 1, 256 and 65,536 frames. It must write, byte for byte, what kit/second_reading.py says. It must end within 8
+seconds of processor time; a body that looks for each place frame by frame would not. Each further program is run on
+each capture four times, with each of these numbers of workers and each of these pieces.
 
 It takes some 45 seconds on four cores, 2 GB of memory and 200 MB of disk. With --table it prints a line for each
-capture: its bytes, and the bytes and lines of the report that is due. If all is well it prints nothing else. Otherwise
-it names each capture that is not large and each run with another answer, and ends with status 1.
+capture: its bytes, and the bytes and lines of the report that is due.
 """
 
 import gc
 import os
+import pathlib
 import random
 import signal
 import subprocess
@@ -28,7 +26,7 @@ from typing import Callable, Iterator, NamedTuple
 
 from checks.kit.captures import *
 from checks.kit.checking import FLAG, check, row
-from checks.kit.runs import answer, due, under
+from checks.kit.runs import answer, due, report_by, shown, under
 from checks.kit.written import write_frames
 from checks.kit.traffic import write_traffic
 
@@ -68,7 +66,7 @@ def got(process: int, thread: int, *records: bytes, device: int = 0) -> Told:
     return 2, process, thread, list(records), [], device
 
 
-def put(path: str, *halves: Iterator[Told], header: bytes = HEADER) -> None:
+def put(path: pathlib.Path, *halves: Iterator[Told], header: bytes = HEADER) -> None:
     """Writes the capture of the frames of these halves, one after the other."""
     write_frames(path, (frame(direction, sequence, *rest)
                         for sequence, (direction, *rest) in enumerate(chain(*halves), 1)), header=header)
@@ -89,7 +87,7 @@ def by_turns(*lists: Iterator[Told]) -> Iterator[Told]:
 # ---- the captures
 
 
-def open_calls(path: str) -> None:
+def open_calls(path: pathlib.Path) -> None:
     """Calls of two threads, sent and served by turns, each within the one before it. Those of the first thread stay
     open. Those of the second are opened in the first half and closed in the second, in each of the ways."""
     def openers(thread: int) -> Iterator[Told]:
@@ -106,7 +104,7 @@ def open_calls(path: str) -> None:
     put(path, by_turns(openers(1), openers(2)), by_turns(openers(1), closers(2)))
 
 
-def refused_sends(path: str) -> None:
+def refused_sends(path: pathlib.Path) -> None:
     """Oneway transactions of a thread, two to each of many handles, and every second one refused. A last frame has many
     error replies that close nothing."""
     def frames() -> Iterator[Told]:
@@ -119,7 +117,7 @@ def refused_sends(path: str) -> None:
     put(path, frames())
 
 
-def references(path: str) -> None:
+def references(path: pathlib.Path) -> None:
     """References of a process to handles and nodes. Each handle and each node is named in both halves."""
     def half(seed: int, of_handles: tuple[int, int], of_nodes: tuple[int, int], done: int) -> Iterator[Told]:
         handles, nodes = shuffled(seed), shuffled(seed + 1)
@@ -135,7 +133,7 @@ def references(path: str) -> None:
         half(3, (BC_RELEASE, BC_ACQUIRE), (BR_INCREFS, BR_DECREFS), BC_ACQUIRE_DONE))
 
 
-def buffers(path: str) -> None:
+def buffers(path: pathlib.Path) -> None:
     """Buffers of a process. Many are delivered in the first half, and some of them freed in the second. Many are freed
     in the first half and delivered in the second."""
     def address(number: int) -> int:
@@ -159,7 +157,7 @@ def buffers(path: str) -> None:
     put(path, first(), second())
 
 
-def deaths(path: str) -> None:
+def deaths(path: pathlib.Path) -> None:
     """Requests, deaths and clears of a process in the first half. In the second half some of the requests are ended by
     a death or a clear, new requests are made, some of the deaths and clears are answered, and other answers are to
     nothing."""
@@ -183,7 +181,7 @@ def deaths(path: str) -> None:
     put(path, first(), second())
 
 
-def objects(path: str) -> None:
+def objects(path: pathlib.Path) -> None:
     """Deliveries with unknown flags, each with an attachment of two good objects and a bad one, to which nobody
     replies. After each a call with unknown flags that nobody answers. A last delivery has as many objects as all others
     together. The numbers are long, so that the rows are."""
@@ -205,7 +203,7 @@ def objects(path: str) -> None:
     put(path, frames())
 
 
-def codes(path: str) -> None:
+def codes(path: pathlib.Path) -> None:
     """Records of many codes that are not in the tables, each code once in either half."""
     words = [bits << 30 | size << 16 | ord(letter) << 8 | number for size in range(1, 150)
              for letter, bits in (("c", 1), ("r", 2)) for number in range(30, 256)]
@@ -218,7 +216,7 @@ def codes(path: str) -> None:
     put(path, half(1), half(2))
 
 
-def processes(path: str) -> None:
+def processes(path: pathlib.Path) -> None:
     """Processes of one thread each: a reference and a call in the first half, a reply or none in the second."""
     def first() -> Iterator[Told]:
         for number in shuffled(1):
@@ -232,7 +230,7 @@ def processes(path: str) -> None:
     put(path, first(), second())
 
 
-def devices(path: str) -> None:
+def devices(path: pathlib.Path) -> None:
     """Processes on three devices, each number on all of them, with the same handles, addresses and threads. In the
     first half each has a reference, a call and a delivery; in the second a reply, or a release and a free."""
     def first() -> Iterator[Told]:
@@ -253,25 +251,25 @@ def devices(path: str) -> None:
     put(path, first(), second(), header=HEADER_2)
 
 
-def usual_traffic(path: str) -> None:
+def usual_traffic(path: pathlib.Path) -> None:
     """What `traffic.py` makes, on three devices."""
     write_traffic(path, 13 * 2**20, 3)
 
 
-def faults(path: str) -> None:
+def faults(path: pathlib.Path) -> None:
     """Frames of a process. Two of them have a fault, both in the second half."""
     wrong = 100_000, 120_000
     put(path, (written(1, 1, record(BR_NOOP if at in wrong else BC_ENTER_LOOPER)) for at in range(2 * MANY)))
 
 
-def empty_frames(path: str) -> None:
+def empty_frames(path: pathlib.Path) -> None:
     """Frames without a record, of a few processes."""
     put(path, (written(1 + at % 7, 1) for at in range(EMPTY_FRAMES)))
 
 
 class Large(NamedTuple):
     """A capture, and what must be large in its report: the sections with many rows, and its bytes."""
-    make: Callable[[str], None]
+    make: Callable[[pathlib.Path], None]
     sections: tuple[str, ...] = ()
     least_bytes: int = 0
 
@@ -298,7 +296,7 @@ LARGE = (
 class Prepared(NamedTuple):
     """A capture in a file, the answer that is due to `report`, and what is not large enough."""
     name: str
-    path: str
+    path: pathlib.Path
     answer: Answer
     small: list[str]
 
@@ -327,14 +325,13 @@ def too_small(large: Large, text: bytes) -> list[str]:
     return small
 
 
-def prepared(room: str, large: Large) -> Prepared:
+def prepared(room: pathlib.Path, large: Large) -> Prepared:
     """Makes a capture, and the answer that the second reading gives to it."""
     gc.disable()
     name = large.make.__name__
-    path = os.path.join(room, f"{name}.cap")
+    path = room / f"{name}.cap"
     large.make(path)
-    with open(path, "rb") as file:
-        status, text, _ = wanted = due(file.read())
+    status, text, _ = wanted = due(path.read_bytes())
     return Prepared(name, path, wanted, too_small(large, text) if status == 0 else [])
 
 
@@ -350,7 +347,7 @@ def first_difference(came: bytes, wanted: bytes) -> str:
     return f"{len(came)} bytes and not {len(wanted)}"
 
 
-def wrong(command: list[str], wanted: Answer) -> str | None:
+def wrong(command: list[object], wanted: Answer) -> str | None:
     """What is wrong with a run; None if its answer is the one that is due."""
     try:
         status, out, err = answer(under(command, processor=PROCESSOR_SECONDS), timeout=SECONDS)
@@ -359,41 +356,38 @@ def wrong(command: list[str], wanted: Answer) -> str | None:
     if status == -signal.SIGXCPU:
         return f"expected an end within {PROCESSOR_SECONDS} seconds of processor time"
     if (status, err) != (wanted[0], b""):
-        return (f"expected status {wanted[0]} and no error; came status {status}, {len(out)} bytes of standard output"
-                f" and {err[:80]!r}")
+        return f"expected status {wanted[0]} and no error; came {shown((status, out, err))}"
     return None if out == wanted[1] else first_difference(out, wanted[1])
 
 
-def judged(program: str, words: tuple[str, ...], files: list[str], name: str, wanted: Answer) -> list[str]:
+def judged(program: pathlib.Path, words: list[str], files: list[pathlib.Path], name: str, wanted: Answer) -> list[str]:
     what = wrong([program, *words, *files], wanted)
     return [f"{program}: {name}, {' '.join(words)}: {what}"] if what else []
 
 
-def parts_of(path: str) -> list[str]:
+def parts_of(path: pathlib.Path) -> list[pathlib.Path]:
     """A capture of empty frames, cut into as many files as the program takes."""
-    with open(path, "rb") as file:
-        header, frames = file.read(len(HEADER)), file.read()
+    frames = path.read_bytes()[len(HEADER):]
     length = len(frame(1, 1, 1, 1))
     each = -(-len(frames) // length // PARTS) * length
-    files = [f"{path}.{at}" for at in range(PARTS)]
+    files = [path.with_suffix(f".{at}") for at in range(PARTS)]
     for at, part in enumerate(files):
-        with open(part, "wb") as file:
-            file.write(header + frames[at * each:(at + 1) * each])
+        part.write_bytes(HEADER + frames[at * each:(at + 1) * each])
     return files
 
 
-def start_runs(pool: ThreadPoolExecutor, program: str, capture: Prepared, ways: list[tuple[int, int]]) -> list[Future]:
+def start_runs(pool: ThreadPoolExecutor, program: pathlib.Path, capture: Prepared,
+               ways: list[tuple[int, int]]) -> list[Future]:
     """Starts the runs of a program on a capture. The result of each is what is wrong with it."""
-    reports = [("report", "--workers", str(workers), "--piece", str(piece)) for workers, piece in ways]
     whole, wanted = [capture.path], capture.answer
-    asked = [(("first-fault",), whole, wanted if wanted[0] else (0, b"no malformed record\n", b"")),
-             *((words, whole, wanted) for words in reports)]
+    asked = [(["first-fault"], whole, wanted if wanted[0] else (0, b"no malformed record\n", b"")),
+             *((report_by(*way), whole, wanted) for way in ways)]
     if capture.name == empty_frames.__name__:
-        asked.append((("report", "--workers", "4"), parts_of(capture.path), wanted))
+        asked.append((report_by(4), parts_of(capture.path), wanted))
     return [pool.submit(judged, program, words, files, capture.name, wanted) for words, files, wanted in asked]
 
 
-def judge(given, room, fail) -> None:
+def judge(given, room, fail) -> list[str]:
     runs = []
     with ProcessPoolExecutor(os.cpu_count()) as makers, ThreadPoolExecutor(os.cpu_count()) as runners:
         for made in as_completed([makers.submit(prepared, room, large) for large in LARGE]):
@@ -402,11 +396,10 @@ def judge(given, room, fail) -> None:
                 fail(f"{capture.name}: not large: {what}")
             if given.table:
                 text = capture.answer[1]
-                row(capture.name, os.path.getsize(capture.path), len(text), len(text.splitlines()))
+                row(capture.name, capture.path.stat().st_size, len(text), len(text.splitlines()))
             for number, program in enumerate(given.programs):
                 runs += start_runs(runners, program, capture, FEW if number else ALL)
-        for what in sorted(what for run in runs for what in run.result()):
-            fail(what)
+        return sorted(what for run in runs for what in run.result())
 
 
 if __name__ == "__main__":

@@ -1,15 +1,13 @@
-#!/usr/bin/env python3
 """Runs the built program on a capture of 64 MiB under limits on its address space, and checks its answers. It also
 compares the most memory that the program takes with a ceiling.
 
     checks/run limits -- [--runs N] [--bytes N] [PROGRAM..]
     checks/run limits -- --peaks [PROGRAM..]
 
-Without PROGRAM it takes the built ones. Each limit is tried with 1, 4 and 64
-workers, 20 times each, or N times; four runs are under way at once. This takes 3 GB of memory and some three minutes;
-it is run by hand. It prints a table: for each limit and each number of workers, how many runs answered with the report.
-What is wrong goes to standard error, a line each, and the status is then 1. With --peaks, as `.ci/run` calls it, it
-looks only at the ceilings, which takes some seconds. Then it prints nothing if all is well.
+Each limit is tried with 1, 4 and 64 workers, 20 times each, or N times; four runs are under way at once. This takes 3
+GB of memory and some three minutes; it is run by hand. It prints a table: for each limit and each number of workers,
+how many runs answered with the report. With --peaks, as `.ci/run` calls it, it looks only at the ceilings, which takes
+some seconds, and prints no table.
 
 A limit is what the program needs for itself, plus some times the size of the capture: ten limits from 1 to 4 times, and
 seven greater ones. What the program needs for itself is the least limit, to a page, under which one worker reports on a
@@ -28,16 +26,17 @@ A body that kept a view of each frame took 93 MiB for the first, and one that re
 the second. If the program needs another amount for a good reason, measure the ceiling again.
 """
 
-import os
+import functools
+import pathlib
 import resource
 import subprocess
 from typing import Callable, NamedTuple
 
-from checks.kit.captures import BR_DEAD_REPLY, record, write
+from checks.kit.captures import write
 from checks.kit.checking import FLAG, check, row
-from checks.kit.runs import MEMORY, answer, at_once, measured_run, shown, under
-from checks.kit.written import one_frame, write_frames
+from checks.kit.runs import MEMORY, answer, at_once, measured_run, report_by, shown, under
 from checks.kit.traffic import write_traffic
+from checks.kit.written import error_replies, write_frames
 
 WORKERS = 1, 4, 64
 AT_ONCE = 4
@@ -50,12 +49,12 @@ ENOUGH_FOR_ONE = 12
 
 def report(program, capture, workers, limit=None):
     """The answer of a run under a limit in bytes. Every stack, also of threads, has 8 MiB."""
-    return answer(under([program, "report", "--workers", str(workers), capture], 8192, limit))
+    return answer(under([program, *report_by(workers), capture], 8192, limit))
 
 
 def own_need(program, room):
     """The least limit under which one worker reports on a capture without frames, in bytes."""
-    capture = os.path.join(room, "empty.cap")
+    capture = room / "empty.cap"
     write_frames(capture)
     due = report(program, capture, 1)
     too_little, enough = 0, 2**30 // PAGE
@@ -80,7 +79,7 @@ def reports(program, capture, workers, limit, due, runs, fail):
 def table(program, capture, room, runs, fail):
     """Prints a row for each limit, and reports what is wrong."""
     due = report(program, capture, 1)
-    size, own = os.path.getsize(capture), own_need(program, room)
+    size, own = capture.stat().st_size, own_need(program, room)
     if due[0] != 0 or due[2]:
         return fail(f"without a limit: {shown(due)}")
     print(f"capture {size} bytes, report {len(due[1])} bytes, own need {own} bytes; of {runs} runs each")
@@ -103,31 +102,26 @@ def table(program, capture, room, runs, fail):
 MILLION = 1_000_000
 
 
-def empty_frames(path: str) -> None:
+def empty_frames(path: pathlib.Path) -> None:
     write_frames(path, (write(sequence, 1, 1) for sequence in range(1, MILLION + 1)))
-
-
-def stray_replies(path: str) -> None:
-    """One frame of error replies that close nothing. Each has a row in the report."""
-    one_frame(path, 2, 8 * MILLION, [2 * MILLION * record(BR_DEAD_REPLY)])
 
 
 class Peak(NamedTuple):
     """A capture, and the most MiB that a run on it may take."""
     name: str
-    make: Callable[[str], None]
+    make: Callable[[pathlib.Path], None]
     ceiling: int
 
 
 PEAKS = (
     Peak("1,000,000 empty frames", empty_frames, 46),
-    Peak("2,000,000 rows of one frame", stray_replies, 101),
+    Peak("2,000,000 rows of one frame", functools.partial(error_replies, count=2 * MILLION), 101),
 )
 
 
 def peak_of(program, capture):
     """How many MiB of memory a run with one worker took at its peak, and its status."""
-    words = [program, "report", "--workers", "1", "--piece", "256", capture]
+    words = [program, *report_by(1, 256), capture]
     status, used = measured_run(words, stdout=subprocess.DEVNULL, stderr=subprocess.DEVNULL)
     return used.peak / 1024, status
 
@@ -138,7 +132,7 @@ def check_peaks(program, room, printed, fail):
     if printed:
         row("capture", "MiB at the peak", "ceiling")
     for peak in PEAKS:
-        capture = os.path.join(room, "peak.cap")
+        capture = room / "peak.cap"
         peak.make(capture)
         runs = [peak_of(program, capture) for _ in range(3)]
         least = min(mebibytes for mebibytes, _ in runs)
@@ -154,7 +148,7 @@ def judge(given, room, fail):
     for program in given.programs:
         check_peaks(program, room, not given.peaks, fail)
         if not given.peaks:
-            capture = os.path.join(room, "traffic.cap")
+            capture = room / "traffic.cap"
             write_traffic(capture, given.bytes)
             table(program, capture, room, given.runs, fail)
 

@@ -1,11 +1,9 @@
-#!/usr/bin/env python3
 """Runs the built program on large captures, on captures that are costly, and very often, and checks its answers.
 
     checks/run load [-- [--part dear|large|often] [PROGRAM..]]
 
-Without PROGRAM it takes the built ones. It makes its captures itself, one after
-another. It needs 1 GiB of disk, up to 10 GiB of memory, `cc`, and some three minutes. It is run by hand, and not by
-`.ci/run`. It prints its tables. What is wrong goes to standard error, a line each, and the status is then 1.
+It makes its captures itself, one after another. It needs 1 GiB of disk, up to 10 GiB of memory, `cc`, and some three
+minutes. It is run by hand, and not by `.ci/run`. It prints its tables.
 
 Everything runs under `ulimit -s 256`: 256 KiB of stack, for the first thread and for each further thread. A function
 that called itself once for each record, frame, process, object or call could not end there: a call takes at least 16
@@ -26,7 +24,7 @@ often   A capture of some hundred frames, with 64 workers and pieces of one fram
 
 import collections
 import hashlib
-import os
+import pathlib
 import re
 import resource
 import time
@@ -36,9 +34,9 @@ from typing import Callable, NamedTuple
 from checks.kit.captures import *
 from checks.kit.checking import check, row
 from checks.kit.programs import compiled, preloadable
-from checks.kit.runs import answer, at_once, measured_run, shown, under
-from checks.kit.written import one_frame, with_buffer, write_frames
+from checks.kit.runs import answer, at_once, measured_run, report_by, shown, under, with_library
 from checks.kit.traffic import write_traffic
+from checks.kit.written import error_replies, one_frame, with_buffer, write_frames
 
 STACK = 256  # KiB
 MILLION = 1_000_000
@@ -59,22 +57,18 @@ class Run(NamedTuple):
 
 def heads_and_digest(path):
     """The lines of a report that begin in the first column, and the digest of the whole report."""
-    digest = hashlib.sha256()
     with open(path, "rb") as text:
-        while part := text.read(2**20):
-            digest.update(part)
+        digest = hashlib.file_digest(text, "sha256")
     return answer(["grep", "-a", "-v", "^  ", path])[1].decode().splitlines(), digest.hexdigest()
 
 
-def run(program, room, *words, address=None, **around):
-    """Runs the program with these words, and with these names added to its environment; the system measures the run."""
-    out, err = os.path.join(room, "run.out"), os.path.join(room, "run.err")
+def run(program, room, capture, workers, piece=None, address=None, env=None):
+    """Runs the program for a report, perhaps in another environment; the system measures the run."""
+    words, out, err = [program, *report_by(workers, piece), capture], room / "run.out", room / "run.err"
     with open(out, "wb") as to_out, open(err, "wb") as to_err:
-        status, used = measured_run(under([program, *words], STACK, address), stdout=to_out, stderr=to_err,
-                                    env={**os.environ, **around})
+        status, used = measured_run(under(words, STACK, address), stdout=to_out, stderr=to_err, env=env)
     heads, digest = heads_and_digest(out)
-    with open(err, "rb") as text:
-        return Run((status, digest, text.read(1000)), heads, *used)
+    return Run((status, digest, err.read_bytes()[:1000]), heads, *used)
 
 
 def mebibytes(one):
@@ -100,14 +94,11 @@ def check_stacks(program, room, fail):
             status, *_ = answer(under([deep, str(depth), *further], STACK))
             if (status < 0) != dies:
                 fail(f"{depth} calls within one another on {STACK} KiB of stack: status {status}")
-    capture, log = os.path.join(room, "threads.cap"), os.path.join(room, "stacks.log")
+    capture, log = room / "threads.cap", room / "stacks.log"
     write_traffic(capture, 2**22)
-    with open(log, "w"):
-        pass
-    words = "report", "--workers", "64", "--piece", "1", capture
-    answered = run(program, room, *words, LD_PRELOAD=shim, STACKS_LOG=log)
-    with open(log) as lines:
-        sizes = collections.Counter(map(int, lines))
+    log.touch()
+    answered = run(program, room, capture, 64, 1, env=with_library(shim, STACKS_LOG=log))
+    sizes = collections.Counter(map(int, log.read_text().splitlines()))
     if answered.answer[0] != 0 or not sizes or max(sizes) > STACK * 1024:
         fail(f"stacks of threads: status {answered.answer[0]}, {dict(sizes)}")
     print(f"threads of a run by 64 workers: {sum(sizes.values())}, the largest stack {max(sizes, default=0)} bytes\n")
@@ -120,11 +111,6 @@ def deliveries(path, count):
     """One frame of oneway transactions with unknown flags. None is freed."""
     delivery = transaction(BR_TRANSACTION, flags=0x101)
     one_frame(path, 2, 68 * count, (with_buffer(delivery, 8 * at) for at in range(count)))
-
-
-def errors(path, count):
-    """One frame of error replies that close nothing."""
-    one_frame(path, 2, 4 * count, (record(BR_DEAD_REPLY) for _ in range(count)))
 
 
 def processes(path, count):
@@ -215,7 +201,7 @@ PROCESS = 100
 class Dear(NamedTuple):
     """A costly capture, and what is expected of it."""
     name: str
-    write: Callable[[str, int], None]
+    write: Callable[[pathlib.Path, int], None]
     count: int
     order: str
     # Lines of the report. N is the count, H its half, F a hundredth of it and one more, and T a tenth and a hundredth
@@ -227,7 +213,7 @@ class Dear(NamedTuple):
 DEAR = (
     Dear("one frame of N deliveries, each listed twice", deliveries, MILLION, "N log N",
          ("frames 1 records N opaque 0 missing 0", "buffers N leaked N", "flags N")),
-    Dear("one frame of N error replies, each listed", errors, 4 * MILLION, "N log N",
+    Dear("one frame of N error replies, each listed", error_replies, 4 * MILLION, "N log N",
          ("frames 1 records N opaque 0 missing 0", "strays N")),
     Dear("N processes of one frame", processes, MILLION, "N log N",
          ("frames N records N opaque 0 missing 0", "handles N unbalanced N")),
@@ -269,7 +255,7 @@ def measured(program, room, dear, workers, captures, fail):
     runs = {count: [] for count in captures}
     while True:
         for count, capture in captures.items():
-            one = run(program, room, "report", "--workers", str(workers), capture)
+            one = run(program, room, capture, workers)
             runs[count].append(one)
             judge_dear(dear, count, one, runs[count][0].answer, fail)
         whole, half = map(least, runs.values())
@@ -281,7 +267,7 @@ def measured(program, room, dear, workers, captures, fail):
 
 def check_one(program, room, dear, fail):
     """Prints a row for each number of workers on a costly capture."""
-    captures = {count: os.path.join(room, f"{count}.cap") for count in (dear.count, dear.count // 2)}
+    captures = {count: room / f"{count}.cap" for count in (dear.count, dear.count // 2)}
     for count, capture in captures.items():
         dear.write(capture, count)
     alone = None
@@ -295,7 +281,7 @@ def check_one(program, room, dear, fail):
         row(dear.name, dear.count, workers, f"{whole.processor:.2f}", f"{whole.clock:.2f}", mebibytes(whole),
             f"{half.processor:.2f}", f"{ratio:.2f}", dear.order)
     for capture in captures.values():
-        os.remove(capture)
+        capture.unlink()
 
 
 def check_dear(program, room, fail):
@@ -368,14 +354,13 @@ def empty_frames(path, size):
 def check_large(program, room, fail):
     """Prints a row for one worker and one for 64 workers on each capture. All reports on a capture must be the same."""
     row("1 GiB", "workers", "processor s", "clock s", "peak MiB", "answer")
-    capture = os.path.join(room, "large.cap")
+    capture = room / "large.cap"
     for name, make, pieces, totals, good_too in (
             ("frames of 64 KiB", frames_of_64_kib, (256, 1), "", ()),
             ("empty frames", empty_frames, (65536, 1), "records 0 opaque 0 missing 0", (MEMORY,))):
         frames, due = make(capture, 2**30), None
         for workers, piece in zip((1, 64), pieces):
-            words = "report", "--workers", str(workers), "--piece", str(piece), capture
-            one = run(program, room, *words, address=ADDRESS)
+            one = run(program, room, capture, workers, piece, address=ADDRESS)
             said = "the report" if one.answer[0] == 0 else one.answer[2].decode("utf-8", "replace").strip()
             row(f"{frames} {name}, piece {piece}", workers, f"{one.processor:.2f}", f"{one.clock:.2f}", mebibytes(one),
                 said)
@@ -383,7 +368,7 @@ def check_large(program, room, fail):
                 due = due or one.answer
                 if due[0] != 0 or one.answer != due or not one.heads[1].startswith(f"frames {frames} {totals}"):
                     fail(f"1 GiB in {name} by {workers}: {one.answer}, {one.heads[:2]}")
-        os.remove(capture)
+        capture.unlink()
     print()
 
 
@@ -392,11 +377,11 @@ def check_large(program, room, fail):
 
 def check_often(program, room, fail):
     """1,000 runs with 64 workers one after another, and 1,000 with 16 at once."""
-    capture = os.path.join(room, "small.cap")
+    capture = room / "small.cap"
     write_traffic(capture, 2**16)
 
     def answered(workers):
-        return answer(under([program, "report", "--workers", str(workers), "--piece", "1", capture], STACK))
+        return answer(under([program, *report_by(workers, 1), capture], STACK))
 
     due = answered(1)
     if due[0] != 0 or not due[1].startswith(b"BINDER AUDIT 2\n") or due[2]:

@@ -1,48 +1,27 @@
-#!/usr/bin/env python3
 """Checks the built program from outside: its words, streams, files and memory, which the system gives it and no proof
 is about. Whole captures are in crates/audit_cases.
 
     checks/run program [-- PROGRAM..]
 
-Without PROGRAM it takes the built ones, by each compiler. It takes 2 GB of memory and 200 MB of disk. If all is well it
-prints nothing. Otherwise it names each command that answered something else, and ends with status 1.
+It takes 2 GB of memory and 200 MB of disk.
 """
 
 import itertools
 import os
 import shutil
 import subprocess
-from concurrent.futures import ThreadPoolExecutor
 
 from checks.auditor import many_things
 from checks.kit.checking import check
 from checks.kit.programs import CASES, ROOT
-from checks.kit.runs import MEMORY
+from checks.kit.runs import MEMORY, at_once, report_by
 
 USAGE = 64, "", "usage: binder_audit report [--workers N] [--piece N] FILE... or first-fault FILE...\n"
-REPLY = 0, """BINDER AUDIT 2
-frames 2 records 4 opaque 0 missing 0
-codes 4
-  0x00007206 BR_TRANSACTION_COMPLETE 1
-  0x0000720c BR_NOOP 1
-  0x40406300 BC_TRANSACTION 1
-  0x80407203 BR_REPLY 1
-calls 1 answered 1 failed 0 unanswered 0
-served 0 replied 0 crossed 0 open 0
-strays 0
-refused 0
-handles 0 unbalanced 0
-nodes 0 unbalanced 0
-buffers 1 leaked 1
-  156 0 100 0x7000 0 BR_REPLY
-frees 0 stray 0
-requests 0 standing 0
-deaths 0 unacknowledged 0 stray 0
-clears 0 unconfirmed 0 stray 0
-oneway sent 0 received 0 refused 0
-objects binder 0 weak_binder 0 handle 0 weak_handle 0 fd 0 fda 0 ptr 0 bad 0
-flags 0
-""", ""
+REPLY = 0, many_things.report(
+    "frames 2 records 4 opaque 0 missing 0",
+    ["codes 4", "  0x00007206 BR_TRANSACTION_COMPLETE 1", "  0x0000720c BR_NOOP 1", "  0x40406300 BC_TRANSACTION 1",
+     "  0x80407203 BR_REPLY 1"],
+    ["calls 1 answered 1 failed 0 unanswered 0"], ["buffers 1 leaked 1", "  156 0 100 0x7000 0 BR_REPLY"]), ""
 GOOD = 0, "no malformed record\n", ""
 
 
@@ -85,7 +64,12 @@ LENGTHENED = before_reading("cat empty.cap >>other.cap")
 
 # With one part before them and one after them, the most parts that there may be.
 EMPTIES = 254 * ["empty.cap"]
-BY_TWO = ["report", "--workers", "2", "--piece", "1", "--"]
+BY_TWO = [*report_by(2, 1), "--"]
+
+# How the captures with many of one thing are read: by so many workers, in pieces of so many frames.
+MANNERS = {many_things.many_rows: [(), (64, 1)], many_things.many_handles: [()], many_things.many_buffers: [(7, 1)],
+           many_things.many_requests: [()], many_things.many_calls: [(7, 1)],
+           many_things.many_frames: [*itertools.product((1, 2, 7), (1, 256))]}
 
 
 def words_and_files():
@@ -151,25 +135,26 @@ def streams():
     yield NO_MEMORY, ["report", "reply.cap", "/dev/zero"], LITTLE_MEMORY
 
 
-def sizes(reports):
-    """Commands on large files, each with the answer that is due."""
+def sizes():
+    """Commands that read up to 1 GiB."""
     yield malformed("HeaderMagic at 0"), ["report", "at-the-limit.cap"]
     yield TOO_LARGE, ["report", "past-the-limit.cap"]
     yield TOO_LARGE, ["first-fault", "/dev/zero"]
     yield malformed("HeaderMagic at 0 in part 1"), ["report", "half.cap", "half.cap"]
     yield TOO_LARGE, ["report", "half.cap", "half.cap", "short.cap", "."]
-    manners = {"many_rows": [(), (64, 1)], "many_handles": [()], "many_buffers": [(7, 1)], "many_requests": [()],
-               "many_calls": [(7, 1)], "many_frames": itertools.product((1, 2, 7), (1, 256))}
-    for name, how in manners.items():
-        for manner in how:
-            workers = ["--workers", str(manner[0]), "--piece", str(manner[1])] if manner else []
-            yield (0, reports[name], ""), ["report", *workers, f"{name}.cap"]
+
+
+def many(room):
+    """Writes the captures with many of one thing. Returns commands that read them."""
+    due = {make: many_things.written(room / f"{make.__name__}.cap", make) for make in MANNERS}
+    return [((0, due[make], ""), [*(report_by(*manner) if manner else ["report"]), f"{make.__name__}.cap"])
+            for make, manners in MANNERS.items() for manner in manners]
 
 
 def judge_command(program, room, fail, due, words, shell='exec "$@"'):
     ended = subprocess.run(["bash", "-c", shell, "bash", program, *words], cwd=room, stdin=subprocess.DEVNULL,
                            capture_output=True)
-    came = ended.returncode, ended.stdout.decode(), ended.stderr.decode()
+    came = ended.returncode, *(text.decode(errors="backslashreplace") for text in (ended.stdout, ended.stderr))
     for what, one, other in zip(("status", "standard output", "standard error"), came, due):
         if one != other:
             fail(f"{program.name} {' '.join(map(str, words))[:200]} ({shell}): {what}: expected {str(other)[:300]!r},"
@@ -177,7 +162,7 @@ def judge_command(program, room, fail, due, words, shell='exec "$@"'):
 
 
 def make_files(room):
-    """The files that commands name. Returns the reports on those with many of one thing."""
+    """The files that commands name."""
     for name in "reply", "wrong-direction", "empty", "short":
         shutil.copy(ROOT / f"samples/{name}.cap", room)
     for name in "first-part", "second-part":
@@ -190,18 +175,15 @@ def make_files(room):
     for name, size in ("half", 2**29), ("at-the-limit", 2**30), ("past-the-limit", 2**30 + 1):
         with open(room / f"{name}.cap", "wb") as file:
             file.truncate(size)
-    return {name: many_things.written(room / f"{name}.cap", getattr(many_things, name))
-            for name in ("many_rows", "many_handles", "many_buffers", "many_requests", "many_calls", "many_frames")}
 
 
 def judge(given, room, fail):
-    reports = make_files(room)
+    make_files(room)
+    # One after another: some streams share a pipe, or a file that is changed; and each size takes 1 GiB of memory.
+    in_turn = [*streams(), *sizes()]
+    rows = [in_turn, *([command] for command in (*words_and_files(), *many(room)))]
     for program in given.programs:
-        commands = [*words_and_files(), *sizes(reports)]
-        with ThreadPoolExecutor(4) as pool:
-            list(pool.map(lambda command: judge_command(program, room, fail, *command), commands))
-        for command in streams():  # one after another, as some share a pipe or a file
-            judge_command(program, room, fail, *command)
+        at_once(4, lambda commands: [judge_command(program, room, fail, *command) for command in commands], rows)
 
 
 if __name__ == "__main__":

@@ -1,14 +1,11 @@
-#!/usr/bin/env python3
 """Refuses each growth of memory in turn: of the built program, and of each call that takes memory.
 
     checks/run refuse -- [--all] [--table] [PROGRAM..]
 
-Without PROGRAM it takes the built ones. It goes through three captures with one
-worker. With --all, as `.ci/run` calls it, it goes through eight, with one worker and with four, and then through the
-calls of the built crates/refusal_cases; `rows`, `text` and the faults of audits are also compared with
-`second_reading.py`. It builds only `refuse.c` beside it, for which it needs `cc`. With --table it
-prints the two tables that docs/MEASURED.md has, of the program and of the calls. If all is well it prints nothing else.
-Otherwise it names each line below that failed, and ends with status 1.
+It goes through three captures with one worker. With --all, as `.ci/run` calls it, it goes through eight, with one
+worker and with four, and then through the calls of the built crates/refusal_cases; `rows`, `text` and the faults of
+audits are also compared with kit/second_reading.py. It builds only `refuse.c` beside it, for which it needs `cc`. With
+--table it prints the two tables that docs/MEASURED.md has, of the program and of the calls.
 
 A run has its n-th growth refused, for n = 1, 2 and so on until a run meets no refusal. It answers Memory: nothing on
 standard output, `fault Memory`, status 3; a call answers with the line `Memory`. No refused growth is ignored, with one
@@ -18,12 +15,11 @@ worker starts none. Memory is answered also where the capture has a malformed re
 is refused, one worker always answers Memory.
 """
 
-import os
 from typing import NamedTuple
 
 from checks.kit.checking import FLAG, check
 from checks.kit.programs import CASES, ROOT, preloadable
-from checks.kit.runs import MEMORY, answer, as_answer
+from checks.kit.runs import MEMORY, answer, as_answer, report_by, with_library
 from checks.kit.second_reading import reading_of_parts
 
 CALLS_BUILT = ROOT / "crates/refusal_cases/out/refusal_cases"
@@ -129,27 +125,24 @@ class Sweep:
     """The runs of a program on words and an input, with growths refused."""
 
     def __init__(self, room, program, words, given=b"", memory=(MEMORY,)):
-        self.log = os.path.join(room, "refused")
+        self.log = room / "refused"
         # `judge` has compiled it into the room.
-        self.shim = os.path.join(room, "refuse")
+        self.shim = room / "refuse"
         self.program = program
         self.words = words
         # The input is a file: a pipe gives its bytes differently from run to run, and then the growths differ too.
-        self.given = os.path.join(room, "given")
-        with open(self.given, "wb") as out:
-            out.write(given)
+        self.given = room / "given"
+        self.given.write_bytes(given)
         self.memory = memory
         self.whole = self.run({})
 
     def run(self, growths):
         """A run in which these growths are refused."""
-        with open(self.log, "w"):
-            pass
-        around = dict(os.environ, LD_PRELOAD=self.shim, REFUSE_LOG=self.log, **growths)
+        self.log.write_text("")
+        around = with_library(self.shim, REFUSE_LOG=self.log, **growths)
         with open(self.given, "rb") as given:
             answered = answer(self.words, timeout=60, executable=self.program, cwd=CASES, env=around, stdin=given)
-        with open(self.log) as log:
-            lines = log.read().splitlines()
+        lines = self.log.read_text().splitlines()
         started = lines.count("thread")
         return Run(answered, len(lines) - started, started)
 
@@ -158,7 +151,7 @@ class Sweep:
         none."""
         runs = []
         while True:
-            one = self.run({name: str(len(runs) + 1)})
+            one = self.run({name: len(runs) + 1})
             if not one.refused:
                 return runs, one
             runs.append(one)
@@ -171,24 +164,18 @@ class Sweep:
 def of_program(room, program, capture, workers):
     """The program on a capture with this many workers, in pieces of one frame."""
     # The words do not depend on where the repository is, since longer words may take more growths.
-    return Sweep(room, program, ["binder_audit", "report", "--workers", str(workers), "--piece", "1", *capture.split()])
-
-
-def capture_of(name):
-    """The bytes of a capture."""
-    with open(CASES / name, "rb") as file:
-        return file.read()
+    return Sweep(room, program, ["binder_audit", *report_by(workers, 1), *capture.split()])
 
 
 def given_of(name, named):
     """What a call gets after its name: a capture, parts with the length of each before it, or words."""
     words = named.split()
     if name.startswith(PARTS):
-        parts = map(capture_of, words)
+        parts = [(CASES / word).read_bytes() for word in words]
         return b"".join(len(part).to_bytes(2, "little") + part for part in parts)
     if name.startswith(WORDS):
         return "\t".join(["binder_audit"] * (name == "program") + words).encode()
-    return capture_of(named)
+    return (CASES / named).read_bytes()
 
 
 def of_call(room, name, named):
@@ -204,7 +191,7 @@ def due_of(name, named):
     call, _, _ = name.partition(" by ")
     if call not in ("audit", "audit_one", "audit_parts", "rows", "text"):
         return None
-    status, lines = reading_of_parts([capture_of(word) for word in named.split()])
+    status, lines = reading_of_parts([(CASES / word).read_bytes() for word in named.split()])
     if status == 2:
         _, kind, _, place, *part = lines[0].split()
         fault = f"Fault {{ kind: {kind}, place: {place} }}"
@@ -212,7 +199,7 @@ def due_of(name, named):
             fault = f"PartFault {{ part: {(part or [1])[-1]}, fault: {fault} }}"
         return as_answer(0, [fault])
     if call == "audit":
-        return answer([CALLS_BUILT], input=b"audit_one\n" + capture_of(named))
+        return answer([CALLS_BUILT], input=b"audit_one\n" + (CASES / named).read_bytes())
     return as_answer(0, lines + [""] * (call == "text")) if call in ("rows", "text") else None
 
 

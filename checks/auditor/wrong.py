@@ -1,4 +1,3 @@
-#!/usr/bin/env python3
 """Tries wrong bodies, many in one check, on a copy of the tree, and says at which goals they are refused.
 
     checks/run wrong -- CRATE EDIT..       tries these edits of a crate
@@ -31,13 +30,14 @@ import re
 import shutil
 import subprocess
 import sys
-import tempfile
 import time
 from typing import NamedTuple
 
+from checks.kit.checking import own_room
 from checks.kit.programs import ROOT
 
-ITEM = re.compile(r"^( {0,4})(?:pub(?:\([a-z]+\))? )?(?:(?:const|final|ghost|unsafe) )*(fn|struct|enum|impl|trait|const|static|use|type|mod)\b ?(\w*)", re.MULTILINE)
+ITEM = re.compile(r"^( {0,4})(?:pub(?:\([a-z]+\))? )?(?:(?:const|final|ghost|unsafe) )*"
+                  r"(fn|struct|enum|impl|trait|const|static|use|type|mod)\b ?(\w*)", re.MULTILINE)
 FN = re.compile(r"^fn (\S+): (.*)$", re.MULTILINE)
 CALLS = re.compile(r"it calls|it passes|a call of")
 LOST = re.compile(r"has no field|is not in scope")
@@ -62,7 +62,8 @@ class Edit(NamedTuple):
 
 
 class Verdict(NamedTuple):
-    """What came of an edit: 'refused', 'lost', 'calls', 'proved' or 'unread'; what shows it; the goals that were left."""
+    """What came of an edit: 'refused', 'lost', 'calls', 'proved' or 'unread'; what shows it; the goals that were
+    left."""
     kind: str
     why: str
     goals: list[Goal] = []
@@ -182,7 +183,8 @@ def goals_of(function: str, said: str, lines: tuple[str, int, int]) -> tuple[dic
         else:
             found[goal] = ""
     file, first, last = lines
-    for at, told, goal in re.findall(rf"^note: {re.escape(file)}:(\d+):\d+: ([^(\n]*)\(`([^`]*)`\)", said, re.MULTILINE):
+    notes = re.findall(rf"^note: {re.escape(file)}:(\d+):\d+: ([^(\n]*)\(`([^`]*)`\)", said, re.MULTILINE)
+    for at, told, goal in notes:
         if first <= int(at) <= last:
             found[goal] = f" ({told.strip()})"
     return found, lost
@@ -253,14 +255,16 @@ def judged(crate: str, changed: set[str], said: str, sources: dict[str, str], ho
     lacking = {it: what for it, what in told.items() if re.match(r"no proof|not proved", what)}
     by_itself = {it: what for it, what in lacking.items() if not CALLS.search(what)}
     if not changed:
-        return refused_at({it: it for it in by_itself}, by_itself, said, sources, homes) if by_itself else Verdict("proved", "")
+        each = {it: it for it in by_itself}
+        return refused_at(each, by_itself, said, sources, homes) if each else Verdict("proved", "")
     ours = {it: edited_of(it, changed) for it in lacking if edited_of(it, changed)}
     if ours:
         return refused_at(ours, by_itself, said, sources, homes)
     return Verdict("proved", "" if changed & told.keys() else f"no line of {', '.join(changed)}")
 
 
-def refused_at(ours: dict[str, str], by_itself: dict[str, str], said: str, sources: dict[str, str], homes: dict[str, list[str]]) -> Verdict:
+def refused_at(ours: dict[str, str], by_itself: dict[str, str], said: str, sources: dict[str, str],
+               homes: dict[str, list[str]]) -> Verdict:
     """What is said of functions that have no proof, each with the edited function that it is a part of."""
     left = {it: goals_of(function, said, lines_of(function, sources, homes)) for it, function in ours.items()}
     for it, what in by_itself.items():
@@ -299,7 +303,10 @@ def ending(edit: Edit, verdict: Verdict, how: str) -> tuple[str, bool]:
 def fill(edit: Edit, goals: list[Goal]) -> Goal:
     """Writes a goal into the edit: the first one about what the function returns, if one of those was left; and one
     about the end of a loop only if no other was."""
-    goal = min(goals, key=lambda it: 0 if it.name.startswith(("returns", "invariant_of-result")) else 1 + ("-smaller" in it.name))
+    def rank(goal: Goal) -> int:
+        is_of_result = goal.name.startswith(("returns", "invariant_of-result"))
+        return 0 if is_of_result else 1 + ("-smaller" in goal.name)
+    goal = min(goals, key=rank)
     edit.path.write_text(f"# goal: {goal}\n{edit.path.read_text()}")
     return goal
 
@@ -355,7 +362,8 @@ def stored(crate: str) -> list[pathlib.Path]:
 def asked(words: list[str]) -> tuple[str, dict[str, list[pathlib.Path]]] | None:
     """What the command line asks for: --all, --fill or nothing, and the edits of each crate; None if it is another
     one."""
-    how, crates = words[0] if words[:1] in (["--all"], ["--fill"]) else "", sorted(it.name for it in (ROOT / "crates").iterdir())
+    how = words[0] if words[:1] in (["--all"], ["--fill"]) else ""
+    crates = sorted(it.name for it in (ROOT / "crates").iterdir())
     if how:
         edits = {it: stored(it) for it in words[1:] or crates if words[1:] or stored(it)}
     else:
@@ -383,8 +391,7 @@ def main() -> int:
         return 64
     how, edits = wanted
     read = {crate: [read_edit(it) for it in paths] for crate, paths in edits.items()}
-    with tempfile.TemporaryDirectory(prefix="wrong-") as room:
-        copy = pathlib.Path(room)
+    with own_room() as copy:
         copied(copy)
         missed = sum(tried(crate, copy, these, how) for crate, these in read.items())
     return 1 if missed else 0

@@ -5,31 +5,44 @@ import shutil
 import subprocess
 
 from viewer.database.programs import build_programs
+from viewer.program_names import PROGRAMS
 
 CHECKS = pathlib.Path(__file__).resolve().parents[1]
 ROOT = CHECKS.parent
 AUDITOR = ROOT / "crates/binder_audit/out/binder_audit"
 BY_RATTLE = AUDITOR.with_suffix(".by-rattle")
 LISTING = ROOT / "crates/binder_listing/out/binder_listing"
+# The programs that a package has, by their names there.
+PACKAGED = {f"binder-{name}": ROOT / command for name, command in PROGRAMS.items()}
 
 # The captures of the cases, and those of the real driver.
 CASES = ROOT / "crates/audit_cases/data"
 DRIVER = ROOT / "samples/driver"
+# Small captures: those of the cases, and the samples.
+SMALL = [*sorted(CASES.glob("*.cap")), *sorted(ROOT.glob("samples/*.cap"))]
 
 
-def compiled(room: pathlib.Path, source: str, *options: str) -> str:
+def compiled(room: pathlib.Path, source: str, *options: str) -> pathlib.Path:
     """Compiles a C file of checks/ to a program, or to a library to preload. Returns its path."""
-    made = str(pathlib.Path(room, pathlib.Path(source).stem))
+    made = room / pathlib.Path(source).stem
     subprocess.run(["cc", "-O1", *options, "-o", made, CHECKS / source, "-ldl", "-lpthread"], check=True)
     return made
 
 
-def preloadable(room: pathlib.Path, source: str) -> str:
+def preloadable(room: pathlib.Path, source: str) -> pathlib.Path:
     """Compiles a C file to a library that can be preloaded into a program."""
     return compiled(room, source, "-shared", "-fPIC")
 
 
 # ---- a folder in place of the repository
+
+
+def linked(folder: pathlib.Path, targets: dict[str, pathlib.Path]) -> pathlib.Path:
+    """A folder with links of these names, which is made if it is not there."""
+    folder.mkdir(exist_ok=True)
+    for name, target in targets.items():
+        (folder / name).symlink_to(target)
+    return folder
 
 
 def programs(room: pathlib.Path, auditor: pathlib.Path) -> pathlib.Path:
@@ -49,8 +62,6 @@ def built_programs(room: pathlib.Path, auditor: pathlib.Path) -> pathlib.Path:
 
 
 def folder_of(folder: pathlib.Path, auditor: pathlib.Path, listing: pathlib.Path, crates: pathlib.Path) -> pathlib.Path:
-    folder.mkdir()
-    shutil.copy(ROOT / "view", folder)
-    for name, target in (("viewer", ROOT / "viewer"), ("crates", crates), ("listing", listing), ("audit", auditor)):
-        (folder / name).symlink_to(target)
+    linked(folder, {"viewer": ROOT / "viewer", "crates": crates, "listing": listing, "audit": auditor})
+    shutil.copy(ROOT / "view", folder)  # a copy, since it calls what is in its own folder
     return folder

@@ -2,6 +2,7 @@
 
 import os
 import subprocess
+import sys
 import threading
 import time
 from concurrent.futures import ThreadPoolExecutor
@@ -19,6 +20,16 @@ SECONDS = 600
 # ---- runs
 
 
+def report_by(workers, piece=None):
+    """The words for a report with this many workers, and pieces of this many frames."""
+    return ["report", "--workers", str(workers), *(["--piece", str(piece)] if piece else [])]
+
+
+def with_library(library, **names):
+    """The environment, with a library that is preloaded, and these names, which it reads."""
+    return os.environ | {"LD_PRELOAD": str(library)} | {name: str(value) for name, value in names.items()}
+
+
 def under(words, stack=None, address=None, processor=None):
     """The command under limits: KiB of stack, bytes of address space, seconds of processor time."""
     limits = {"-s": stack, "-v": address and address // 1024, "-S -t": processor}
@@ -32,6 +43,15 @@ def answer(words, timeout=SECONDS, **options):
     streams = {"stdout": subprocess.PIPE, "stderr": subprocess.PIPE, **options}
     ended = subprocess.run(words, timeout=timeout, **streams)
     return ended.returncode, ended.stdout, ended.stderr
+
+
+def output_of(words, **options):
+    """What a command writes, to both streams; the check ends with what it says if it fails."""
+    ended = subprocess.run(list(map(str, words)), stdin=subprocess.DEVNULL, stdout=subprocess.PIPE,
+                           stderr=subprocess.STDOUT, text=True, **options)
+    if ended.returncode:
+        sys.exit(f"{words[0]} ended with status {ended.returncode}: {ended.stdout[-2000:]}")
+    return ended.stdout
 
 
 class Used(NamedTuple):

@@ -1,4 +1,3 @@
-#!/usr/bin/env python3
 """A slow second reading of a capture, by the rules of the pages and nothing cleverer.
 
     checks/run second_reading                            compares the answers of the cases with its own
@@ -833,6 +832,9 @@ def main(words):
             for line in lines:
                 print(f"crates/audit_cases/stdout: {line}: not the answer of the second reading")
             return 1 if lines else 0
+        case ["--help"] | ["-h"]:
+            print(__doc__.rstrip())
+            return 0
         case ["--first-fault", _, *_]:
             return print_reading(words[1:], first_fault=True)
         case [file, *_] if not file.startswith("-"):

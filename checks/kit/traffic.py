@@ -1,4 +1,3 @@
-#!/usr/bin/env python3
 """A large capture of made-up traffic, for the checks `limits`, `load` and others.
 
     checks/run traffic -- BYTES FILE [DEVICES]    writes a capture of at most this many bytes into the file
@@ -183,19 +182,30 @@ def frames(devices):
         yield frame(direction, sequence, number, number + thread, records, entries, device)
 
 
+def frames_within(most, devices=1):
+    """The first frames, as many as a capture of this many bytes has."""
+    length = len(HEADER)
+    for one in frames(devices):
+        length += len(one)
+        if length > most:
+            return
+        yield one
+
+
 def write_traffic(path, most, devices=1):
     """Writes a capture of at most this many bytes, and returns the number of frames."""
+    count = 0
     with open(path, "wb") as out:
-        length, count = out.write(HEADER if devices == 1 else HEADER_2), 0
-        for one in frames(devices):
-            length += len(one)
-            if length > most:
-                return count
+        out.write(HEADER if devices == 1 else HEADER_2)
+        for count, one in enumerate(frames_within(most, devices), 1):
             out.write(one)
-            count += 1
+    return count
 
 
 if __name__ == "__main__":
-    if len(sys.argv) not in (3, 4):
+    if sys.argv[1:] in (["--help"], ["-h"]):
+        print(__doc__.rstrip())
+    elif len(sys.argv) in (3, 4):
+        print(write_traffic(sys.argv[2], int(sys.argv[1]), *map(int, sys.argv[3:])))
+    else:
         sys.exit("usage: checks/run traffic -- BYTES FILE [DEVICES]")
-    print(write_traffic(sys.argv[2], int(sys.argv[1]), *map(int, sys.argv[3:])))

@@ -2,7 +2,7 @@
 
 from itertools import chain
 
-from checks.kit.captures import HEADER, frame_header, u64
+from checks.kit.captures import BR_DEAD_REPLY, HEADER, frame_header, record, u64
 
 
 def write_frames(path, *frames, header=HEADER):
@@ -16,6 +16,11 @@ def one_frame(path, direction, length, records, attachments=(0, ())):
     """Writes a capture of one frame. Its records and attachments are several byte strings, of these lengths
     together."""
     write_frames(path, [frame_header(direction, 1, 1, 1, length, attachments[0])], records, attachments[1])
+
+
+def error_replies(path, count):
+    """One frame of error replies that close nothing. Each has a row in the report."""
+    one_frame(path, 2, 4 * count, (record(BR_DEAD_REPLY) for _ in range(count)))
 
 
 def with_buffer(delivery, address):

@@ -1,16 +1,12 @@
-#!/usr/bin/env python3
 """Checks the program of `./listing`.
 
     checks/run listing [-- PROGRAM]
 
-PROGRAM is the auditor; without it, it takes the built one. Each file in `stored/` beside this script must be what the
-command in its first line prints. For each capture of crates/audit_cases/data and samples/
-the listing and the auditor's report must agree: in the counts by code, or in the line of the first fault, and in the
-status. A narrowed listing must be the lines of the whole listing that fit. Several files are one capture, also if each
-capture is cut into a file for each frame. In version 2 a frame has a device. Of the payloads in `tokens.py` each must
-have the interface and the service that it names, and no other.
-
-If all is well it prints nothing. Otherwise it prints what was expected and what came, and ends with status 1.
+Each file in `stored/` beside this one must be what the command in its first line prints. For each capture of
+crates/audit_cases/data and samples/ the listing and the auditor's report must agree: in the counts by code, or in the
+line of the first fault, and in the status. A narrowed listing must be the lines of the whole listing that fit. Several
+files are one capture, also if each capture is cut into a file for each frame. In version 2 a frame has a device. Of the
+payloads in kit/tokens.py each must have the interface and the service that it names, and no other.
 """
 
 import argparse
@@ -20,13 +16,13 @@ import re
 import struct
 import subprocess
 from collections import Counter
-from concurrent.futures import ThreadPoolExecutor
 from typing import Callable, Iterable, Iterator
 
-from checks.kit import tokens
+from checks.kit import runs, tokens
 from checks.kit.captures import *
 from checks.kit.checking import Fail, check, compare
-from checks.kit.programs import CHECKS, LISTING, ROOT
+from checks.kit.frames import frames_of
+from checks.kit.programs import CHECKS, DRIVER, LISTING, ROOT, SMALL
 from checks.kit.traffic import write_traffic
 
 STORED = CHECKS / "listing/stored"
@@ -34,8 +30,14 @@ STORED = CHECKS / "listing/stored"
 
 def answer(program: pathlib.Path, *words: object) -> tuple[int, list[str]]:
     """The status of a run at the top of the repository, and its lines; those of standard error come last."""
-    ended = subprocess.run([program, *map(str, words)], cwd=ROOT, capture_output=True, text=True, timeout=120)
-    return ended.returncode, ended.stdout.splitlines() + ended.stderr.splitlines()
+    status, out, err = runs.answer([program, *map(str, words)], timeout=120, cwd=ROOT, text=True)
+    return status, out.splitlines() + err.splitlines()
+
+
+def check_alone(table: str, capture: pathlib.Path, folder: pathlib.Path, fail: Fail) -> None:
+    """A table that is written alone is the same as among all tables."""
+    compare(f"--table {table}", runs.answer([LISTING, "--table", table, capture], timeout=120),
+            (0, (folder / f"{table}.rows").read_bytes(), b""), fail)
 
 
 # ---- stored listings
@@ -78,9 +80,7 @@ def check_capture(program: pathlib.Path, capture: pathlib.Path, fail: Fail) -> N
 
 
 def check_captures(program: pathlib.Path, fail: Fail) -> None:
-    captures = [*ROOT.glob("samples/*.cap"), *ROOT.glob("crates/audit_cases/data/*.cap")]
-    with ThreadPoolExecutor(os.cpu_count()) as pool:
-        list(pool.map(lambda capture: check_capture(program, capture, fail), captures))
+    runs.at_once(os.cpu_count(), lambda capture: check_capture(program, capture, fail), SMALL)
 
 
 # ---- what is narrowed
@@ -122,30 +122,23 @@ def check_narrowed(room: pathlib.Path, fail: Fail) -> None:
             ("--direction read --code BC_REPLY", lambda it: False),
             (f"--node {node[4:]}", has_word(node)),
             ("--flag TF_ONE_WAY", lambda it: any(word.startswith("flags=") and "TF_ONE_WAY" in word for word in it)),
-            (f"--larger {middle}", lambda it: any(word.startswith("data_size=") and int(word[10:]) > middle for word in it)),
+            (f"--larger {middle}", lambda it: any(
+                word.startswith("data_size=") and int(word[10:]) > middle for word in it)),
     ):
         due = [line for line in whole if fits(line.split())]
         compare(f"usual traffic, {words}", answer(LISTING, without, *words.split()), (0, due), fail)
         if not due and words not in ("--device 3", "--direction read --code BC_REPLY"):
             fail(f"usual traffic, {words}: expected some lines, came none")
-    in_object = attached(1, 100, (record_of_handle(9), offsets(0)), (record_of_handle(5), offsets(0)))
+    in_object = attached(1, 100, *((of_handle(2, handle), offsets(0)) for handle in (9, 5)))
     (room / "objects.cap").write_bytes(HEADER + in_object)
     status, lines = answer(LISTING, room / "objects.cap", "--handle", 5)
     compare("a handle in an object", (status, [line.split()[0] for line in lines]), (0, ["116"]), fail)
 
 
-def record_of_handle(handle: int) -> bytes:
-    return HANDLE[:8] + u32(handle) + HANDLE[12:]
-
-
 def without_attachments(capture: bytes) -> bytes:
     """The capture with the same records, and without attachment entries."""
-    parts, at = [capture[:16]], 16
-    while at < len(capture):
-        commands, attachments = (int.from_bytes(capture[at + k:at + k + 4], "little") for k in (20, 24))
-        parts += [capture[at:at + 24], u32(0), capture[at + 28:at + 32 + commands]]
-        at += 32 + commands + attachments
-    return b"".join(parts)
+    return capture[:16] + b"".join(capture[one.place:one.place + 24] + u32(0) + capture[one.place + 28:one.end - len(one.attached)]
+                                   for one in frames_of(capture))
 
 
 # ---- what is at a place, and columns
@@ -174,7 +167,7 @@ def check_places(fail: Fail) -> None:
 
 def check_side(fail: Fail) -> None:
     """After each line of the stored captures: the time, the ids and the names that the side list has for its frame."""
-    for capture in sorted(ROOT.glob("samples/driver/*/capture-1.cap")):
+    for capture in sorted(DRIVER.glob("*/capture-1.cap")):
         side = capture.with_name("capture.side")
         if "after=" in "".join(line for line in side.read_text().splitlines() if " name pid=" in line):
             continue
@@ -271,8 +264,9 @@ def check_interfaces(room: pathlib.Path, fail: Fail) -> None:
     due = [(tokens.MADE | tokens.RECORDED)[data] for _, _, data in each_kind]
     check_names(room, "interfaces of each kind", each_kind, due, due, fail)
     token, of_hidl = tokens.marked(tokens.MANAGER), b"android.hidl.base@1.0::IBase\0\0\0\0"
-    others = [(BC_TRANSACTION, code, token) for code in (0, 2**24, 0x0f504e47, NTF, PNG, DMP, CMD, SPR, EXT, PID, 2**32 - 1)]
-    others += [(BC_TRANSACTION, 0x5f504e47, of_hidl), (BC_REPLY, 1, token), (BC_REPLY_SG, 1, token), (BR_REPLY, 1, token)]
+    others = [(BC_TRANSACTION, code, token)
+              for code in (0, 2**24, 0x0f504e47, NTF, PNG, DMP, CMD, SPR, EXT, PID, 2**32 - 1)]
+    others += [(BC_TRANSACTION, PNG, of_hidl), *((word, 1, token) for word in (BC_REPLY, BC_REPLY_SG, BR_REPLY))]
     check_names(room, "other codes", others, [None] * len(others), [None] * len(others), fail)
     check_names(room, "codes of IBase", [(BC_TRANSACTION, 0x0f504e47, of_hidl)], ["android.hidl.base@1.0::IBase"],
                 ["android.hidl.base@1.0::IBase"], fail)
@@ -296,17 +290,15 @@ def check_services(room: pathlib.Path, fail: Fail) -> None:
     compare("services, how many", len(found), len(sent), fail)
     for (word, code, data), came, due in zip(sent, found, [*made.values(), *made.values(), *[None] * 4]):
         compare(f"services, {word:#x} code {code:#x} {data[:400].hex()}", came, due, fail)
-    alone = subprocess.run([LISTING, "--table", "service", capture], capture_output=True, timeout=120)
-    compare("--table service", (alone.returncode, alone.stdout), (0, (folder / "service.rows").read_bytes()), fail)
+    check_alone("service", capture, folder, fail)
 
 
 # ---- raw tables
 
 
 def check_tables(room: pathlib.Path, fail: Fail) -> None:
-    """Compares the raw tables of the stored captures with the listing and the stored report. A table written alone is
-    the same as among all tables."""
-    for capture in sorted(ROOT.glob("samples/driver/*/*.cap")):
+    """Compares the raw tables of the stored captures with the listing and the stored report."""
+    for capture in sorted(DRIVER.glob("*/*.cap")):
         folder = room / capture.parent.name
         folder.mkdir()
         compare(f"--tables of {capture}", answer(LISTING, "--tables", folder, capture), (0, []), fail)
@@ -328,8 +320,7 @@ def check_tables(room: pathlib.Path, fail: Fail) -> None:
         compare(f"{capture}, unfreed", unfreed,
                 [int(line.split()[0]) for line in report[at + 1:at + 1 + int(heads["buffers"][3])]], fail)
     for name in ("call", "level"):
-        alone = subprocess.run([LISTING, "--table", name, capture], cwd=ROOT, capture_output=True, timeout=120)
-        compare(f"--table {name}", (alone.returncode, alone.stdout), (0, (folder / f"{name}.rows").read_bytes()), fail)
+        check_alone(name, capture, folder, fail)
 
 
 def rows_of(data: bytes) -> Iterator[dict[int, int]]:
@@ -365,10 +356,8 @@ def check_forms(room: pathlib.Path, fail: Fail) -> None:
 def check_parts(room: pathlib.Path, fail: Fail) -> None:
     """Each stored capture, cut into a file for each frame, in version 2: the listing is that of the whole capture, and
     so is the last record by its place."""
-    captures = [*ROOT.glob("samples/*.cap"), *ROOT.glob("crates/audit_cases/data/*.cap")]
-    with ThreadPoolExecutor(os.cpu_count()) as pool:
-        list(pool.map(lambda numbered: check_in_parts(room / f"parts-{numbered[0]}", numbered[1], fail),
-                      enumerate(captures)))
+    runs.at_once(os.cpu_count(), lambda numbered: check_in_parts(room / f"parts-{numbered[0]}", numbered[1], fail),
+                 enumerate(SMALL))
 
 
 def check_in_parts(room: pathlib.Path, capture: pathlib.Path, fail: Fail) -> None:
@@ -377,12 +366,9 @@ def check_in_parts(room: pathlib.Path, capture: pathlib.Path, fail: Fail) -> Non
     if whole[0] or len(data) > 4096:
         return
     room.mkdir()
-    at = 16
-    while at < len(data):
-        after = at + 32 + sum(int.from_bytes(data[at + k:at + k + 4], "little") for k in (20, 24))
-        parts.append(room / str(at))
-        parts[-1].write_bytes(HEADER_2 + data[at:after])
-        at = after
+    for one in frames_of(data):
+        parts.append(room / str(one.place))
+        parts[-1].write_bytes(HEADER_2 + data[one.place:one.end])
     if len(parts) < 2:
         return
     last = whole[1][-1].split()[0] if whole[1] else "16"
@@ -398,7 +384,8 @@ def check_words(fail: Fail) -> None:
     capture = "samples/reply.cap"
     _, (usage,) = answer(LISTING)
     compare("usage", usage.split()[:3], ["usage:", "listing", "FILE..."], fail)
-    compare("--help", (answer(LISTING, "--help")[0], answer(LISTING, "--help")[1][0].split()[:2]), (0, ["Lists", "the"]), fail)
+    status, told = answer(LISTING, "--help")
+    compare("--help", (status, told[0].split()[:2]), (0, ["Lists", "the"]), fail)
     with subprocess.Popen([LISTING, "--form", "tab", capture], cwd=ROOT, stdout=subprocess.PIPE,
                           stderr=subprocess.PIPE) as ended:
         ended.stdout.close()
@@ -414,8 +401,8 @@ def check_words(fail: Fail) -> None:
     compare("a place without a record", answer(LISTING, capture, "--at", 20)[0], 1, fail)
     compare("a file that is not there", answer(LISTING, "no-such.cap"), (4, ["fault Open"]), fail)
     with open("/dev/full", "w") as full:
-        ended = subprocess.run([LISTING, capture], cwd=ROOT, stdout=full, stderr=subprocess.PIPE, text=True)
-    compare("a full device", (ended.returncode, ended.stderr), (4, "fault Write\n"), fail)
+        ended = runs.answer([LISTING, capture], cwd=ROOT, stdout=full)
+    compare("a full device", ended, (4, None, b"fault Write\n"), fail)
 
 
 def judge(given: argparse.Namespace, room: pathlib.Path, fail: Fail) -> None:

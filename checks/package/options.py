@@ -1,4 +1,3 @@
-#!/usr/bin/env python3
 """Checks that completions and manual name the options that the programs name in `--help`.
 
     checks/run options
@@ -10,38 +9,23 @@ What must hold for each of the five commands of the package:
 - The completions are there for it, for bash and for zsh, and offer these options and no others.
 - The page of the manual names them, its command line no others.
 
-Of the recorder it builds only the file with the command line, with cc. It takes some two seconds. If all is well it
-prints nothing. Otherwise it prints what was expected and what came, and ends with status 1.
+Of the recorder it builds only the file with the command line, with cc. It takes some two seconds.
 """
 
-import argparse
 import pathlib
 import re
-import subprocess
-import sys
 
 from checks.kit.checking import Fail, check
-from checks.kit.programs import ROOT
+from checks.kit.programs import PACKAGED, ROOT, linked
+from checks.kit.runs import output_of
 from packager import manual
 
 PACKAGER, RECORDER = ROOT / "packager", ROOT / "recorder"
-# By the names of the package and of the repository.
-PROGRAMS = {"binder-audit": "audit", "binder-listing": "listing", "binder-methods": "viewer/methods/table.py",
-            "binder-record": "record", "binder-view": "view"}
 
 # The command line of the recorder, as a program of its own.
 ONLY_WORDS = """#include "options.h"
 int main(int count, char **words) { struct options options; options_read(&options, count, words); return 0; }
 """
-
-
-def run(words: list[object], **settings: object) -> str:
-    """Runs a command that must not fail, and returns what it writes."""
-    ended = subprocess.run(list(map(str, words)), stdin=subprocess.DEVNULL, stdout=subprocess.PIPE, text=True,
-                           **settings)  # type: ignore[call-overload]
-    if ended.returncode:
-        sys.exit(f"checks/options: {words[0]} ended with status {ended.returncode}")
-    return ended.stdout
 
 
 def compare_options(what: str, came: set[str], due: set[str], fail: Fail) -> None:
@@ -51,13 +35,11 @@ def compare_options(what: str, came: set[str], due: set[str], fail: Fail) -> Non
 
 
 def programs(folder: pathlib.Path) -> pathlib.Path:
-    """A folder with the programs, by the names of a package."""
-    for name, script in PROGRAMS.items():
-        if name != "binder-record":
-            (folder / name).symlink_to(ROOT / script)
+    """The folder, with the programs by the names of a package."""
+    linked(folder, {name: program for name, program in PACKAGED.items() if name != "binder-record"})
     (folder / "words.c").write_text(ONLY_WORDS)
-    run(["cc", "-std=gnu11", f"-I{RECORDER}", "-o", folder / "binder-record", folder / "words.c",
-         RECORDER / "options.c", RECORDER / "common.c"])
+    output_of(["cc", "-std=gnu11", f"-I{RECORDER}", "-o", folder / "binder-record", folder / "words.c",
+               RECORDER / "options.c", RECORDER / "common.c"])
     return folder
 
 
@@ -74,7 +56,7 @@ def check_help(program: pathlib.Path, fail: Fail) -> set[str]:
     lines = [block for block in blocks if block[0].startswith(("    ", "binder-record ["))]
     line, told = (options_in("\n".join(line for block in some for line in block)) for some in
                   (lines, [block for block in blocks if block not in lines]))
-    said = run([program, "--help"])
+    said = output_of([program, "--help"])
     taken = options_in(said.partition("\n\n")[0]) if said.startswith("usage: ") else line
     compare_options(f"the command line in {program.name} --help", line | {"--help"}, taken | {"--help"}, fail)
     compare_options(f"what {program.name} --help says of words", told & line | {"--help"}, line | {"--help"}, fail)
@@ -89,7 +71,7 @@ def offered_by_bash(program: str, words: str) -> set[str]:
     script = (f"source {PACKAGER}/completions.bash; compopt() {{ :; }}; COMP_WORDS=({program} {words} -)\n"
               f"function=$(complete -p {program} | cut -d ' ' -f 3)\n"
               f"COMP_CWORD=$((${{#COMP_WORDS[@]}} - 1)); $function {program} - x; echo ${{COMPREPLY[*]}}")
-    return options_in(run(["bash", "-c", script]))
+    return options_in(output_of(["bash", "-c", script]))
 
 
 def offered_by_zsh(program: str) -> set[str]:
@@ -123,14 +105,14 @@ def check_manual(page: manual.Page, folder: pathlib.Path, due: set[str], fail: F
 # ---- all of it
 
 
-def judge(_: argparse.Namespace, room: pathlib.Path, fail: Fail) -> None:
+def check_options(room: pathlib.Path, fail: Fail) -> None:
     folder = programs(room)
     for page in manual.PAGES:
-        if page.name in PROGRAMS:
+        if page.name in PACKAGED:
             due = check_help(folder / page.name, fail)
             check_completions(page.name, due, fail)
             check_manual(page, folder, due, fail)
 
 
 if __name__ == "__main__":
-    check(judge)
+    check(lambda _, room, fail: check_options(room, fail))

@@ -1,4 +1,3 @@
-#!/usr/bin/env python3
 """Checks the package that `./package` makes.
 
     checks/run package [-- [--guest] [--kept ROOM]]
@@ -11,8 +10,8 @@ What must hold:
   groups, databases and timelines to the byte, and pages but for the names of the two commands in them. Those of the
   archive do so from another folder.
 - The commands in the pages of the manual print there what the pages say.
-- With --guest: on Debian's kernel in QEMU, `binder-record` records a scenario of checks/recorder/scenarios, and the other
-  programs say there of the capture what they say here.
+- With --guest: on Debian's kernel in QEMU, `binder-record` records a scenario of checks/recorder/scenarios, and the
+  other programs say there of the capture what they say here.
 - When the package is removed, no file or folder is left.
 - lintian has nothing to say, nor mandoc about the pages of the manual.
 - All five commands have completions. These and the manual have the options that `--help` names, and no others
@@ -21,7 +20,6 @@ What must hold:
 By hand, since it needs root, the network, and debootstrap, lintian, mandoc and zsh; for the guest also QEMU and cpio.
 It takes some 5 minutes, and 2 to 12 more for the guest, without KVM. It proves what is not proved yet. What was
 changed since the commit is packed too, under another version. ROOM is where the new Debian is kept for the next time.
-If all is well it prints nothing. Otherwise it prints what was expected and what came, and ends with status 1.
 """
 
 import argparse
@@ -33,16 +31,15 @@ import re
 import shlex
 import shutil
 import subprocess
-import sys
 from typing import Iterator
 
 from checks.kit.checking import FLAG, Fail, check, compare
-from checks.kit.programs import CHECKS, ROOT
+from checks.kit.programs import CHECKS, PACKAGED, ROOT, linked
+from checks.kit.runs import output_of
+from checks.package.options import check_options
+from checks.pages.pages import commands_in
 from packager import manual
 
-# By the names of the package and of the repository.
-PROGRAMS = {"binder-audit": "audit", "binder-listing": "listing", "binder-record": "record", "binder-view": "view",
-            "binder-methods": "viewer/methods/table.py"}
 SUITE, MIRROR = "bookworm", "http://deb.debian.org/debian"
 NEEDED = ("debootstrap", "lintian", "mandoc", "zsh", "unshare")
 # What apt and dpkg write themselves.
@@ -76,27 +73,18 @@ done
 """
 
 
-def run(words: list[object], **settings: object) -> str:
-    """Runs a command that must not fail, and returns what it writes."""
-    ended = subprocess.run(list(map(str, words)), stdin=subprocess.DEVNULL, stdout=subprocess.PIPE,
-                           stderr=subprocess.STDOUT, text=True, **settings)  # type: ignore[call-overload]
-    if ended.returncode:
-        sys.exit(f"checks/package: {words[0]} ended with status {ended.returncode}: {ended.stdout[-2000:]}")
-    return ended.stdout
-
-
 # ---- two builds
 
 
 def built(folder: pathlib.Path, out: pathlib.Path) -> list[pathlib.Path]:
-    run([folder / "package", out])
+    output_of([folder / "package", out])
     return sorted(out.iterdir())
 
 
 def check_builds(room: pathlib.Path, fail: Fail) -> list[pathlib.Path]:
     """Makes the package twice. Returns the files of the first."""
     first = built(ROOT, room / "first")
-    run(["cp", "-a", ROOT, room / "elsewhere"])
+    output_of(["cp", "-a", ROOT, room / "elsewhere"])
     second = built(room / "elsewhere", room / "second")
     compare("names of the second build", [it.name for it in second], [it.name for it in first], fail)
     for one, other in zip(first, second):
@@ -113,16 +101,16 @@ def new_system(kept: pathlib.Path, system: pathlib.Path) -> None:
     """A copy of a new Debian, which is made first if it is not kept."""
     if not (kept / "made").exists():
         shutil.rmtree(kept, ignore_errors=True)
-        run(["debootstrap", "--variant=minbase", SUITE, kept, MIRROR])
+        output_of(["debootstrap", "--variant=minbase", SUITE, kept, MIRROR])
         (kept / "made").touch()
-    run(["cp", "-a", kept, system])
+    output_of(["cp", "-a", kept, system])
 
 
 def inside(system: pathlib.Path, script: str) -> str:
     """Runs a script as root in the new system, whose /proc ends with it."""
     begin = 'mount -t proc proc "$0/proc" && exec chroot "$0" /bin/bash -c "$1"'
     environment = {"PATH": "/usr/sbin:/usr/bin:/sbin:/bin", "DEBIAN_FRONTEND": "noninteractive", "LC_ALL": "C.UTF-8"}
-    return run(["unshare", "--mount", "sh", "-c", begin, system, script], env=environment)
+    return output_of(["unshare", "--mount", "sh", "-c", begin, system, script], env=environment)
 
 
 def files_of(system: pathlib.Path) -> set[str]:
@@ -136,7 +124,7 @@ def files_of(system: pathlib.Path) -> set[str]:
 
 
 def needs_of(package: pathlib.Path) -> str:
-    return run(["dpkg-deb", "-f", package, "Depends"]).strip()
+    return output_of(["dpkg-deb", "-f", package, "Depends"]).strip()
 
 
 # ---- answers
@@ -144,14 +132,9 @@ def needs_of(package: pathlib.Path) -> str:
 
 def asked_here(room: pathlib.Path) -> pathlib.Path:
     """The answers of the programs of the repository, which are called by the same names."""
-    programs, folder = room / "bin", room / "here"
-    programs.mkdir()
-    folder.mkdir()
-    for name, own in PROGRAMS.items():
-        (programs / name).symlink_to(ROOT / own)
-    (folder / "samples").symlink_to(ROOT / "samples")
-    run(["bash", "-c", ASK], cwd=folder, env={**os.environ, "PATH": f"{programs}:{os.environ['PATH']}",
-                                              "LC_ALL": "C.UTF-8"})
+    programs, folder = linked(room / "bin", PACKAGED), linked(room / "here", {"samples": ROOT / "samples"})
+    output_of(["bash", "-c", ASK], cwd=folder, env={**os.environ, "PATH": f"{programs}:{os.environ['PATH']}",
+                                                    "LC_ALL": "C.UTF-8"})
     return folder / "answers"
 
 
@@ -207,17 +190,19 @@ def make_initramfs(system: pathlib.Path, room: pathlib.Path) -> pathlib.Path:
     """The new system with the installed package, a module of the driver and the scenarios. Returns the kernel."""
     inside(system, "apt-get install -y --no-install-recommends kmod && cd /tmp && apt-get download"
                    " $(apt-cache depends linux-image-amd64 | awk '/Depends: linux-image-/ { print $2 }')")
-    run(["dpkg-deb", "-x", next((system / "tmp").glob("linux-image-*.deb")), room / "kernel"])
+    output_of(["dpkg-deb", "-x", next((system / "tmp").glob("linux-image-*.deb")), room / "kernel"])
     module = next((room / "kernel").rglob("binder_linux.ko"))
     (system / "modules").mkdir()
     shutil.copy(module, system / "modules")
-    sources = [it for it in sorted((CHECKS / "recorder/scenarios").glob("*.c")) if it.stem not in ("gbinder", "witness")]
-    run(["cc", "-O2", "-static", "-o", system / "scenarios", *sources, "-lpthread"])
+    left_out = "gbinder", "witness"
+    sources = [it for it in sorted((CHECKS / "recorder/scenarios").glob("*.c")) if it.stem not in left_out]
+    output_of(["cc", "-O2", "-static", "-o", system / "scenarios", *sources, "-lpthread"])
     (system / "init").write_text(INIT)
     (system / "init").chmod(0o755)
     for name in ("tmp", "var/cache", "var/lib/apt", "usr/share/locale"):  # most of it, and not needed
         shutil.rmtree(system / name)
-    run(["bash", "-c", 'cd "$1" && find . -xdev | cpio -o -H newc | gzip -1 >"$2"', "-", system, room / "initramfs"])
+    pack = 'cd "$1" && find . -xdev | cpio -o -H newc | gzip -1 >"$2"'
+    output_of(["bash", "-c", pack, "-", system, room / "initramfs"])
     return next((room / "kernel/boot").glob("vmlinuz-*"))
 
 
@@ -246,9 +231,9 @@ def check_guest(system: pathlib.Path, room: pathlib.Path, fail: Fail) -> None:
                         r".cap\n", told):
         fail(f"the guest: binder-record: {told}")
     compare("the guest: status of binder-record", (folder / "record.status").read_text(), "0\n", fail)
-    report = run([ROOT / "audit", "report", "capture-1.cap"], cwd=folder)
+    report = output_of([ROOT / "audit", "report", "capture-1.cap"], cwd=folder)
     compare("the guest: report", (folder / "report.txt").read_text(), report, fail)
-    groups = run([ROOT / "view", "capture-1.cap", "--side", "capture.side", "--groups"], cwd=folder)
+    groups = output_of([ROOT / "view", "capture-1.cap", "--side", "capture.side", "--groups"], cwd=folder)
     compare("the guest: groups", (folder / "groups.txt").read_text(), groups, fail)
 
 
@@ -260,10 +245,9 @@ def commands_of(page: manual.Page) -> Iterator[tuple[str, list[str]]]:
     for document, headings in page.documents.items():
         for section in manual.sections_under(document, headings):
             for block in manual.joined(manual.blocks_of(section.text)):
-                lines = [line.removeprefix("    ") for line in block]
-                starts = [at for at, line in enumerate(lines) if line.startswith("$ ") and block[at].startswith("    ")]
-                for start, end in zip(starts, [*starts[1:], len(lines)]):
-                    yield manual.as_installed(lines[start][2:]), lines[start + 1:end]
+                if block[0].startswith("    "):
+                    for _, command, due in commands_in([line.removeprefix("    ") for line in block]):
+                        yield manual.as_installed(command), due
 
 
 def check_commands(system: pathlib.Path, fail: Fail) -> None:
@@ -291,12 +275,11 @@ def check_lint(package: pathlib.Path, fail: Fail) -> None:
 # ---- completions
 
 
-def check_completions(system: pathlib.Path, fail: Fail) -> None:
+def check_completions(system: pathlib.Path, room: pathlib.Path, fail: Fail) -> None:
     there = {it.name for it in (system / "usr/share/bash-completion/completions").glob("binder-*")}
-    compare("completions for bash", sorted(there), sorted(PROGRAMS), fail)
-    said = subprocess.run([CHECKS / "run", "options"], capture_output=True, text=True)
-    compare("checks/options", said.stdout + said.stderr, "", fail)
-    run(["zsh", "-n", ROOT / "packager/completions.zsh"])
+    compare("completions for bash", sorted(there), sorted(PACKAGED), fail)
+    check_options(room / "options", fail)
+    output_of(["zsh", "-n", ROOT / "packager/completions.zsh"])
 
 
 # ---- all of it
@@ -316,11 +299,11 @@ def check_system(room: pathlib.Path, kept: pathlib.Path, files: list[pathlib.Pat
     check_answers("the package", asked_inside(system, "installed", "/usr/bin:/bin"), due, fail)
     check_commands(system, fail)
     check_pages(system, fail)
-    check_completions(system, fail)
+    check_completions(system, room, fail)
     if guest:
-        run(["cp", "-a", system, room / "guest"])
+        output_of(["cp", "-a", system, room / "guest"])
         check_guest(room / "guest", room, fail)
-    run(["tar", "-C", system / "tmp", "-xf", archive])
+    output_of(["tar", "-C", system / "tmp", "-xf", archive])
     folder = archive.name.replace("_amd64.tar.xz", "").replace("_", "-")
     check_answers("the archive", asked_inside(system, "unpacked", f"/tmp/{folder}/bin:/usr/bin:/bin"), due, fail)
     inside(system, "apt-get purge -y binder-audit")

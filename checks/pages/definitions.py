@@ -1,8 +1,6 @@
-#!/usr/bin/env python3
 """Makes docs/DEFINITIONS.md: all definitions that the headline rests on, each with its comment, in an order of reading.
 
-    checks/run definitions              compares docs/DEFINITIONS.md with the page: prints nothing if they are the same,
-                                        else the first line that differs, with status 1
+    checks/run definitions              compares docs/DEFINITIONS.md with the page; names the first line that differs
     checks/run definitions -- --print   prints the page
 
 It starts at ROOTS and follows each name by the `use` lines of its file: to definitions in specs/, and to types and
@@ -11,11 +9,11 @@ constants that src/ declares. It fails at a name that leads nowhere. CHAPTERS sa
 
 import functools
 import re
-import sys
 import textwrap
 from itertools import zip_longest
 from typing import NamedTuple
 
+from checks.kit.checking import FLAG, check
 from checks.kit.programs import ROOT
 
 PAGE = ROOT / "docs/DEFINITIONS.md"
@@ -521,29 +519,24 @@ def page():
 
 def stale():
     """The first line of docs/DEFINITIONS.md that should be another, and what is wrong with it; or nothing."""
-    there, due = (PAGE.read_text() if PAGE.exists() else "").splitlines(), page().splitlines()
+    try:
+        made = page()
+    except Nowhere as error:
+        yield 1, str(error)
+        return
+    there, due = (PAGE.read_text() if PAGE.exists() else "").splitlines(), made.splitlines()
     for number, (line, other) in enumerate(zip_longest(there, due), 1):
         if line != other:
             yield number, "checks/run definitions writes " + ("no more" if other is None else repr(other))
             return
 
 
-def main(words):
-    match words:
-        case []:
-            wrong = list(stale())
-            for number, what in wrong:
-                print(f"{PAGE.relative_to(ROOT)}:{number}: {what}")
-            return 1 if wrong else 0
-        case ["--print"]:
-            print(page(), end="")
-            return 0
-    print(__doc__, file=sys.stderr)
-    return 64
+def judge(given, *_):
+    if given.print:
+        print(page(), end="")
+    else:
+        yield from (f"{PAGE.relative_to(ROOT)}:{number}: {what}" for number, what in stale())
 
 
 if __name__ == "__main__":
-    try:
-        sys.exit(main(sys.argv[1:]))
-    except Nowhere as error:
-        sys.exit(f"{sys.argv[0]}: {error}")
+    check(judge, print=FLAG)

@@ -1,9 +1,8 @@
-#!/usr/bin/env python3
 """Checks the pages: README.md, docs/, samples/ and the READMEs of the crates.
 
     checks/run pages [-- PROGRAM]
 
-Without PROGRAM it takes the built one, crates/binder_audit/out/binder_audit. What must hold:
+What must hold:
 
 - Each link to a file of the repository leads to a file, and the text after # to a heading in it.
 - Each report that a page prints is one that the program writes for a capture of samples/ or of crates/audit_cases/data:
@@ -16,19 +15,16 @@ Without PROGRAM it takes the built one, crates/binder_audit/out/binder_audit. Wh
 - The wrong bodies in a crate's page are those in its must-fail/, each of which names the goal at which it is refused.
   Those that docs/PROMISES.md names after ✗ exist.
 - docs/DEFINITIONS.md is the page that checks/run definitions makes.
-
-If all is well it prints nothing. Otherwise it names page and line, and ends with status 1.
 """
 
 import os
-import pathlib
 import re
 import shutil
 import subprocess
-import tempfile
 
 from checks.kit.checking import check
-from checks.kit.programs import CASES, ROOT
+from checks.kit.programs import ROOT, SMALL, folder_of, linked
+from checks.kit.runs import answer
 from checks.pages import definitions
 
 TITLE = "BINDER AUDIT "
@@ -78,6 +74,13 @@ def blocks(page):
             heading = line.strip("# ")
 
 
+def commands_in(block):
+    """The commands in an indented block: where each one is, the command, and the lines that it must print."""
+    starts = [at for at, line in enumerate(block) if line.startswith("$ ")]
+    for start, end in zip(starts, [*starts[1:], len(block)]):
+        yield start, block[start][2:], block[start + 1:end]
+
+
 def told(report):
     """A report without the heads that have no number above 0."""
     title, totals, *lines = report.splitlines()
@@ -115,22 +118,17 @@ def with_sqlite3(folder):
     return True
 
 
-def wrong_answers(page, program):
+def wrong_answers(page, program, room):
     """The commands of a page that print something else than the lines below them, each with its line."""
-    with tempfile.TemporaryDirectory() as folder:
-        for name in ("samples", "crates", "checks", "docs", "listing", "viewer"):
-            os.symlink(ROOT / name, pathlib.Path(folder) / name)
-        shutil.copy(ROOT / "view", folder)  # a copy, since it calls what is in its own folder
-        path = f"{folder}/bin:{os.environ['PATH']}" if with_sqlite3(pathlib.Path(folder)) else os.environ["PATH"]
-        os.symlink(pathlib.Path(program).resolve(), pathlib.Path(folder) / "audit")
-        for number, block, _ in blocks(page):
-            starts = [at for at, line in enumerate(block) if line.startswith("$ ")]
-            for start, end in zip(starts, [*starts[1:], len(block)]):
-                ran = subprocess.run(["bash", "-c", block[start][2:]], cwd=folder, timeout=120, text=True,
-                                     env={**os.environ, "PATH": path}, stdout=subprocess.PIPE, stderr=subprocess.STDOUT)
-                came = [line for line in ran.stdout.splitlines() if not line.startswith(WITHOUT_LOADER)]
-                if came != block[start + 1:end]:
-                    yield number + start, f"it prints {ran.stdout!r}"
+    folder = folder_of(room / "-".join(page.relative_to(ROOT).parts), program, ROOT / "listing", ROOT / "crates")
+    linked(folder, {name: ROOT / name for name in ("samples", "checks", "docs")})
+    path = f"{folder}/bin:{os.environ['PATH']}" if with_sqlite3(folder) else os.environ["PATH"]
+    for number, block, _ in blocks(page):
+        for at, command, due in commands_in(block):
+            _, said, _ = answer(["bash", "-c", command], timeout=120, cwd=folder, env={**os.environ, "PATH": path},
+                                text=True, stderr=subprocess.STDOUT)
+            if [line for line in said.splitlines() if not line.startswith(WITHOUT_LOADER)] != due:
+                yield number + at, f"it prints {said!r}"
 
 
 def changes(words, sample):
@@ -169,8 +167,8 @@ def wrong_changes(page, program):
         for at, row in enumerate(block[1:] if block[0].startswith("change ") else [], 1):
             words, due, *_ = re.split(r" {2,}", row)
             made = changes(words, sample)
-            told = {subprocess.run([program, "first-fault", "/dev/stdin"], input=capture,
-                                   capture_output=True).stdout.decode().strip() for capture in made}
+            told = {answer([program, "first-fault", "/dev/stdin"], input=capture)[1].decode().strip()
+                    for capture in made}
             if told != {"no malformed record" if due == "none" else f"malformed {due}"}:
                 yield number + at, f"{words}: {told or 'no such change'}"
 
@@ -207,27 +205,21 @@ def wrong_promises(page):
 def stale_lines(page):
     """The first line of docs/DEFINITIONS.md that is not as it is made, if there is one."""
     if page == definitions.PAGE:
-        try:
-            yield from definitions.stale()
-        except definitions.Nowhere as error:
-            yield 1, str(error)
+        yield from definitions.stale()
 
 
-def judge(given, room, fail):
-    program = given.programs[0]
-    captures = [*sorted(CASES.glob("*.cap")), *sorted(ROOT.glob("samples/*.cap"))]
-    asked = {capture.name: [capture] for capture in captures}
+def judge(given, room, _):
+    program, asked = given.programs[0], {capture.name: [capture] for capture in SMALL}
     for _, _, heading in blocks(ROOT / "samples/README.md"):
         if " and " in heading:
             asked[heading] = [ROOT / "samples" / name for name in heading.split(" and ")]
-    answers = {name: subprocess.run([program, "report", *parts], capture_output=True, text=True).stdout
-               for name, parts in asked.items()}
-    reports = {name: answer for name, answer in answers.items() if answer.startswith(TITLE)}
+    answers = {name: answer([program, "report", *parts], text=True)[1] for name, parts in asked.items()}
+    reports = {name: text for name, text in answers.items() if text.startswith(TITLE)}
     for page in pages():
-        for number, what in (*wrong_links(page), *wrong_reports(page, reports), *wrong_answers(page, program),
+        for number, what in (*wrong_links(page), *wrong_reports(page, reports), *wrong_answers(page, program, room),
                              *wrong_changes(page, program), *wrong_bodies(page), *wrong_promises(page),
                              *stale_lines(page)):
-            fail(f"{page.relative_to(ROOT)}:{number}: {what}")
+            yield f"{page.relative_to(ROOT)}:{number}: {what}"
 
 
 if __name__ == "__main__":

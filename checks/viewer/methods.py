@@ -1,4 +1,3 @@
-#!/usr/bin/env python3
 """Checks `viewer/methods/table.py`, the table of methods.
 
     checks/run methods
@@ -19,8 +18,7 @@ With --compilers:
   How many each took is printed.
 
 The compilers are those of Debian sid. They are fetched by apt-get into FOLDER, if they are not there yet, and not
-installed. That takes some minutes; without, this takes a second. If all is well it prints nothing else.
-Otherwise it prints what was expected and what came, and ends with status 1.
+installed. That takes some minutes; without, this takes a second.
 """
 
 import argparse
@@ -29,16 +27,16 @@ import pathlib
 import random
 import re
 import subprocess
-from concurrent.futures import ThreadPoolExecutor
 from typing import Iterable, Iterator
 
-from checks.kit.checking import Fail, check
-from checks.kit.programs import CHECKS, ROOT
+from checks.kit.checking import check
+from checks.kit.programs import CHECKS, PACKAGED
+from checks.kit.runs import answer, at_once
 from viewer.methods import hal
 from viewer.methods.aidl import ADDED, Aidl
 from viewer.methods.sources import Interface, Wrong
 
-PROGRAM = ROOT / "viewer/methods/table.py"
+PROGRAM = PACKAGED["binder-methods"]
 SOURCES = CHECKS / "viewer/method_sources"
 AIDL = SOURCES / "aidl"
 
@@ -158,8 +156,8 @@ def cut_wrongly(step: int) -> Iterator[str]:
 
 
 def ran(folder: pathlib.Path, *words: str) -> tuple[int, str, str]:
-    run = subprocess.run([PROGRAM, *words], cwd=folder, capture_output=True, text=True, timeout=60)
-    return run.returncode, run.stdout, run.stderr.replace("viewer/methods/table.py: ", "")
+    status, out, err = answer([PROGRAM, *words], timeout=60, cwd=folder, text=True)
+    return status, out, err.replace("viewer/methods/table.py: ", "")
 
 
 def answered_wrongly(room: pathlib.Path) -> Iterator[str]:
@@ -196,16 +194,14 @@ def answered_wrongly(room: pathlib.Path) -> Iterator[str]:
         (room, ("tab\t.aidl",), (1, "", "tab\\t.aidl:1: the name has a sign that can't be printed\n")),
         (room, ("none.aidl",), (4, "", "none.aidl: No such file or directory\n")),
         (room, ("none",), (4, "", "none: No such file or directory\n")))
-    with ThreadPoolExecutor(4) as pool:
-        answers = list(pool.map(lambda line: ran(line[0], *line[1]), lines))
-    for (_, words, due), came in zip(lines, answers):
+    for (_, words, due), came in zip(lines, at_once(4, lambda line: ran(line[0], *line[1]), lines)):
         if came != due:
             yield f"viewer/methods/table.py {words}: expected {due!r}, came {came!r}"[:2000]
     for where, said in ((">&-", "standard output is closed"),
                         (">/dev/full", "standard output: No space left on device")):
-        run = subprocess.run(["sh", "-c", f'"$0" ends {where}', PROGRAM], cwd=room, capture_output=True, text=True)
-        if (run.returncode, run.stderr) != (4, f"viewer/methods/table.py: {said}\n"):
-            yield f"viewer/methods/table.py with {where}: status {run.returncode}, {run.stderr}"
+        status, _, told = answer(["sh", "-c", f'"$0" ends {where}', PROGRAM], cwd=room, text=True)
+        if (status, told) != (4, f"viewer/methods/table.py: {said}\n"):
+            yield f"viewer/methods/table.py with {where}: status {status}, {told}"
     of_j = [line.split("\t")[1:3] for line in ran(room, "parents")[1].splitlines() if line.startswith("p@1.0::J\t")]
     if of_j[:2] != [["1", "a"], ["2", "b"]]:
         yield f"J, whose parent is imported from another package, has {of_j[:2]}"
@@ -241,10 +237,9 @@ KIND = {"aidl": "aidl", "hidl-gen": "hal"}
 def compiled(folder: pathlib.Path, program: str, *words: str | pathlib.Path) -> tuple[int, str]:
     """Runs a compiler with its own C library, in the folder of its sources. Returns its status and what it said."""
     library = folder / "root/usr/lib/x86_64-linux-gnu"
-    run = subprocess.run([library / "ld-linux-x86-64.so.2", "--library-path", f"{library}:{library}/android",
-                          folder / "root/usr/bin" / program, *words], cwd=SOURCES / KIND[program],
-                         capture_output=True, text=True)
-    return run.returncode, run.stdout + run.stderr
+    status, out, err = answer([library / "ld-linux-x86-64.so.2", "--library-path", f"{library}:{library}/android",
+                               folder / "root/usr/bin" / program, *words], cwd=SOURCES / KIND[program], text=True)
+    return status, out + err
 
 
 def codes_in(made: Iterable[pathlib.Path], method: str, interface: str) -> Codes:
@@ -355,7 +350,11 @@ def changed(text: str, chance: random.Random) -> str:
 
 def mutants_wrongly(folder: pathlib.Path, room: pathlib.Path, count: int) -> Iterator[str]:
     """The changed sources to which `aidl` and `viewer/methods/table.py` give different codes."""
-    chance, took = random.Random(1), {"both": 0, "aidl alone": 0, "viewer/methods/table.py alone": 0, "neither": 0}
+    chance = random.Random(1)
+    # By whether `aidl` takes a source, and whether the table's program does.
+    names = {(True, True): "both", (True, False): "aidl alone", (False, True): "viewer/methods/table.py alone",
+             (False, False): "neither"}
+    took = dict.fromkeys(names.values(), 0)
     paths = [path for path in sorted(SOURCES.rglob("I*.aidl"))]
     for number in range(count):
         path = chance.choice(paths)
@@ -370,21 +369,18 @@ def mutants_wrongly(folder: pathlib.Path, room: pathlib.Path, count: int) -> Ite
             ours = without_added(own_codes(aidl_of(text)))
         except Wrong:
             ours = None
-        took[("neither", "aidl alone", "viewer/methods/table.py alone", "both")[(status == 0) + 2 * (ours is not None)]] += 1
+        took[names[status == 0, ours is not None]] += 1
         if status == 0 and ours is not None and ours != java_codes(there / "out"):
             yield f"{path.name}, change {number}: aidl gives {java_codes(there / 'out') ^ ours} differently:\n{text}"
     print("changed sources taken by:", ", ".join(f"{who} {n}" for who, n in took.items()))
 
 
-def judge(given: argparse.Namespace, room: pathlib.Path, fail: Fail) -> None:
-    folder = given.compilers
-    wrong = [*refused_wrongly(), *cut_wrongly(1 if folder else 11), *answered_wrongly(room)]
-    if folder:
-        folder = folder.resolve()
+def judge(given: argparse.Namespace, room: pathlib.Path, _: object) -> Iterator[str]:
+    yield from (*refused_wrongly(), *cut_wrongly(1 if given.compilers else 11), *answered_wrongly(room))
+    if given.compilers:
+        folder = given.compilers.resolve()
         fetched(folder)
-        wrong += [*aidl_wrongly(folder, room), *hidl_wrongly(folder, room), *mutants_wrongly(folder, room, 300)]
-    for what in wrong:
-        fail(what)
+        yield from (*aidl_wrongly(folder, room), *hidl_wrongly(folder, room), *mutants_wrongly(folder, room, 300))
 
 
 if __name__ == "__main__":

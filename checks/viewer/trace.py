@@ -1,7 +1,6 @@
-#!/usr/bin/env python3
 """Checks the timeline of `./view --trace`.
 
-    checks/run trace [-- PROGRAM]  PROGRAM is the auditor; without it, it takes the built one
+    checks/run trace [-- PROGRAM]
     checks/run trace -- --viewer TRACE_VIEWER FILE..
                                    reads timelines by the importer of chrome://tracing, in Debian's chromium, and prints
                                    what that finds, and what each timeline says of itself; by hand
@@ -31,13 +30,10 @@ What must hold, for stored captures with and without a side list, of one device 
 TRACE_VIEWER is the file trace_viewer_full.html of Catapult, with webcomponents.min.js beside it. Debian's package
 golang-1.19-src has both; its chromium has no chrome://tracing.
 
-It takes some 5 seconds of the processor. If all is well it prints nothing. Otherwise it prints what was expected and
-what came, and ends with status 1.
+It takes some 5 seconds of the processor.
 """
 
 import argparse
-import gzip
-import json
 import os
 import pathlib
 import re
@@ -48,11 +44,11 @@ from collections import Counter, defaultdict
 from typing import Iterator
 
 from checks.kit.captures import *
-from checks.kit.checking import Fail, check, compare
+from checks.kit.checking import Fail, check, compare, run_parts
 from checks.kit.programs import AUDITOR, DRIVER, ROOT, built_programs
+from checks.viewer.page.common import loaded, stored, texts_stored, timeline_of, view
 from checks.viewer.timeline.browser import Pictured, make_picture, read_in_chromium
 from checks.viewer.timeline.cost import print_cost
-from viewer.database import loading
 from viewer.database.sqlite import open_database
 from viewer.timeline import trace
 from viewer.timeline.tracks import Window
@@ -68,16 +64,10 @@ PICTURED = Pictured("chain", 4084, 8, 23)
 Track = tuple[int, int]
 
 
-def loaded(folder: pathlib.Path, made: pathlib.Path, files: list[pathlib.Path], side: pathlib.Path | None
-           ) -> sqlite3.Connection:
-    loading.database_of(folder, list(map(str, files)), None if side is None else str(side), made, lambda _: None)
-    return open_database(made)
-
-
 def traced(database: sqlite3.Connection, path: pathlib.Path, **window: int) -> dict:
     path.unlink(missing_ok=True)
     trace.write(database, path, Window(**window))
-    return json.loads(gzip.decompress(path.read_bytes()))
+    return timeline_of(path)
 
 
 # ---- what a timeline has
@@ -441,18 +431,8 @@ def due_in(database: sqlite3.Connection, window: dict[str, int]) -> list[int]:
 # ---- the program
 
 
-def view(folder: pathlib.Path, room: pathlib.Path, *words: object, **more: object) -> tuple[int, str, str]:
-    ended = subprocess.run([folder / "view", *map(str, words)], cwd=room, capture_output=True, text=True, timeout=120,
-                           **more)
-    return ended.returncode, ended.stdout, ended.stderr
-
-
-def opened(path: pathlib.Path) -> dict:
-    return json.loads(gzip.decompress(path.read_bytes())) if path.exists() else {}
-
-
 def check_words(folder: pathlib.Path, room: pathlib.Path, fail: Fail) -> None:
-    capture, side = DRIVER / "leaks/capture-1.cap", DRIVER / "leaks/capture.side"
+    capture, *_ = stored("leaks")
     for words in (("--trace",), ("--process", 1), ("--from", 1, "-o", "a.html"), ("--trace", "a.gz", "--to", "x"),
                   ("--trace", "a.gz", "--process", -1), ("--trace", "a.gz", "--thread", 2**64)):
         compare(f"words {words}", view(folder, room, capture, *words)[0], 64, fail)
@@ -460,10 +440,10 @@ def check_words(folder: pathlib.Path, room: pathlib.Path, fail: Fail) -> None:
     compare("an existing file", view(folder, room, capture, "--trace", "there.gz"),
             (1, "", "view: there.gz exists already\n"), fail)
     compare("a folder that is not there", view(folder, room, capture, "--trace", "no/a.gz")[0], 4, fail)
-    status, out, told = view(folder, room, capture, "--side", side, "--trace", "a.gz", "--process", 1)
+    status, out, told = view(folder, room, *stored("leaks"), "--trace", "a.gz", "--process", 1)
     compare("no such process", (status, out, told), (0, "", "view: the capture has no thread that is asked for, so the"
                                                      " timeline is empty\n"), fail)
-    compare("its events", opened(room / "a.gz").get("traceEvents"), [], fail)
+    compare("its events", timeline_of(room / "a.gz").get("traceEvents"), [], fail)
     compare("who can read it", (room / "a.gz").stat().st_mode & 0o777, 0o600, fail)
     compare("what is left", sorted(path.name for path in room.iterdir()), ["a.gz", "there.gz"], fail)
     compare("the existing file", (room / "there.gz").read_text(), "kept", fail)
@@ -471,14 +451,14 @@ def check_words(folder: pathlib.Path, room: pathlib.Path, fail: Fail) -> None:
 
 def check_malformed(folder: pathlib.Path, room: pathlib.Path, fail: Fail) -> None:
     """A malformed capture has what comes before its fault; here a capture that is cut within a frame."""
-    whole = (DRIVER / "threads/capture-1.cap").read_bytes()
+    whole, _ = texts_stored("threads")
     for name, data in (("cut", whole[:len(whole) // 2 + 3]), ("none", b"no capture"),
                        ("bad", whole[:len(whole) // 2 // 4 * 4])):
         (room / f"{name}.cap").write_bytes(data)
         status, _, _ = view(folder, room, f"{name}.cap", "--trace", f"{name}.gz", "--database", f"{name}.db")
         compare(f"{name}, status", status, 2, fail)
         database = open_database(room / f"{name}.db")
-        told = opened(room / f"{name}.gz")
+        told = timeline_of(room / f"{name}.gz")
         read = check_all(name, database, told, fail)
         compare(f"{name}, the fault", told["otherData"].get("malformed", "").split(" ")[0], "malformed", fail)
         compare(f"{name}, slices", bool(read.slices), name != "none", fail)
@@ -489,7 +469,7 @@ HOSTILE = '"},{"ph":"B\\x09\\x0a</script>\u202e\U0001f600'
 
 
 def check_hostile(folder: pathlib.Path, room: pathlib.Path, fail: Fail) -> None:
-    side = (DRIVER / "leaks/capture.side").read_text()
+    _, side = texts_stored("leaks")
     (room / "hostile.side").write_text(re.sub("name=(manager|service)$", lambda _: "name=" + HOSTILE, side,
                                               flags=re.MULTILINE))
     database = loaded(folder, room / "hostile.db", [DRIVER / "leaks/capture-1.cap"], room / "hostile.side")
@@ -502,7 +482,7 @@ def check_hostile(folder: pathlib.Path, room: pathlib.Path, fail: Fail) -> None:
 
 def check_clock(folder: pathlib.Path, room: pathlib.Path, fail: Fail) -> None:
     """With CLOCK_BOOTTIME in the side list all times are on that clock, and nothing else is another."""
-    ahead, side = 5_000_000_123, (DRIVER / "leaks/capture.side").read_text()
+    ahead, side = 5_000_000_123, texts_stored("leaks")[1]
     (room / "clock.side").write_text(re.sub(
         r"^(\d+) begin ", lambda found: f"{found[0]}boottime={int(found[1]) + ahead} ", side, flags=re.MULTILINE))
     told = []
@@ -521,7 +501,7 @@ def check_clock(folder: pathlib.Path, room: pathlib.Path, fail: Fail) -> None:
 
 def check_order(folder: pathlib.Path, room: pathlib.Path, fail: Fail) -> None:
     """Times that go back, and frames without one: slices nest, and the timeline says how many such frames there are."""
-    lines = (DRIVER / "nested/capture.side").read_text().splitlines(keepends=True)
+    lines = texts_stored("nested")[1].splitlines(keepends=True)
     frames = [at for at, line in enumerate(lines) if re.match(r"\d+ frame \d+$", line)]
     for at in frames[10::7]:
         lines[at] = re.sub(r"^\d+", lambda found: str(int(found[0]) - 10**8), lines[at])
@@ -591,14 +571,6 @@ def check_reader(folder: pathlib.Path, room: pathlib.Path, fail: Fail) -> None:
 # ---- all of it
 
 
-def check_program(folder: pathlib.Path, room: pathlib.Path, fail: Fail) -> None:
-    for name, part in (("small", check_small), ("words", check_words), ("malformed", check_malformed),
-                        ("hostile", check_hostile), ("clock", check_clock), ("order", check_order),
-                        ("stopped", check_stopped), ("reader", check_reader)):
-        (room / name).mkdir()
-        part(folder, room / name, fail)
-
-
 def samples() -> Iterator[tuple[list[pathlib.Path], pathlib.Path | None]]:
     yield from (([DRIVER / name / "capture-1.cap"], DRIVER / name / "capture.side") for name in WITH_SIDE)
     yield from (([ROOT / "samples" / name for name in names], None) for names in WITHOUT_SIDE)
@@ -607,8 +579,7 @@ def samples() -> Iterator[tuple[list[pathlib.Path], pathlib.Path | None]]:
 
 def picture_of_sample(room: pathlib.Path, viewer: str, picture: pathlib.Path) -> None:
     """The picture in docs/VIEW.md."""
-    folder, sample = built_programs(room, AUDITOR), DRIVER / PICTURED.name
-    view(folder, room, sample / "capture-1.cap", "--side", sample / "capture.side", "--trace", "out.gz")
+    view(built_programs(room, AUDITOR), room, *stored(PICTURED.name), "--trace", "out.gz")
     make_picture(room, viewer, room / "out.gz", PICTURED, picture)
 
 
@@ -623,7 +594,8 @@ def judge(given: argparse.Namespace, room: pathlib.Path, fail: Fail) -> None:
         folder = built_programs(room, given.programs[0])
         for files, side in samples():
             check_sample(folder, room, files, side, fail)
-        check_program(folder, room, fail)
+        run_parts((check_small, check_words, check_malformed, check_hostile, check_clock, check_order, check_stopped,
+                   check_reader), folder, room, fail)
 
 
 if __name__ == "__main__":

@@ -1,7 +1,6 @@
-#!/usr/bin/env python3
 """Checks `view`, the page of a capture and its database.
 
-    checks/run view [-- PROGRAM]     PROGRAM is the auditor; without it, it takes the built one
+    checks/run view [-- PROGRAM]
     checks/run view -- --browser     checks the page in Debian's chromium, without a window; by hand
 
 What must hold:
@@ -9,8 +8,9 @@ What must hold:
 - For each capture in samples/driver and samples/: the database is whole, and its counts, calls, deliveries, handles and
   oneway sends are those of the report; the page has each row and each head of the report, word by word; every finding
   has a rule.
-- For each scenario in samples/driver the groups of verdict real and maybe are those in checks/recorder/driver/verdicts.txt. So each
-  fault that was made on purpose has a group, and a scenario without a fault has none.
+- For each scenario in samples/driver the groups of verdict real and maybe are those in
+  checks/recorder/driver/verdicts.txt. So each fault that was made on purpose has a group, and a scenario without a
+  fault has none.
 - Captures without a fault, cut at 15 places, have no group of verdict real. They are cut from the end with the whole
   side list, and without a side list; and from the front without a side list, and with one that says which openings were
   met in mid-life.
@@ -40,19 +40,19 @@ What must hold:
 - No statement of the rules takes the square of what a capture has.
 - The rules in docs/VIEW.md are those of the database, and so are the names and columns in docs/DATABASE.md.
 
-It calls the programs of the repository, and takes some 40 seconds on four cores. If all is well it prints nothing.
-Otherwise it prints what was expected and what came, and ends with status 1.
+It calls the programs of the repository, and takes some 40 seconds on four cores.
 """
 
 import argparse
+import itertools
 import os
 import pathlib
 import tempfile
 from concurrent.futures import ProcessPoolExecutor
 
-from checks.kit.checking import FLAG, Fail, check
+from checks.kit.checking import FLAG, Fail, check, failures_of, run_parts
 from checks.kit.programs import DRIVER, ROOT, built_programs, programs
-from checks.viewer.page.books import check_books
+from checks.viewer.page.books import check_agreement, check_commands, check_copies
 from checks.viewer.page.browser import check_browser
 from checks.viewer.page.growth import check_growth
 from checks.viewer.page.losses import CUTS, FAULTLESS, check_cuts, check_gaps
@@ -69,36 +69,21 @@ from viewer.database import raw_tables
 def check_all(folder: pathlib.Path, room: pathlib.Path, fail: Fail) -> None:
     raw_tables.loader()
     built = built_programs(room, (folder / "audit").resolve())
-    words, sides, files, malformed, hostile, methods, loaders, books, stacks, growth = rooms = [
-        room / name for name in ("words", "sides", "files", "malformed", "hostile", "methods", "loaders", "books",
-                                 "stacks", "growth")]
-    for here in rooms:
-        here.mkdir()
     samples = [([path / "capture-1.cap"], path / "capture.side") for path in sorted(DRIVER.iterdir()) if path.is_dir()]
     samples += [([path], None) for path in sorted(ROOT.glob("samples/*.cap"))]
     samples += [([ROOT / "samples/rotated-1.cap", ROOT / "samples/rotated-2.cap"], None)]
     with ProcessPoolExecutor(os.cpu_count()) as pool:
-        jobs = [pool.submit(check_sample, (built, room / f"sample-{number}", files, side))
+        jobs = [pool.submit(failures_of, check_sample, built, room / f"sample-{number}", files, side)
                 for number, (files, side) in enumerate(samples)]
-        jobs += [pool.submit(check_cuts, (built, room, name, cut)) for name in FAULTLESS for cut in range(CUTS)]
-        jobs += [pool.submit(check_libgbinder, (built, methods, path)) for path in CAPTURES]
-        jobs += [pool.submit(check_gaps, (built, room, path.parent.name)) for path in DRIVER.glob("*/capture.side")]
-        check_words(folder, words, fail)
-        check_stopped(folder, words, fail)
-        check_side(built, sides, fail)
-        check_renames(built, sides, fail)
-        check_files(built, files, fail)
-        check_secrets(built, files, fail)
-        check_told(built, sides, fail)
-        check_malformed(built, malformed, fail)
-        check_hostile(built, hostile, fail)
-        check_methods(built, methods, fail)
-        check_unnamed(built, methods, fail)
-        check_services(built, methods, fail)
-        check_loaders(built, loaders, fail)
-        check_books(built, books, fail)
-        check_stacks(built, stacks, fail)
-        check_growth(built, growth, fail)
+        jobs += [pool.submit(failures_of, check_cuts, built, room, *which)
+                 for which in itertools.product(FAULTLESS, range(CUTS))]
+        jobs += [pool.submit(failures_of, check_libgbinder, built, room, name) for name in CAPTURES]
+        jobs += [pool.submit(failures_of, check_gaps, built, room, path.parent.name)
+                 for path in DRIVER.glob("*/capture.side")]
+        run_parts((check_words, check_stopped), folder, room, fail)
+        run_parts((check_side, check_renames, check_files, check_secrets, check_told, check_malformed, check_hostile,
+                   check_methods, check_unnamed, check_services, check_loaders, check_agreement, check_copies,
+                   check_commands, check_stacks, check_growth), built, room, fail)
         for job in jobs:
             for what in job.result():
                 fail(what)

@@ -5,10 +5,10 @@ import html
 import pathlib
 import re
 import sqlite3
-from typing import Callable
 
 from checks.kit.checking import Fail, compare
-from checks.viewer.page.common import frames_of, texts_of, told_by, view
+from checks.kit.frames import frames_of
+from checks.viewer.page.common import texts_of, told_by, view, written
 from checks.viewer.sessions.book_cases import buffer, own, ref, thread, transaction_of
 from checks.viewer.sessions.session import *
 
@@ -112,15 +112,6 @@ LINES: list[tuple[dict, str]] = [
      differ("client 200: request for handle 1 1 by the report and 0 by the books"))]
 
 
-def written(session: Session, room: pathlib.Path, name: str) -> tuple[str, str]:
-    """Writes the capture, the side list and the books of a session; returns the names of the first two."""
-    (room / f"{name}.cap").write_bytes(session.capture())
-    (room / f"{name}.side").write_text(session.side())
-    for moment, text in session.copies.items():
-        (room / f"{name}.{moment}").write_text(text)
-    return f"{name}.cap", f"{name}.side"
-
-
 def says(page: pathlib.Path, due: str) -> bool:
     """Whether a page has a text. Its names are set off, with a space on either side here."""
     return due in re.sub(r" ([,;.]|$)", r"\1", html.unescape(texts_of(page)))
@@ -130,8 +121,8 @@ def check_agreement(folder: pathlib.Path, room: pathlib.Path, fail: Fail) -> Non
     for number, (given, due) in enumerate(LINES):
         session = Session()
         play(session, **given)
-        capture, side = written(session, room, f"agree-{number}")
-        status, _, told = view(folder, room, capture, "--side", side, "-o", f"agree-{number}.html")
+        words = written(session, room, f"agree-{number}")
+        status, _, told = view(folder, room, *words, "-o", f"agree-{number}.html")
         line = f"view: {due}\n" if "differ" in due else ""
         compare(f"books, {given}: told", (status, told_by(told)), (0, line), fail)
         compare(f"books, {given}: the page says {due!r}", says(room / f"agree-{number}.html", due), True, fail)
@@ -142,7 +133,7 @@ def check_copies(folder: pathlib.Path, room: pathlib.Path, fail: Fail) -> None:
     copies with the names of the recording. A capture that was cut in front is not what followed the first copy."""
     session = Session()
     play(session, had=True, client=CLIENT.replace(" s 1 ", " s 3 "))
-    capture, side = written(session, room, "copies")
+    capture, _, side = written(session, room, "copies")
     begin, end = room / "copies.begin.state", room / "copies.end.state"
     texts = begin.read_text(), end.read_text()
     huge = texts[1].replace(" s 3 ", f" s {10**20} ")
@@ -218,9 +209,3 @@ def check_commands(folder: pathlib.Path, room: pathlib.Path, fail: Fail) -> None
     (room / "bad.side").write_text(side.replace("end recording", "command 0 100 after=0 name=x\n9 end recording", 1))
     status, _, _ = view(folder, room, "bad.cap", "--side", "bad.side", "--groups")
     compare("a command line without a user", status, 4, fail)
-
-
-def check_books(folder: pathlib.Path, room: pathlib.Path, fail: Fail) -> None:
-    parts: tuple[Callable, ...] = (check_agreement, check_copies, check_commands)
-    for part in parts:
-        part(folder, room, fail)

@@ -7,8 +7,7 @@ import subprocess
 import sys
 
 from checks.kit.checking import Fail, compare
-from checks.kit.programs import DRIVER
-from checks.viewer.page.common import view
+from checks.viewer.page.common import stored, view
 from checks.viewer.page.words import check_hostile
 
 
@@ -61,8 +60,7 @@ def without_script(shown: pathlib.Path) -> pathlib.Path:
 def check_browser(folder: pathlib.Path, room: pathlib.Path, fail: Fail) -> None:
     pages = [check_hostile(folder, room, fail)]
     for name in ("leaks", "ends", "threads", "oneway"):
-        here = DRIVER / name
-        view(folder, room, here / "capture-1.cap", "--side", here / "capture.side", "-o", f"{name}.html")
+        view(folder, room, *stored(name), "-o", f"{name}.html")
         pages.append(room / f"{name}.html")
     due = ('{"wide":false,"bad":false,"reached":true,"inside":true,"heads":true,"sorted":1,"hidden":true,"rows":true}')
     for shown in pages:

@@ -1,18 +1,53 @@
 """What the checks of `view` share: how it is called, and what a capture and a page have."""
 
+import gzip
+import json
 import pathlib
 import re
 import sqlite3
-import subprocess
 
-from checks.kit.frames import Frame as Frame, frames_of as frames_of
-from checks.kit.programs import CHECKS
+from checks.kit.programs import CHECKS, DRIVER
+from checks.kit.runs import answer
+from checks.viewer.sessions.session import Session
+from viewer.database import loading
+from viewer.database.sqlite import open_database
 from viewer.page import page
 
 
 def view(folder: pathlib.Path, room: pathlib.Path, *words: object) -> tuple[int, str, str]:
-    ended = subprocess.run([folder / "view", *map(str, words)], cwd=room, capture_output=True, text=True, timeout=120)
-    return ended.returncode, ended.stdout, ended.stderr
+    return answer([folder / "view", *map(str, words)], timeout=120, cwd=room, text=True)
+
+
+def stored(scenario: str) -> tuple[pathlib.Path, str, pathlib.Path]:
+    """The words for the stored capture of a scenario, with its side list."""
+    return DRIVER / scenario / "capture-1.cap", "--side", DRIVER / scenario / "capture.side"
+
+
+def texts_stored(scenario: str) -> tuple[bytes, str]:
+    """The capture and the side list themselves."""
+    capture, _, side = stored(scenario)
+    return capture.read_bytes(), side.read_text()
+
+
+def written(session: Session, room: pathlib.Path, name: str) -> tuple[str, str, str]:
+    """Writes the capture, the side list and the books of a session; returns the words for it."""
+    (room / f"{name}.cap").write_bytes(session.capture())
+    (room / f"{name}.side").write_text(session.side())
+    for moment, text in session.copies.items():
+        (room / f"{name}.{moment}").write_text(text)
+    return f"{name}.cap", "--side", f"{name}.side"
+
+
+def loaded(folder: pathlib.Path, made: pathlib.Path, files: list[pathlib.Path], side: pathlib.Path | None
+           ) -> sqlite3.Connection:
+    """The database of a capture, made without a page."""
+    loading.database_of(folder, list(map(str, files)), None if side is None else str(side), made, lambda _: None)
+    return open_database(made)
+
+
+def timeline_of(path: pathlib.Path) -> dict:
+    """What a timeline has; nothing if it is not there."""
+    return json.loads(gzip.decompress(path.read_bytes())) if path.exists() else {}
 
 
 def told_by(stderr: str) -> str:

@@ -1,19 +1,19 @@
-"""No statement of the rules takes the square of what a capture has: of a capture that is twice as long, each takes about
-twice as many steps."""
+"""No statement of the rules takes the square of what a capture has: of a capture that is twice as long, each takes
+about twice as many steps."""
 
 import pathlib
 import sqlite3
-import struct
 
+from checks.kit.captures import u64
 from checks.kit.checking import Fail, compare
-from checks.kit.programs import DRIVER
-from checks.viewer.page.common import frames_of
+from checks.kit.frames import frames_of
+from checks.viewer.page.common import texts_stored
 from viewer.database import loading, programs, raw_tables
 from viewer.database.sqlite import open_database
 from viewer.rules import judging
 
 # The scenario that is joined, and how often. Its clients take and let go of a handle again and again.
-SCENARIO, COPIES = DRIVER / "hello-11", 60
+SCENARIO, COPIES = "hello-11", 60
 
 # So many instructions of SQLite count as one; and how many of these the longer capture may take, beside this many.
 STEP, MOST, BESIDE = 1000, 2.5, 100
@@ -21,21 +21,21 @@ STEP, MOST, BESIDE = 1000, 2.5, 100
 
 def joined_capture(copies: int) -> bytes:
     """The capture, so many times, with rising sequences."""
-    capture = (SCENARIO / "capture-1.cap").read_bytes()
+    capture, _ = texts_stored(SCENARIO)
     frames = frames_of(capture)
-    ends, made = [frame.place for frame in frames[1:]] + [len(capture)], capture[:16]
-    return made + b"".join(struct.pack("<Q", frame.sequence + copy * frames[-1].sequence) + capture[frame.place + 8:end]
-                           for copy in range(copies) for frame, end in zip(frames, ends))
+    return capture[:16] + b"".join(u64(one.sequence + copy * frames[-1].sequence) + capture[one.place + 8:one.end]
+                                   for copy in range(copies) for one in frames)
 
 
 def joined_side(copies: int) -> str:
     """Its side list, in which all goes on until the end of the last copy."""
-    head, *lines = (SCENARIO / "capture.side").read_text().splitlines()
+    head, *lines = texts_stored(SCENARIO)[1].splitlines()
     split = [(int(time), word, rest) for time, word, rest in (line.split(" ", 2) for line in lines)]
     frames = [(time, int(rest)) for time, word, rest in split if word == "frame"]
     span, last = split[-1][0] - split[0][0], frames[-1][1]
     made = [line for line in lines if line.split(" ")[1] != "end"]
-    made += [f"{time + copy * span} frame {number + copy * last}" for copy in range(1, copies) for time, number in frames]
+    made += [f"{time + copy * span} frame {number + copy * last}"
+             for copy in range(1, copies) for time, number in frames]
     made.append(f"{split[-1][0] + copies * span} end recording after={copies * last} frames={copies * last} lost=0")
     return "\n".join([head, *made, ""])
 

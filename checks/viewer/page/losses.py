@@ -8,11 +8,9 @@ import struct
 from collections import Counter
 from typing import Callable, NamedTuple
 
-from checks.kit.checking import compare
-from checks.kit.programs import DRIVER
-from checks.viewer.page.common import Frame, frames_of, groups_due, groups_of
-from viewer.database import loading
-from viewer.database.sqlite import open_database
+from checks.kit.checking import Fail, compare
+from checks.kit.frames import Frame, frames_of
+from checks.viewer.page.common import groups_due, groups_of, loaded, texts_stored
 
 # The scenarios that are cut. `gaps` has no fault either; but cut before its gap, it has replies that are freed later.
 FAULTLESS = ("clean", "nested", "threads", "signals", "secctx", "reuse", "fork", "slow", "lookups")
@@ -32,13 +30,11 @@ def met_later(side: str, first: int) -> str:
     return "".join(lines)
 
 
-def check_cuts(given: tuple[pathlib.Path, pathlib.Path, str, int]) -> list[str]:
+def check_cuts(folder: pathlib.Path, room: pathlib.Path, name: str, cut: int, fail: Fail) -> None:
     """Checks one capture without a fault, cut at one place in four ways."""
-    folder, room, name, cut = given
-    capture, side = (DRIVER / name / "capture-1.cap").read_bytes(), (DRIVER / name / "capture.side").read_text()
+    capture, side = texts_stored(name)
     frames = frames_of(capture)
     place, sequence, *_ = frames[max(1, min(len(frames) - 1, len(frames) * (2 * cut + 1) // (2 * CUTS)))]
-    failed: list[str] = []
     for way, data, list_ in (("end", capture[:place], None), ("end with the side list", capture[:place], side),
                              ("front", capture[:16] + capture[place:], None),
                              ("front, met in mid-life", capture[:16] + capture[place:], met_later(side, sequence))):
@@ -46,14 +42,11 @@ def check_cuts(given: tuple[pathlib.Path, pathlib.Path, str, int]) -> list[str]:
         here.mkdir()
         (here / "cut.cap").write_bytes(data)
         (here / "cut.side").write_text(list_ or "")
-        loading.database_of(folder, [str(here / "cut.cap")], str(here / "cut.side") if list_ else None, here / "cut.db",
-                            lambda _: None)
-        database = open_database(here / "cut.db")
+        database = loaded(folder, here / "cut.db", [here / "cut.cap"], here / "cut.side" if list_ else None)
         real = database.execute("SELECT title, path, rules FROM finding_group WHERE verdict = 'real'").fetchall()
-        compare(f"{name}, cut {cut} from the {way}: real", real, [], failed.append)
+        compare(f"{name}, cut {cut} from the {way}: real", real, [], fail)
         database.close()
         shutil.rmtree(here)
-    return failed
 
 
 class Loss(NamedTuple):
@@ -107,10 +100,9 @@ def without_numbers_of(lost: set[int], capture: bytes, side: str) -> tuple[bytes
 def without(capture: bytes, side: str, loss: Loss) -> tuple[bytes, str]:
     """A capture and its side list without the lost frames. The first and the last frame stay."""
     frames = frames_of(capture)
-    ends = [frame.place for frame in frames[1:]] + [len(capture)]
     lost = {frame.sequence: frame for at, frame in enumerate(frames)
             if 0 < at < len(frames) - 1 and loss.is_lost(at, len(frames), frame)}
-    kept = b"".join(capture[frame.place:end] for frame, end in zip(frames, ends) if frame.sequence not in lost)
+    kept = b"".join(capture[frame.place:frame.end] for frame in frames if frame.sequence not in lost)
     lines = []
     for line in side.splitlines(keepends=True):
         time, word, *rest = line.split()
@@ -130,11 +122,9 @@ def real_of(groups: list[tuple[str, ...]]) -> set[tuple[str, str]]:
     return {(title, path) for verdict, title, _, _, path, _ in groups if verdict == "real"}
 
 
-def check_gaps(given: tuple[pathlib.Path, pathlib.Path, str]) -> list[str]:
+def check_gaps(folder: pathlib.Path, room: pathlib.Path, name: str, fail: Fail) -> None:
     """Checks a capture with lost frames: only what is real in the whole capture is real."""
-    folder, room, name = given
-    failed: list[str] = []
-    capture, side = (DRIVER / name / "capture-1.cap").read_bytes(), (DRIVER / name / "capture.side").read_text()
+    capture, side = texts_stored(name)
     due = real_of(groups_due(name))
     for number, loss in enumerate(losses(frames_of(capture))):
         here = room / f"{name}-lost-{number}"
@@ -142,14 +132,12 @@ def check_gaps(given: tuple[pathlib.Path, pathlib.Path, str]) -> list[str]:
         data, list_ = without(capture, side, loss)
         (here / "lost.cap").write_bytes(data)
         (here / "lost.side").write_text(list_)
-        loading.database_of(folder, [str(here / "lost.cap")], str(here / "lost.side"), here / "lost.db", lambda _: None)
-        database = open_database(here / "lost.db")
+        database = loaded(folder, here / "lost.db", [here / "lost.cap"], here / "lost.side")
         missing, doubt, missed = database.execute(
             "SELECT c.missing, (SELECT value FROM capture WHERE key = 'side_doubt'), (SELECT count(*) FROM side_missed)"
             " FROM raw_capture c").fetchone()
         compare(f"{name}, {loss.name}: frames are missing, and the list tells of them",
-                (missing > 0 or not loss.numbered, missed > 0, doubt), (True, not loss.numbered, None), failed.append)
-        compare(f"{name}, {loss.name}: real", real_of(groups_of(database)) - due, set(), failed.append)
+                (missing > 0 or not loss.numbered, missed > 0, doubt), (True, not loss.numbered, None), fail)
+        compare(f"{name}, {loss.name}: real", real_of(groups_of(database)) - due, set(), fail)
         database.close()
         shutil.rmtree(here)
-    return failed

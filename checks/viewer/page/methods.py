@@ -1,16 +1,15 @@
 """The names of calls: interfaces that their data name, and methods from a table of `viewer/methods/table.py`."""
 
-import gzip
-import json
 import pathlib
+import shutil
 import sqlite3
 import subprocess
 
-from checks.kit.tokens import marked
 from checks.kit.checking import Fail, compare
-from checks.kit.programs import DRIVER, ROOT
-from checks.viewer.page.common import texts_of, view
-from checks.viewer.page.reports import shown_of
+from checks.kit.programs import CHECKS, PACKAGED
+from checks.kit.tokens import marked
+from checks.viewer.page.common import stored, texts_of, timeline_of, view, written
+from checks.viewer.page.reports import check_harmless
 from checks.viewer.sessions.session import ONE_WAY, Session
 
 IDS, PLAIN, OTHER = (marked(f"check.forms.{name}") for name in ("IIds", "IPlain", "IOther"))
@@ -57,16 +56,19 @@ SLICES = {"call IIds.tenth (code 10)", "serve IIds.tenth (code 10)", "send onewa
           "call IOther code 3", "call IIds.third (code 3)", "call IPlain code 1"}
 
 
+def make_table(room: pathlib.Path, sources: object, made: str) -> None:
+    """Makes a table of methods from sources, as a file of the room."""
+    with open(room / made, "wb") as out:
+        subprocess.run([PACKAGED["binder-methods"], sources], cwd=room, stdout=out, check=True)
+
+
 def check_methods(folder: pathlib.Path, room: pathlib.Path, fail: Fail) -> None:
     """A session whose calls have tokens, with a table of the methods of one interface."""
-    played = session()
-    (room / "named.cap").write_bytes(played.capture())
-    (room / "named.side").write_text(played.side())
     (room / "forms").mkdir()
-    (room / "forms/IIds.aidl").write_bytes((ROOT / "checks/viewer/method_sources/aidl/check/forms/IIds.aidl").read_bytes())
-    table = subprocess.run([ROOT / "viewer/methods/table.py", "forms"], cwd=room, capture_output=True, text=True).stdout
-    (room / "table").write_text(table)
-    words = ("named.cap", "--side", "named.side", "--methods", "table")
+    shutil.copy(CHECKS / "viewer/method_sources/aidl/check/forms/IIds.aidl", room / "forms")
+    make_table(room, "forms", "table")
+    capture = written(session(), room, "named")
+    words = *capture, "--methods", "table"
     made = view(folder, room, *words, "-o", "named.html", "--database", "named.db", "--trace", "named.gz")
     compare("--methods", made, (0, "", ""), fail)
     text = texts_of(room / "named.html")
@@ -74,10 +76,10 @@ def check_methods(folder: pathlib.Path, room: pathlib.Path, fail: Fail) -> None:
     database = sqlite3.connect(room / "named.db")
     for query, due in QUESTIONS.items():
         compare(query, database.execute(query).fetchall(), due, fail)
-    events = json.loads(gzip.decompress((room / "named.gz").read_bytes()))["traceEvents"]
+    events = timeline_of(room / "named.gz")["traceEvents"]
     compare("names that the timeline lacks", SLICES - {one.get("name") for one in events}, set(), fail)
     _, lines, _ = view(folder, room, *words, "--groups")
-    _, plain, _ = view(folder, room, *words[:3], "--groups")
+    _, plain, _ = view(folder, room, *capture, "--groups")
     compare("verdicts and counts without the table", [one.split("\t")[:6] for one in plain.splitlines()],
             [one.split("\t")[:6] for one in lines.splitlines()], fail)
     compare("--groups", ("IIds.tenth (code 10) to service" in lines, "IIds.tenth" in plain, "IIds code 10 to" in plain),
@@ -94,11 +96,10 @@ def check_groups(folder: pathlib.Path, room: pathlib.Path, fail: Fail) -> None:
         client.main.is_given(service.main, at, node=0x100 * at)
         service.looper(at).gets(client.thread(at).sends(at, 1, body=marked(name)), 0x100 * at)
     s.wait(300)
-    (room / "groups.cap").write_bytes(s.capture())
-    (room / "groups.side").write_text(s.side())
+    words = written(s, room, "groups")
     (room / "one").write_text("a.b.IOne\t1\tf\t-\n")
     for more in (), ("--methods", "one"):
-        _, lines, _ = view(folder, room, "groups.cap", "--side", "groups.side", "--groups", *more)
+        _, lines, _ = view(folder, room, *words, "--groups", *more)
         fields = [line.split("\t") for line in lines.splitlines() if line.startswith("maybe")]
         compare(f"groups of calls that hang {more}", sorted((one[2], one[6]) for one in fields),
                 [("1", "IOther code 1 to service 100 node 0x300"), ("2", "IOne code 1 to service")], fail)
@@ -123,21 +124,17 @@ def check_tables(folder: pathlib.Path, room: pathlib.Path, fail: Fail) -> None:
     words = ("named.cap", "--side", "named.side", "--methods", "harm")
     compare("hostile methods, status", view(folder, room, *words, "-o", "harm.html", "--trace", "harm.gz")[0], 0, fail)
     text = (room / "harm.html").read_text()
-    shown = shown_of(text)
-    compare("hostile methods: scripts, what would run, and marks", (shown.scripts, shown.bad, "\u202e" in text),
-            (1, [], False), fail)
+    check_harmless("hostile methods", text, fail)
     compare("hostile methods: the page stays small", len(text) < 2**18, True, fail)
-    json.loads(gzip.decompress((room / "harm.gz").read_bytes()))
+    compare("hostile methods: a timeline", bool(timeline_of(room / "harm.gz")), True, fail)
     _, lines, _ = view(folder, room, *words, "--groups")
     compare("hostile methods: fields of a line", {line.count("\t") for line in lines.splitlines()}, {9}, fail)
 
 
 def check_unnamed(folder: pathlib.Path, room: pathlib.Path, fail: Fail) -> None:
     """A table changes nothing on the page of a capture whose calls have no interface."""
-    here = DRIVER / "leaks"
     (room / "any").write_text("a.I\t1\tf\t-\n")
-    words = (here / "capture-1.cap", "--side", here / "capture.side")
     for name, more in ("with", ("--methods", "any")), ("without", ()):
-        view(folder, room, *words, *more, "-o", f"{name}.html")
+        view(folder, room, *stored("leaks"), *more, "-o", f"{name}.html")
     pages = {(room / f"{name}.html").read_text() for name in ("with", "without")}
     compare("pages with a table and without", len(pages), 1, fail)

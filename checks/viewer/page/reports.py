@@ -10,11 +10,9 @@ from typing import Iterator, NamedTuple
 
 from checks.kit.checking import Fail, compare
 from checks.kit.programs import ROOT
-from checks.viewer.page.common import groups_due, groups_of
-from viewer.database import loading
-from viewer.database.sqlite import open_database
-from viewer.units import signed
+from checks.viewer.page.common import groups_due, groups_of, loaded
 from viewer.page import page
+from viewer.units import signed
 
 
 def rows_of(report: str, section: str) -> list[list[str]]:
@@ -204,6 +202,13 @@ def shown_of(text: str) -> Shown:
     return shown
 
 
+def check_harmless(what: str, text: str, fail: Fail) -> None:
+    """Names on a page run nothing, and change no direction of text."""
+    shown, marks = shown_of(text), [one for one in text if one in "\u202a\u202b\u202d\u202e\u2066\u2067"]
+    compare(f"{what}: scripts, what would run, and marks of direction", (shown.scripts, shown.bad, marks), (1, [], []),
+            fail)
+
+
 def proved_due(report: str) -> set[str]:
     """The texts of a report that its page must show: heads, and the rows that are findings."""
     due, section = set(), ""
@@ -217,29 +222,26 @@ def proved_due(report: str) -> set[str]:
     return due
 
 
-def check_sample(given: tuple[pathlib.Path, pathlib.Path, list[pathlib.Path], pathlib.Path | None]) -> list[str]:
+def check_sample(folder: pathlib.Path, room: pathlib.Path, files: list[pathlib.Path], side: pathlib.Path | None,
+                 fail: Fail) -> None:
     """Checks the database and the page of a good capture."""
-    folder, room, files, side = given
-    failed: list[str] = []
     room.mkdir()
     name = " ".join(str(path.relative_to(ROOT)) for path in files)
     made, shown = room / "made.db", room / "made.html"
     report = subprocess.run([folder / "audit", "report", *files], capture_output=True, text=True).stdout
     if not report.startswith("BINDER AUDIT "):
-        return failed
-    loading.database_of(folder, list(map(str, files)), None if side is None else str(side), made, lambda _: None)
-    database = open_database(made)
+        return
+    database = loaded(folder, made, files, side)
     for claim in claims(report):
-        compare(f"{name}, {claim.name}", database.execute(claim.query).fetchall(), claim.due, failed.append)
-    compare(f"{name}, what is held at the end", held_at_end(database), held_due(report), failed.append)
-    check_in_use(name, database, failed.append)
+        compare(f"{name}, {claim.name}", database.execute(claim.query).fetchall(), claim.due, fail)
+    compare(f"{name}, what is held at the end", held_at_end(database), held_due(report), fail)
+    check_in_use(name, database, fail)
     kept = [text for text, in database.execute("SELECT text FROM report ORDER BY id")]
-    compare(f"{name}, the report in the database", kept, [line.strip() for line in report.splitlines()], failed.append)
+    compare(f"{name}, the report in the database", kept, [line.strip() for line in report.splitlines()], fail)
     page.write(database, list(map(str, files)), [], shown)
     text = shown.read_text()
     missing = proved_due(report) - set(shown_of(text).proved)
-    compare(f"{name}, rows that are not on its page", sorted(missing), [], failed.append)
+    compare(f"{name}, rows that are not on its page", sorted(missing), [], fail)
     if side is not None:
-        compare(f"{name}, groups", groups_of(database), groups_due(files[0].parent.name), failed.append)
+        compare(f"{name}, groups", groups_of(database), groups_due(files[0].parent.name), fail)
     database.close()
-    return failed

@@ -1,17 +1,15 @@
 """The names of services, and the stored captures of clients on libgbinder."""
 
-import gzip
-import json
 import pathlib
 import sqlite3
-import subprocess
 
 from checks.kit import tokens
-from checks.kit.tokens import MANAGER, ended, marked, numbers, string16
 from checks.kit.checking import Fail, compare
-from checks.kit.programs import DRIVER, ROOT
-from checks.viewer.page.common import texts_of, view
-from checks.viewer.page.reports import shown_of
+from checks.kit.programs import DRIVER
+from checks.kit.tokens import MANAGER, ended, marked, numbers, string16
+from checks.viewer.page.common import stored, texts_of, timeline_of, view, written
+from checks.viewer.page.methods import make_table
+from checks.viewer.page.reports import check_harmless
 from checks.viewer.sessions.session import Session
 
 IDS, OF_HIDL = marked("check.forms.IIds"), ended(b"android.hidl.manager@1.0::IServiceManager\0")
@@ -42,10 +40,7 @@ ON_PAGE = (
 
 def check_services(folder: pathlib.Path, room: pathlib.Path, fail: Fail) -> None:
     """A session with services: on the page, in the database, in groups and in the timeline."""
-    played = session()
-    (room / "served.cap").write_bytes(played.capture())
-    (room / "served.side").write_text(played.side())
-    words = ("served.cap", "--side", "served.side")
+    words = written(session(), room, "served")
     made = view(folder, room, *words, "-o", "served.html", "--database", "served.db", "--trace", "served.gz")
     compare("services", made, (0, "", ""), fail)
     text = texts_of(room / "served.html")
@@ -54,7 +49,7 @@ def check_services(folder: pathlib.Path, room: pathlib.Path, fail: Fail) -> None
     compare("node_service", database.execute("SELECT service, interface, ptr, n, others, rests_on FROM node_service"
                                              " ORDER BY ptr").fetchall(),
             [("hello", "check.forms.IIds", 0x9000, 2, 0, "bytes"), (None, None, 0x9100, 1, 0, "bytes")], fail)
-    events = json.loads(gzip.decompress((room / "served.gz").read_bytes()))["traceEvents"]
+    events = timeline_of(room / "served.gz")["traceEvents"]
     named = {one["name"] for one in events if one.get("args", {}).get("service") == "hello"}
     compare("services in the timeline", named,
             {f"{side} IIds code {code}" for side in ("call", "serve") for code in (10, 11)}, fail)
@@ -73,8 +68,8 @@ def check_hostile_names(folder: pathlib.Path, room: pathlib.Path, fail: Fail) ->
         client.main.gives(manager.main, 3, 3, 0x9000, marked(MANAGER) + string16(text), numbers(12, 0, 15))
     client.main.sends(0, 3, body=marked(MANAGER) + string16("<script>window.bad=1</script>"))
     s.wait(300)
-    (room / "harmful.cap").write_bytes(s.capture())
-    made = view(folder, room, "harmful.cap", "-o", "harmful.html", "--database", "harmful.db", "--trace", "harmful.gz")
+    capture, *_ = written(s, room, "harmful")
+    made = view(folder, room, capture, "-o", "harmful.html", "--database", "harmful.db", "--trace", "harmful.gz")
     compare("hostile payloads", made, (0, "", ""), fail)
     database = sqlite3.connect(room / "harmful.db")
     known = {name for name, in database.execute("SELECT name FROM interface")}
@@ -82,46 +77,40 @@ def check_hostile_names(folder: pathlib.Path, room: pathlib.Path, fail: Fail) ->
                                             database.execute("SELECT * FROM service").fetchall(),
                                             database.execute("SELECT * FROM node_service").fetchall()), (set(), [], []),
             fail)
-    shown = shown_of((room / "harmful.html").read_text())
-    compare("hostile payloads: scripts, and what would run", (shown.scripts, shown.bad), (1, []), fail)
+    check_harmless("hostile payloads", (room / "harmful.html").read_text(), fail)
 
 
 # ---- clients on libgbinder
 
 SOURCES = DRIVER.parent / "interfaces"
-CAPTURES = sorted(path for path in DRIVER.glob("hello-*"))
+CAPTURES = sorted(path.name for path in DRIVER.glob("hello-*"))
 HEALTHY = ("hello-9", "hello-10", "hello-11", "hello-hidl")
 SERVICES = [("hello", "org.example.IHello"), ("org.example.IClock/default", "org.example.IClock")]
 OF_HIDL_ONLY = [(None, "org.example@1.0::IHello")]
 TRANSACTIONS = "kind LIKE '%TRANSACTION%' AND kind NOT LIKE '%COMPLETE' AND code BETWEEN 1 AND 16777215"
 
 
-def check_libgbinder(given: tuple[pathlib.Path, pathlib.Path, pathlib.Path]) -> list[str]:
+def check_libgbinder(folder: pathlib.Path, room: pathlib.Path, name: str, fail: Fail) -> None:
     """A stored capture of clients on libgbinder: each transaction has its interface and each registered object its
     service, and the page has the methods of a table from sources. One without a fault has no verdict real, and at most
     two maybe."""
-    folder, room, capture = given
-    name, failed = capture.name, []
-    table = room / f"{name}.methods"
-    with open(table, "wb") as out:
-        subprocess.run([ROOT / "viewer/methods/table.py", SOURCES], stdout=out, check=True)
-    made = view(folder, room, capture / "capture-1.cap", "--side", capture / "capture.side", "--methods", table, "-o",
-                f"{name}.html", "--database", f"{name}.db")
-    compare(name, made, (0, "", ""), failed.append)
+    make_table(room, SOURCES, f"{name}.methods")
+    made = view(folder, room, *stored(name), "--methods", f"{name}.methods", "-o", f"{name}.html", "--database",
+                f"{name}.db")
+    compare(name, made, (0, "", ""), fail)
     database = sqlite3.connect(room / f"{name}.db")
     many, named = database.execute(f"SELECT count(*), count(interface) FROM record WHERE {TRANSACTIONS}").fetchone()
-    compare(f"{name}, transactions with an interface", (named, named > 25), (many, True), failed.append)
+    compare(f"{name}, transactions with an interface", (named, named > 25), (many, True), fail)
     is_hidl, = database.execute("SELECT count(*) FROM interface WHERE name LIKE '%::IHello'").fetchone()
     compare(f"{name}, services", database.execute("SELECT service, interface FROM node_service WHERE rests_on = 'bytes'"
                                                   " ORDER BY 1").fetchall(),
-            OF_HIDL_ONLY if is_hidl else SERVICES, failed.append)
+            OF_HIDL_ONLY if is_hidl else SERVICES, fail)
     text = texts_of(room / f"{name}.html")
     lacks = [one for one in ("IHello.echo (code 1)", "IHello.callBack (code 2)", "ISession.use (code 1)")
              if one not in text]
-    compare(f"{name}, methods that the page lacks", lacks, [], failed.append)
+    compare(f"{name}, methods that the page lacks", lacks, [], fail)
     verdicts = dict(database.execute("SELECT verdict, count(*) FROM finding_group GROUP BY 1"))
     if name in HEALTHY:
-        compare(f"{name}, verdicts", ("real" in verdicts, verdicts.get("maybe", 0) <= 2), (False, True), failed.append)
+        compare(f"{name}, verdicts", ("real" in verdicts, verdicts.get("maybe", 0) <= 2), (False, True), fail)
     else:
-        compare(f"{name}, a verdict", "real" in verdicts or "maybe" in verdicts, True, failed.append)
-    return failed
+        compare(f"{name}, a verdict", "real" in verdicts or "maybe" in verdicts, True, fail)

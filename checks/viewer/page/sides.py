@@ -6,17 +6,17 @@ import shutil
 import sqlite3
 
 from checks.kit.checking import Fail, compare
+from checks.kit.frames import frames_of
 from checks.kit.programs import DRIVER
-from checks.viewer.page.common import frames_of, texts_of, told_by, view
-from viewer.database import loading, programs, raw_tables, side_list
+from checks.viewer.page.common import loaded, texts_of, texts_stored, told_by, view
+from viewer.database import programs, raw_tables, side_list
 from viewer.database.sqlite import open_database
 from viewer.files import Stopped
 
 
 def check_side(folder: pathlib.Path, room: pathlib.Path, fail: Fail) -> None:
     """A side list of another capture is refused. If one may belong to another, a line says so, also on the page."""
-    here = DRIVER / "leaks"
-    capture, side = (here / "capture-1.cap").read_bytes(), (here / "capture.side").read_text()
+    capture, side = texts_stored("leaks")
     frames = frames_of(capture)
     cuts = {"whole": capture, "begin": capture[:frames[40][0]], "end": capture[:16] + capture[frames[40][0]:],
             "gap": capture[:frames[30][0]] + capture[frames[50][0]:]}
@@ -76,8 +76,7 @@ def as_files(side: str, first: int) -> list[str]:
 
 def check_files(folder: pathlib.Path, room: pathlib.Path, fail: Fail) -> None:
     """The files of a flight recorder together are the whole capture; the last one alone knows that more came before."""
-    name = "threads"
-    capture, side = (DRIVER / name / "capture-1.cap").read_bytes(), (DRIVER / name / "capture.side").read_text()
+    capture, side = texts_stored("threads")
     place, sequence, *_ = frames_of(capture)[len(frames_of(capture)) // 2]
     (room / "whole.cap").write_bytes(capture)
     (room / "whole.side").write_text(side)
@@ -121,10 +120,9 @@ RENAMES = (
 def check_renames(folder: pathlib.Path, room: pathlib.Path, fail: Fail) -> None:
     """A thread has its last name in the side list, and a process has the name of its first thread."""
     for scenario, after, lines, due in RENAMES:
-        here, list_, made = DRIVER / scenario, room / f"{scenario}.side", room / f"{scenario}.db"
-        list_.write_text(renamed((here / "capture.side").read_text(), after, *lines))
-        loading.database_of(folder, [str(here / "capture-1.cap")], str(list_), made, lambda _: None)
-        database = open_database(made)
+        list_ = room / f"{scenario}.side"
+        list_.write_text(renamed(texts_stored(scenario)[1], after, *lines))
+        database = loaded(folder, room / f"{scenario}.db", [DRIVER / scenario / "capture-1.cap"], list_)
         came = database.execute("SELECT p.process, thread, p.name, t.name FROM thread t JOIN process p USING (upid)"
                                 " WHERE p.name || t.name LIKE '%new%' ORDER BY 1, 2").fetchall()
         compare(f"new names in {scenario}", came, due, fail)

@@ -14,7 +14,8 @@ from typing import NamedTuple
 
 from checks.kit.checking import Fail, compare
 from checks.kit.programs import DRIVER
-from checks.viewer.page.reports import shown_of
+from checks.viewer.page.common import stored, written
+from checks.viewer.page.reports import check_harmless
 from checks.viewer.sessions.session import Session
 from viewer.database import symbols
 
@@ -65,9 +66,8 @@ def built_program(room: pathlib.Path) -> Program:
 
 def calls_of(folder: pathlib.Path, room: pathlib.Path) -> list[int]:
     """The frames of the calls of the scenario `replies` whose replies are never freed."""
-    here = DRIVER / "replies"
-    subprocess.run([folder / "view", here / "capture-1.cap", "--side", here / "capture.side", "--database", "plain.db",
-                    "--groups"], cwd=room, check=True, stdout=subprocess.DEVNULL)
+    subprocess.run([folder / "view", *stored("replies"), "--database", "plain.db", "--groups"], cwd=room, check=True,
+                   stdout=subprocess.DEVNULL)
     return [seq for seq, in sqlite3.connect(room / "plain.db").execute(
         "SELECT c.seq FROM finding f JOIN raw_delivery d USING (place) JOIN raw_call c ON c.place = d.call"
         " WHERE f.section = 'buffers' ORDER BY f.place")]
@@ -190,8 +190,7 @@ def check_hostile_stacks(folder: pathlib.Path, room: pathlib.Path, program: Prog
     status, told, shown = shown_with(folder, room, side_with(program, seqs, path), "--symbols", program.path.parent)
     compare("hostile stacks: status", (status, told), (0, ""), fail)
     text = shown.read_text() if shown.exists() else ""
-    compare("hostile stacks: scripts, and what would run", (shown_of(text).scripts, shown_of(text).bad), (1, []), fail)
-    compare("hostile stacks: marks of direction", "\u202e" in text, False, fail)
+    check_harmless("hostile stacks", text, fail)
     compare("hostile stacks: the name is there", "&lt;script&gt;window.bad=1" in text, True, fail)
     far = "0x7fffffffffffffff"
     odd = (f"map 9 pid=1 start=0x8000000000000000 end={far} offset={far} address={far} build-id=- name=x\n"
@@ -233,9 +232,8 @@ def check_recorded(folder: pathlib.Path, room: pathlib.Path, fail: Fail) -> None
                           "the call whose reply gave the handle; 1 of 1 have it:", "find_service forgetful.c"], 10),
            "forgetful-frameless": (["libc.so.6+0xfdd6b", "6 of 6 have it:"], 1)}
     for name, (texts, most) in due.items():
-        here, shown = DRIVER / name, room / f"{name}.html"
-        subprocess.run([folder / "view", here / "capture-1.cap", "--side", here / "capture.side", "-o", shown,
-                        "--symbols", here], cwd=room, check=True)
+        shown = room / f"{name}.html"
+        subprocess.run([folder / "view", *stored(name), "-o", shown, "--symbols", DRIVER / name], cwd=room, check=True)
         compare(f"{name}: what its page does not say", [one for one in texts if one not in text_of(shown)], [], fail)
         compare(f"{name}: the most functions of a stack", max(open_frames(shown.read_text())), most, fail)
 
@@ -278,12 +276,9 @@ def check_freed(folder: pathlib.Path, room: pathlib.Path, program: Program, fail
             (1, 3, ("--symbols", program.path.parent),
              "keep_reply is in the stacks of 4 of these 4, and of 1 of the 4 others of this path that the same process"
              f" freed; in its place 3 have {shown}."))):
-        session = play_freed(program, refreshed, printed)
-        (room / f"freed-{number}.cap").write_bytes(session.capture())
-        (room / f"freed-{number}.side").write_text(session.side())
+        capture = written(play_freed(program, refreshed, printed), room, f"freed-{number}")
         made = room / f"freed-{number}.html"
-        subprocess.run([folder / "view", room / f"freed-{number}.cap", "--side", room / f"freed-{number}.side", "-o",
-                        made, *words], cwd=room, check=True)
+        subprocess.run([folder / "view", *capture, "-o", made, *words], cwd=room, check=True)
         told = [line for line in text_of(made).replace("</p>", "\n").splitlines() if "the same process freed" in line]
         compare(f"freed: {refreshed} and {printed} others, {words}", [due in line for line in told], [True] * bool(due),
                 fail)

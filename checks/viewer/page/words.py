@@ -9,11 +9,12 @@ import subprocess
 import sys
 import time
 
-from checks.recorder.driver.compare import SECRETS, TO_CLEAR
 from checks.kit.checking import Fail, compare
+from checks.kit.frames import frames_of
 from checks.kit.programs import DRIVER, ROOT
-from checks.viewer.page.common import frames_of, texts_of, told_by, view
-from checks.viewer.page.reports import shown_of
+from checks.recorder.driver.compare import SECRETS, TO_CLEAR
+from checks.viewer.page.common import stored, texts_of, told_by, view
+from checks.viewer.page.reports import check_harmless
 
 
 def check_rules(made: pathlib.Path, fail: Fail) -> None:
@@ -80,9 +81,8 @@ runpy.run_path(sys.argv[0], run_name="__main__")
 
 def check_stopped(folder: pathlib.Path, room: pathlib.Path, fail: Fail) -> None:
     """After SIGTERM nothing is left in TMPDIR."""
-    here, kept = DRIVER / "gaps", room / "tmp"
+    kept, words = room / "tmp", [folder / "view", *stored("gaps"), "--groups"]
     kept.mkdir()
-    words = [folder / "view", here / "capture-1.cap", "--side", here / "capture.side", "--groups"]
     run = {"cwd": room, "env": {**os.environ, "TMPDIR": str(kept)}, "stdout": subprocess.DEVNULL}
     for wait in (0.1, 0.2, 0.4):
         running = subprocess.Popen(words, **run)
@@ -107,8 +107,8 @@ def check_told(folder: pathlib.Path, room: pathlib.Path, fail: Fail) -> None:
            "dead-user": ("3180 client 309 thread 309 short-lived 308 1 failed",
                          "client 309 1 short-lived 308 0x1000 1 call 6 3 0 ")}
     for name, texts in due.items():
-        here, shown = DRIVER / name, room / f"{name}.html"
-        view(folder, room, here / "capture-1.cap", "--side", here / "capture.side", "-o", shown.name)
+        shown = room / f"{name}.html"
+        view(folder, room, *stored(name), "-o", shown.name)
         text = texts_of(shown)
         compare(f"{name}: what its page does not say", [one for one in texts if one not in text], [], fail)
         if name == "hung":
@@ -127,7 +127,7 @@ def check_secrets(folder: pathlib.Path, room: pathlib.Path, fail: Fail) -> None:
     owner can read what is made of a capture."""
     for name, due in (("secret", set(SECRETS) - {TO_CLEAR}), ("secret-redacted", set())):
         here, made, shown = DRIVER / name, room / f"{name}.db", room / f"{name}.html"
-        view(folder, room, here / "capture-1.cap", "--side", here / "capture.side", "-o", shown, "--database", made)
+        view(folder, room, *stored(name), "-o", shown, "--database", made)
         compare(f"{name}: secrets in the capture", secrets_in((here / "capture-1.cap").read_bytes()), due, fail)
         for path in (here / "capture.side", made, shown):
             compare(f"{name}: secrets in {path.name}", secrets_in(path.read_bytes()), set(), fail)
@@ -175,10 +175,7 @@ def check_hostile(folder: pathlib.Path, room: pathlib.Path, fail: Fail) -> pathl
     compare("hostile names, status",
             view(folder, room, named.name, "--side", "hostile.side", "-o", "hostile.html")[0], 0, fail)
     text = (room / "hostile.html").read_text()
-    shown = shown_of(text)
-    compare("hostile names: scripts, and what would run", (shown.scripts, shown.bad), (1, []), fail)
-    marks = [one for one in text if one in "\u202a\u202b\u202d\u202e\u2066\u2067"]
-    compare("hostile names: marks of direction", marks, [], fail)
+    check_harmless("hostile names", text, fail)
     compare("hostile names: the page stays small", len(text) < 2**20, True, fail)
     status, lines, _ = view(folder, room, named.name, "--side", "hostile.side", "--groups")
     tabs = {line.count("\t") for line in lines.splitlines()}

@@ -8,7 +8,7 @@ import sys
 from checks.kit.captures import HEADER
 from checks.kit.programs import ROOT
 from checks.kit.runs import measured_run
-from checks.kit.traffic import PROCESSES, THREADS, frames
+from checks.kit.traffic import PROCESSES, THREADS, frames_within
 
 BEGIN = "binder side list 1\n1000000 begin realtime=1700000000000000000 kernel=6.1 machine=x86_64\n"
 PROCESS = "1000000 process 0 {0} pid={0} opening={0} met=from-start name=process\n"
@@ -36,11 +36,8 @@ def write_traffic(capture: pathlib.Path, side: pathlib.Path, most: int) -> None:
     """Traffic of at most so many bytes, and a side list with a time for each frame, five microseconds apart."""
     with open(capture, "wb") as out, open(side, "w") as times:
         times.write(side_begin())
-        length = out.write(HEADER)
-        for number, frame in enumerate(frames(1), 1):
-            length += len(frame)
-            if length > most:
-                return
+        out.write(HEADER)
+        for number, frame in enumerate(frames_within(most), 1):
             out.write(frame)
             times.write(f"{1_000_000 + 5000 * number} frame {int.from_bytes(frame[:8], 'little')}\n")
 
