@@ -49,7 +49,7 @@ UPDATE finding SET later = (SELECT count(*) FROM (SELECT 1 FROM (SELECT depth FR
 WHERE section IN ('calls', 'served', 'buffers');
 UPDATE finding SET later = max(coalesce(later, 0), iif(t.last_write > finding.place, max(1, (SELECT count(*) FROM (
     SELECT 1 FROM raw_frame f WHERE f.seq > finding.seq AND f.seq <= finding.seq + 2000 AND f.utid = finding.utid
-      AND f.direction = 1 AND f.records > 0 LIMIT 4))), 0))
+      AND f.direction = :WRITE AND f.records > 0 LIMIT 4))), 0))
 FROM raw_thread t
 WHERE t.utid = finding.utid AND section NOT IN ('calls', 'served')
   AND (later IS NULL OR EXISTS (SELECT 1 FROM raw_record r

@@ -92,7 +92,7 @@ CREATE TABLE traffic(upid INTEGER NOT NULL, handle INTEGER NOT NULL, generation 
 INSERT INTO traffic
 SELECT x.upid, x.handle, x.generation, x.code, x.oneway, x.sends, x.failed, x.refused, x.open, x.bytes, x.delivered,
   x.one_fits, x.buffers, x.peak, x.longest_seq, n.upid, n.ptr, n.cookie, x.longest
-FROM (SELECT g.upid, g.handle, s.generation, r.code, r.flags & 1 AS oneway, count(*) AS sends,
+FROM (SELECT g.upid, g.handle, s.generation, r.code, r.flags & :TF_ONE_WAY AS oneway, count(*) AS sends,
     sum(coalesce(c.verdict = 3, 0) OR s.refused NOTNULL) AS failed, count(s.refused) AS refused,
     coalesce(sum(c.verdict = 0), 0) AS open,
     CAST(min(total(r.data_size), 9e18) AS INTEGER) AS bytes, count(s.delivery) AS delivered,
@@ -102,6 +102,6 @@ FROM (SELECT g.upid, g.handle, s.generation, r.code, r.flags & 1 AS oneway, coun
   FROM raw_send s JOIN raw_record r USING (place) JOIN raw_generation g ON g.id = s.generation
     LEFT JOIN raw_call c USING (place) LEFT JOIN raw_delivery d ON d.place = s.delivery
     LEFT JOIN side_time b ON b.seq = c.seq LEFT JOIN side_time z ON z.seq = c.seq + c.dur_seq
-  GROUP BY s.generation, r.code, r.flags & 1) x LEFT JOIN node_of n ON n.generation = x.generation;
+  GROUP BY s.generation, r.code, r.flags & :TF_ONE_WAY) x LEFT JOIN node_of n ON n.generation = x.generation;
 
 COMMIT;

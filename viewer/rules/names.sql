@@ -12,7 +12,7 @@ FROM (SELECT code, upid, ptr, interface FROM came_to WHERE interface NOTNULL
 WHERE EXISTS (SELECT 1 FROM interface) GROUP BY 1, 2, 3, 4;
 CREATE TEMP TABLE told_name AS
 SELECT r.place, b.interface FROM raw_record r JOIN raw_call c USING (place) JOIN raw_record b ON b.place = c.closer
-WHERE r.code = 0x5f4e5446 AND b.interface NOTNULL AND EXISTS (SELECT 1 FROM interface);
+WHERE r.code = :_NTF AND b.interface NOTNULL AND EXISTS (SELECT 1 FROM interface);
 INSERT INTO naming
 SELECT NULL, a.upid, a.ptr, t.interface, count(*)
 FROM (SELECT place, upid, ptr FROM told_name JOIN came_to USING (place)

@@ -461,7 +461,7 @@ WHERE rule IS NULL AND section = 'frees';
 UPDATE finding SET lead = c.id FROM finding c
 WHERE finding.section = 'objects' AND c.section = 'calls' AND c.place = finding.place AND c.rule = 'E5';
 UPDATE finding SET rule = iif(section = 'flags', 'O3', iif((SELECT direction FROM raw_frame f WHERE f.seq = finding.seq)
-  = 1, 'O1', 'O2')) WHERE rule IS NULL AND section IN ('objects', 'flags');
+  = :WRITE, 'O1', 'O2')) WHERE rule IS NULL AND section IN ('objects', 'flags');
 -- W: oneway sends.
 UPDATE finding SET rule = 'W1' WHERE rule IS NULL AND section = 'oneway'
   AND (SELECT flags & :TF_UPDATE_TXN FROM raw_record r WHERE r.place = finding.place);
