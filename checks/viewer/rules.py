@@ -123,11 +123,13 @@ class Edit(NamedTuple):
 
 
 def edits_of(path: pathlib.Path) -> list[Edit]:
-    found = []
+    found, file, at = [], "", ""
     for block in path.read_text().split("\n\n")[1:]:
-        lines = dict(line.partition(" ")[::2] for line in block.strip().splitlines())
-        at, old, new = (lines[word].replace("\\n", "\n") for word in ("at", "old", "new"))
-        found.append(Edit(lines["edit"], lines["file"], at, old, new, lines.get("nothing")))
+        lines = {word: text.replace("\\n", "\n") for word, _, text in (
+            line.partition(" ") for line in block.strip().splitlines())}
+        if "in" in lines:
+            file, _, at = lines["in"].partition(" at ")
+        found.append(Edit(lines["edit"], file, at, lines["old"], lines["new"], lines.get("nothing")))
     return found
 
 
@@ -136,6 +138,8 @@ def edited(edit: Edit, folder: pathlib.Path) -> None:
     shutil.copytree(judging.FOLDER, folder, ignore=shutil.ignore_patterns("out", "__pycache__"))
     path = folder / edit.file
     text = path.read_text()
+    if not edit.at and text.count(edit.old) > 1:
+        raise ValueError("what it replaces is in the file more than once")
     at = text.index(edit.old, text.index(edit.at))
     path.write_text(text[:at] + edit.new + text[at + len(edit.old):])
 

@@ -1,7 +1,5 @@
 -- How long each finding has lasted, what its thread did after it, and whether it ended with its thread or process.
 -- Times are used if the side list has them, and frames otherwise. After facts.sql.
-BEGIN;
-
 -- ---- how long: to the end of its thread, its process or the capture
 
 -- A side list that goes on after a capture that was cut says nothing of the end of the capture.
@@ -84,5 +82,3 @@ WHERE f.section IN ('buffers', 'deaths') AND p.ended_after NOTNULL AND f.age <= 
   OR f.section IN ('nodes', 'clears') AND l.ended_after NOTNULL
     AND l.ended - (SELECT ts FROM side_time x WHERE x.seq = f.seq) <= 100000000;
 CREATE UNIQUE INDEX temp.leaving_finding ON leaving(id);
-
-COMMIT;

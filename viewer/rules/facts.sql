@@ -1,7 +1,5 @@
 -- What is known of each finding: what its record says, which node its handle leads to, its path, and how many took that
--- path. rules.sql judges it. After nodes.sql.
-BEGIN;
-
+-- path. The files after rule.sql judge it. After nodes.sql.
 -- ---- findings that are not rows of the report
 
 -- Oneway sends that the driver took and that were never seen to come; and those that it suspects as spam.
@@ -217,5 +215,3 @@ FROM object_of o, answered a JOIN answered_name b ON (b.code, b.name) = (a.code,
   status x JOIN raw_delivery d USING (place)
 WHERE section = 'answers' AND o.generation = finding.generation AND a.name = o.name AND a.code = finding.code
   AND d.call = finding.place;
-
-COMMIT;

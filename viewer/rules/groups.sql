@@ -1,6 +1,4 @@
--- Findings in groups, and who talks to whom: what the page shows first. After rules.sql.
-BEGIN;
-
+-- Findings in groups, and who talks to whom: what the page shows first. After oneway.sql.
 -- The title of a finding: by its rule, or by its section and what it is in that section.
 CREATE TABLE title(rule TEXT, section TEXT, what TEXT, title TEXT NOT NULL) STRICT;
 INSERT INTO title VALUES
@@ -103,5 +101,3 @@ FROM (SELECT g.upid, g.handle, s.generation, r.code, r.flags & :TF_ONE_WAY AS on
     LEFT JOIN raw_call c USING (place) LEFT JOIN raw_delivery d ON d.place = s.delivery
     LEFT JOIN side_time b ON b.seq = c.seq LEFT JOIN side_time z ON z.seq = c.seq + c.dur_seq
   GROUP BY s.generation, r.code, r.flags & :TF_ONE_WAY) x LEFT JOIN node_of n ON n.generation = x.generation;
-
-COMMIT;

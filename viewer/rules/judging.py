@@ -10,8 +10,10 @@ from viewer.units import counted, duration_of, likeness, status_name
 
 FOLDER = pathlib.Path(__file__).resolve().parent
 
-# The files that judge the rows of the report, in order.
-JUDGING = ("nodes.sql", "names.sql", "facts.sql", "ages.sql", "waits.sql", "rules.sql", "groups.sql", "stacks.sql")
+# The files that judge the rows of the report, in order. The first rule that fits a finding decides.
+JUDGING = ("nodes.sql", "names.sql", "facts.sql", "ages.sql", "waits.sql", "rule.sql", "calls.sql", "failures.sql",
+           "answers.sql", "strays.sql", "buffers.sql", "handles.sql", "held.sql", "requests.sql", "deaths.sql",
+           "frees.sql", "objects.sql", "oneway.sql", "groups.sql", "stacks.sql")
 
 
 def judge(database: sqlite3.Connection, folder: pathlib.Path = FOLDER) -> None:
@@ -27,8 +29,10 @@ def judge(database: sqlite3.Connection, folder: pathlib.Path = FOLDER) -> None:
     database.create_function("status_name", 1, status_name, deterministic=True)
     names = named_numbers(database)
     for name in JUDGING:
+        database.execute("BEGIN")
         for statement in statements_of(folder / name):
             database.execute(statement, names)
+        database.execute("COMMIT")
         if name == "names.sql":
             names_of = Names(database)
             database.create_function("call_name", 3, names_of.call, deterministic=True)

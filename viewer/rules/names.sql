@@ -1,7 +1,5 @@
 -- Which interfaces calls name: those of each code at each node, and those of each node; and under which names nodes are
 -- registered as services. After nodes.sql.
-BEGIN;
-
 -- How many records of each code and node name an interface; of a handle whose node is not known, its process with a
 -- minus in place of the node's, and the handle in place of its ptr. The driver knows a node of a process by its ptr.
 -- A code of NULL: the reply to _NTF names the interface of the node that was asked.
@@ -75,5 +73,3 @@ FROM (SELECT upid, ptr, service, min(registered) AS registered, count(*) AS n,
       ORDER BY min(registered) IS NULL, min(registered), count(*) DESC, min(place)) AS nth
   FROM is_service GROUP BY 1, 2, 3)
 WHERE nth = 1;
-
-COMMIT;

@@ -1,6 +1,4 @@
 -- Which node each generation of a handle leads to: who talks to whom.
-BEGIN;
-
 -- ---- indexes: a query below, or one of the page, was slow without them
 
 CREATE INDEX call_of_thread ON raw_call(utid, place);
@@ -130,5 +128,3 @@ WHERE g.handle = 0 AND g.id NOT IN (SELECT generation FROM node_of);
 
 CREATE TEMP TABLE manager AS
 SELECT DISTINCT n.upid FROM node_of n JOIN raw_generation g ON g.id = n.generation WHERE g.handle = 0;
-
-COMMIT;

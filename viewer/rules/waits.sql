@@ -1,6 +1,4 @@
 -- What open calls wait for, and what the threads do that could take them. After ages.sql.
-BEGIN;
-
 -- Open calls, and what they wait for: the innermost call that the thread that got the call has made since; or, for a
 -- call that nobody got, the calls of the process that should get it. A call back to a process that waits for this very
 -- thread goes to the thread that waits: it is under way.
@@ -138,5 +136,3 @@ SELECT r.at AS id, sum(b.n - (r.begin IN (SELECT -q.upid FROM queued q WHERE q.i
 FROM reach r JOIN begin b ON b.id = r.begin
 WHERE r.at > 0 AND r.at <> r.begin GROUP BY 1;
 CREATE UNIQUE INDEX temp.waited_for ON waited(id);
-
-COMMIT;
