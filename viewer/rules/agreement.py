@@ -74,7 +74,7 @@ WHERE upid NOT IN (SELECT upid FROM book_opening WHERE moment = 'begin' AND deat
 SELECT upid, 'request for handle ' || handle, max(report), max(books) FROM (
   SELECT upid, handle, 1 AS report, 0 AS books FROM finding WHERE rule = 'D5'
   UNION ALL SELECT upid, handle, 0, 1 FROM book_handle b WHERE moment = 'end' AND requested
-    AND NOT EXISTS (SELECT 1 FROM told t WHERE (t.upid, t.handle) = (b.upid, b.handle))
+    AND NOT EXISTS (SELECT 1 FROM told_death t WHERE (t.upid, t.handle) = (b.upid, b.handle))
     AND NOT EXISTS (SELECT 1 FROM book_handle x WHERE x.moment = 'begin' AND (x.upid, x.handle) = (b.upid, b.handle)
       AND x.requested))
 GROUP BY upid, handle"""}

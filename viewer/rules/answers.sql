@@ -1,7 +1,7 @@
 -- R: calls that were answered with a status.
 
 UPDATE finding SET rule = 'R1'
-FROM (SELECT path FROM finding WHERE section = 'answers' GROUP BY path HAVING count(*) >= 3
-  AND count(*) >= 0.8 * max(n_all)) p
+FROM (SELECT path FROM finding WHERE section = 'answers' GROUP BY path HAVING count(*) >= :OFTEN
+  AND count(*) >= :NEARLY_ALL * max(n_all)) p
 WHERE rule IS NULL AND section = 'answers' AND p.path = finding.path;
 UPDATE finding SET rule = 'R2' WHERE rule IS NULL AND section = 'answers';

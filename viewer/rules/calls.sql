@@ -16,7 +16,7 @@ UPDATE finding SET rule = 'T1' WHERE rule IS NULL AND section IN ('calls', 'serv
   AND finding.id IN (SELECT id FROM ended);
 -- An answer that came after the end of its thread found nobody; one that came before may have been read late.
 UPDATE finding SET rule = CASE WHEN l.ended_after < c.seq + c.dur_seq THEN 'T1'
-    WHEN coalesce(l.ended, last.ts) - (SELECT ts FROM side_time x WHERE x.seq = c.seq + c.dur_seq) > 100000000 THEN 'C1'
+    WHEN coalesce(l.ended, last.ts) - (SELECT ts FROM side_time x WHERE x.seq = c.seq + c.dur_seq) > :LONG THEN 'C1'
     ELSE 'C2' END,
   note = 'replied at ' || c.closer
 FROM waits w JOIN raw_call c ON c.place = w.delivery JOIN life l ON l.utid = w.utid, last
@@ -31,16 +31,16 @@ UPDATE finding SET rule = 'C7', note = coalesce((SELECT p.doing FROM waits w JOI
 WHERE rule IS NULL AND upid NOT IN (SELECT upid FROM lossy) AND coalesce(target, 0) NOT IN (SELECT upid FROM lossy)
   AND id IN (SELECT w.id FROM waits w WHERE w.delivery IS NULL AND w.server_upid IN (SELECT upid FROM full_pool)
     UNION SELECT f.id FROM waits_for f JOIN waits w USING (id) WHERE w.delivery NOTNULL AND NOT f.by_main);
-UPDATE finding SET rule = 'U1' WHERE rule IS NULL AND section IN ('calls', 'served') AND what = 'open' AND n_good >= 3
-  AND coalesce(age <= 2 * longest, age_seq <= 2 * longest_seq);
+UPDATE finding SET rule = 'U1' WHERE rule IS NULL AND section IN ('calls', 'served') AND what = 'open'
+  AND n_good >= :ENOUGH AND coalesce(age <= :USUAL * longest, age_seq <= :USUAL * longest_seq);
 UPDATE finding SET rule = iif(upid IN (SELECT upid FROM lossy), 'M2', 'C6')
 WHERE rule IS NULL AND finding.id IN (SELECT id FROM old) AND finding.id IN (SELECT w.id FROM waited w WHERE w.by_pool)
-  AND EXISTS (SELECT 1 FROM finding q JOIN old o ON o.id = q.id WHERE q.rule = 'C7' AND q.age > 1000000000);
+  AND EXISTS (SELECT 1 FROM finding q JOIN old o ON o.id = q.id WHERE q.rule = 'C7' AND q.age > :VERY_LONG);
 -- If frames of its target are missing, it may wait for another call there.
 UPDATE finding SET rule = iif(upid IN (SELECT upid FROM lossy) OR coalesce(target, 0) IN (SELECT upid FROM lossy), 'M2',
   'U2')
-WHERE rule IS NULL AND section IN ('calls', 'served') AND what = 'open' AND n_good >= 3
-  AND coalesce(age > max(100000000, 10 * longest), age_seq > 10 * longest_seq);
+WHERE rule IS NULL AND section IN ('calls', 'served') AND what = 'open' AND n_good >= :ENOUGH
+  AND coalesce(age > max(:LONG, :OLD * longest), age_seq > :OLD * longest_seq);
 UPDATE finding SET rule = 'U6' WHERE rule IS NULL AND section IN ('calls', 'served') AND what = 'open' AND later = 0
   AND age IS NOT NULL AND finding.id NOT IN (SELECT id FROM old);
 UPDATE finding SET rule = iif(w.delivery IS NULL, 'C5', 'C4') FROM waits w WHERE rule IS NULL AND w.id = finding.id;

@@ -1,8 +1,8 @@
--- E: calls and sends that failed.
+-- E: calls and sends that failed, and oneway sends that may be spam.
 
 -- The error reply that closed a failed call or refused a send: its kind, and the send.
 CREATE TEMP TABLE failure AS
-SELECT f.id, e.kind, f.generation, f.place, e.place AS told, s.refused = e.place AS refused FROM finding f
+SELECT f.id, e.kind, f.generation, f.place, e.place AS reply, s.refused = e.place AS refused FROM finding f
   JOIN raw_call c USING (place) JOIN raw_record e ON e.place = c.closer LEFT JOIN raw_send s USING (place)
 WHERE f.section = 'calls' AND f.what = 'failed'
 UNION ALL SELECT f.id, e.kind, f.generation, s.place, e.place, 1 FROM finding f JOIN raw_record e USING (place)
@@ -10,19 +10,19 @@ UNION ALL SELECT f.id, e.kind, f.generation, s.place, e.place, 1 FROM finding f 
 UNION ALL SELECT f.id, e.kind, NULL, NULL, e.place, 1 FROM finding f JOIN raw_record e USING (place)
 WHERE f.section = 'refused' AND NOT EXISTS (SELECT 1 FROM raw_send s WHERE s.refused = f.place);
 CREATE UNIQUE INDEX temp.failure_of ON failure(id);
-CREATE INDEX temp.failure_before ON failure(generation, kind, told);
+CREATE INDEX temp.failure_before ON failure(generation, kind, reply);
 
 -- One thread reads the news of a death while another sends: a single send soon after the news says nothing.
 CREATE TEMP TABLE too_late AS
 SELECT e.id, t.place, count(*) OVER (PARTITION BY e.generation) > 1 OR coalesce(
   (SELECT ts FROM side_time x JOIN raw_record r USING (seq) WHERE r.place = e.place)
-    - (SELECT ts FROM side_time x JOIN raw_record r USING (seq) WHERE r.place = t.place) > 1000000000, 0) AS certain
-FROM failure e JOIN told t ON t.generation = e.generation WHERE e.kind = :BR_DEAD_REPLY AND t.place < e.place;
+    - (SELECT ts FROM side_time x JOIN raw_record r USING (seq) WHERE r.place = t.place) > :VERY_LONG, 0) AS certain
+FROM failure e JOIN told_death t ON t.generation = e.generation WHERE e.kind = :BR_DEAD_REPLY AND t.place < e.place;
 UPDATE finding SET rule = 'E1', note = 'told at ' || t.place FROM too_late t
 WHERE rule IS NULL AND t.id = finding.id AND t.certain;
 UPDATE finding SET rule = 'E2' FROM failure e WHERE rule IS NULL AND e.id = finding.id AND e.kind = :BR_DEAD_REPLY
   AND EXISTS (SELECT 1 FROM failure b WHERE b.generation = e.generation AND b.kind = :BR_DEAD_REPLY
-    AND b.told < e.place);
+    AND b.reply < e.place);
 UPDATE finding SET rule = CASE e.kind WHEN :BR_DEAD_REPLY THEN 'E3' WHEN :BR_FROZEN_REPLY THEN 'E4'
   ELSE iif(e.refused, 'E5', 'E6') END
 FROM failure e WHERE rule IS NULL AND e.id = finding.id;
@@ -37,7 +37,7 @@ DELETE FROM refused_first WHERE nth > 1;
 CREATE TEMP TABLE in_the_way AS
 SELECT q.id, q.target, t.upid, count(*) AS n,
   sum((r.data_size + 7) / 8 * 8 + (r.offsets_size + 7) / 8 * 8 + (coalesce(r.extra, 0) + 7) / 8 * 8) AS bytes
-FROM (SELECT * FROM refused_first ORDER BY place LIMIT 16) q JOIN node_of n ON n.upid = q.target
+FROM (SELECT * FROM refused_first ORDER BY place LIMIT :NOTED) q JOIN node_of n ON n.upid = q.target
   JOIN raw_send s ON s.generation = n.generation AND s.place < q.place JOIN raw_record r ON r.place = s.place
   JOIN raw_thread t ON t.utid = s.utid LEFT JOIN raw_delivery d ON d.place = s.delivery
 WHERE s.refused IS NULL AND r.flags & :TF_ONE_WAY AND coalesce(d.freed_by > q.place, 1) GROUP BY 1, 2, 3;

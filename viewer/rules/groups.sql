@@ -1,4 +1,5 @@
--- Findings in groups, and who talks to whom: what the page shows first. After oneway.sql.
+-- Findings in groups, and who talks to whom: what the page shows first.
+
 -- The title of a finding: by its rule, or by its section and what it is in that section.
 CREATE TABLE title(rule TEXT, section TEXT, what TEXT, title TEXT NOT NULL) STRICT;
 INSERT INTO title VALUES

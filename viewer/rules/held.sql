@@ -1,10 +1,11 @@
 -- H3 to H7, T, U: references to handles and nodes that are held, and those that are balanced.
 
--- The proxies of the dead go with the next collection of garbage: one is held for long after 1 s, three after 0.1 s.
+-- The proxies of the dead go with the next collection of garbage: one is held for long after :VERY_LONG, and several
+-- after :LONG.
 CREATE TEMP TABLE mourned AS
-SELECT id, place, age > 1000000000 OR coalesce(age > 100000000, 1) AND count(*) OVER (PARTITION BY upid) >= 3 AS long
+SELECT id, place, age > :VERY_LONG OR coalesce(age > :LONG, 1) AND count(*) OVER (PARTITION BY upid) >= :OFTEN AS long
 FROM (SELECT f.id, f.upid, min(t.place) AS place, coalesce(p.ended, last.ts) - x.ts AS age
-  FROM finding f JOIN told t USING (generation) JOIN process_life p ON p.upid = f.upid
+  FROM finding f JOIN told_death t USING (generation) JOIN process_life p ON p.upid = f.upid
     JOIN raw_record r ON r.place = t.place LEFT JOIN side_time x ON x.seq = r.seq, last
   WHERE f.section = 'handles' AND f.what = 'held' GROUP BY f.id);
 UPDATE finding SET rule = 'H3', note = 'told at ' || m.place FROM mourned m
@@ -39,15 +40,15 @@ WHERE rule IS NULL AND section = 'handles' AND what = 'held' AND g.id = finding.
 CREATE TEMP TABLE kept_elsewhere AS
 SELECT w.upid, w.way, w.sender, (SELECT group_concat(who || ' keeps ' || kept || ' of ' || n, ', ')
   FROM (SELECT x.who, o.kept, o.n FROM given_way o JOIN who x USING (upid)
-    WHERE o.way = w.way AND o.sender = w.sender AND o.upid <> w.upid ORDER BY o.n DESC, o.upid LIMIT 4)) AS told
-FROM given_way w WHERE w.kept >= 4;
+    WHERE o.way = w.way AND o.sender = w.sender AND o.upid <> w.upid ORDER BY o.n DESC, o.upid LIMIT :NAMED)) AS told
+FROM given_way w WHERE w.kept >= :MANY;
 CREATE INDEX temp.kept_elsewhere_of ON kept_elsewhere(upid, way);
 UPDATE finding SET rule = 'H5', code = g.code,
   path = g.way || iif(g.reply, '', ' from ' || (SELECT who FROM who WHERE who.upid = g.sender)),
   note = (SELECT e.told FROM kept_elsewhere e WHERE g.reply AND (e.upid, e.way, e.sender) = (g.upid, g.way, g.sender))
 FROM given g JOIN given_way w ON w.upid = g.upid AND w.way = g.way AND w.sender IS g.sender
 WHERE rule IS NULL AND section = 'handles' AND what = 'held' AND g.generation = finding.generation
-  AND w.kept >= 4 AND w.kept >= 0.8 * w.n AND coalesce(g.asked, 1) <> 0 AND (g.reply OR g.sender NOTNULL)
+  AND w.kept >= :MANY AND w.kept >= :NEARLY_ALL * w.n AND coalesce(g.asked, 1) <> 0 AND (g.reply OR g.sender NOTNULL)
   AND finding.upid NOT IN (SELECT upid FROM manager);
 UPDATE finding SET rule = CASE WHEN later = 0 AND finding.id IN (SELECT id FROM ended)
     OR finding.id IN (SELECT id FROM leaving) THEN 'T1'

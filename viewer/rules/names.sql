@@ -1,5 +1,6 @@
 -- Which interfaces calls name: those of each code at each node, and those of each node; and under which names nodes are
--- registered as services. After nodes.sql.
+-- registered as services.
+
 -- How many records of each code and node name an interface; of a handle whose node is not known, its process with a
 -- minus in place of the node's, and the handle in place of its ptr. The driver knows a node of a process by its ptr.
 -- A code of NULL: the reply to _NTF names the interface of the node that was asked.

@@ -1,4 +1,5 @@
 -- Which node each generation of a handle leads to: who talks to whom.
+
 -- ---- indexes: a query below, or one of the page, was slow without them
 
 CREATE INDEX call_of_thread ON raw_call(utid, place);
@@ -54,7 +55,7 @@ INSERT INTO node_of
 WITH RECURSIVE way(generation, upid, ptr, cookie, steps) AS (
   SELECT p.generation, n.upid, n.ptr, n.cookie, 1 FROM passed_on p JOIN node_of n ON n.generation = p.of
   UNION ALL SELECT p.generation, w.upid, w.ptr, w.cookie, w.steps + 1 FROM way w JOIN passed_on p ON p.of = w.generation
-  WHERE w.steps < 8)
+  WHERE w.steps < :STEPS)
 SELECT generation, w.upid, w.ptr, w.cookie, 1 FROM way w JOIN handed h USING (generation)
 WHERE h.certain AND generation NOT IN (SELECT generation FROM node_of) GROUP BY generation;
 

@@ -1,10 +1,10 @@
--- W: oneway sends that never came.
+-- W, E3, U1: oneway sends that never came, and the buffers that they wait for.
 
 UPDATE finding SET rule = 'W1' WHERE rule IS NULL AND section = 'oneway'
   AND (SELECT flags & :TF_UPDATE_TXN FROM raw_record r WHERE r.place = finding.place);
 UPDATE finding SET rule = 'E3' WHERE rule IS NULL AND section = 'oneway' AND finding.id IN (SELECT id FROM ended);
-UPDATE finding SET rule = 'U1' WHERE rule IS NULL AND section = 'oneway' AND n_good >= 3
-  AND coalesce(age <= 2 * longest, age_seq <= 2 * longest_seq);
+UPDATE finding SET rule = 'U1' WHERE rule IS NULL AND section = 'oneway' AND n_good >= :ENOUGH
+  AND coalesce(age <= :USUAL * longest, age_seq <= :USUAL * longest_seq);
 UPDATE finding SET rule = 'W2', note = 'the one at ' || f.place FROM finding f JOIN raw_record r ON r.place = f.place
 WHERE finding.rule IS NULL AND finding.section = 'oneway' AND f.section = 'buffers' AND r.flags & :TF_ONE_WAY
   AND r.kind <> :BR_REPLY
@@ -20,7 +20,7 @@ UPDATE finding SET rule = 'W2', note = 'the one at ' || o.place
 FROM last_oneway o JOIN process_life p USING (upid) JOIN raw_record f ON f.place = o.freed_by
   JOIN side_time x ON x.seq = f.seq
 WHERE rule IS NULL AND section = 'oneway' AND (o.upid, o.ptr, o.cookie) = (target, finding.ptr, finding.cookie)
-  AND o.freed_by > finding.place AND p.ended_after NOTNULL AND p.ended - x.ts <= 100000000;
+  AND o.freed_by > finding.place AND p.ended_after NOTNULL AND p.ended - x.ts <= :LONG;
 -- A buffer that others wait for is no matter of its thread alone.
 UPDATE finding SET waiting = w.n, rule = iif(rule = 'U6' AND finding.id IN (SELECT id FROM old), 'U5', rule)
 FROM (SELECT note, count(*) AS n FROM finding WHERE rule = 'W2' GROUP BY 1) w

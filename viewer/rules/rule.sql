@@ -1,5 +1,5 @@
--- The rules, and the processes of which frames are missing. The first rule that fits a finding decides. docs/VIEW.md has
--- the rules in words.
+-- The rules, of which the first one that fits a finding decides, and the processes of which frames are missing.
+-- docs/VIEW.md has the rules in words.
 
 -- Processes with missing frames. If the side list does not say whose a missing frame was, it may be of any process.
 CREATE TEMP TABLE lossy AS

@@ -1,7 +1,7 @@
 -- Which stacks tell of a finding, and whose they are: first that of the call that its record comes of, then that of the
 -- call that wrote its record. A record that was read has no stack of its own, and what libbinder has to say of handles
--- and buffers its threads write later, in whatever call comes next. After groups.sql, and after facts.sql
--- for `dead_record`.
+-- and buffers its threads write later, in whatever call comes next.
+
 CREATE TEMP TABLE tells AS
 -- A handle: the call whose reply gave it, or the send of another process that did.
 SELECT f.id, 1 AS n, iif(r.kind = :BR_REPLY, d.call, d.send) AS place,
