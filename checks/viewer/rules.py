@@ -1,5 +1,6 @@
 #!/usr/bin/env python3
-"""Checks the rules of `view` on small sessions, one on either side of each threshold and order.
+"""Checks the rules of `view` on small sessions, one on either side of each threshold and order; and that the head of
+each SQL file of `view` says what its statements need and make.
 
     checks/run rules                    plays the sessions of sessions/*cases.py, and compares the rules of their findings
     checks/run rules -- --edits [EDIT]  also tries wrong rules: each edit of sessions/edits.txt must change what a
@@ -26,6 +27,7 @@ from typing import Iterator, NamedTuple
 from checks.kit.checking import Fail, check
 from checks.kit.programs import CHECKS, DRIVER, LISTING, ROOT
 from checks.kit.second_reading import reading
+from checks.viewer.heads import faults_of_heads
 from checks.viewer.sessions import book_cases, name_cases, stack_cases, state_cases  # noqa: F401
 from checks.viewer.sessions.cases import CASES, Case
 from checks.viewer.sessions.session import Session
@@ -211,6 +213,8 @@ def show(bases: list[bytes], text: str) -> None:
 
 def judge(given: argparse.Namespace, room: pathlib.Path, fail: Fail) -> None:
     build_programs(ROOT)
+    for fault in faults_of_heads():
+        fail(fault)
     with ThreadPoolExecutor(os.cpu_count()) as pool:
         bases = list(pool.map(made, repeat(room), range(len(CASES)), CASES))
     if given.show is not None:

@@ -1,4 +1,6 @@
 -- What each name rests on, by the names of docs/DATABASE.md.
+-- needs: nothing
+-- makes: tables: about
 
 CREATE TABLE about(name TEXT PRIMARY KEY, rests_on TEXT NOT NULL
   CHECK (rests_on IN ('bytes', 'rule', 'proved', 'side', 'inferred')), text TEXT NOT NULL) STRICT;

@@ -1,4 +1,6 @@
 -- The names of numbers. All other statements use the names in their place: `:BR_REPLY` is 259.
+-- needs: nothing
+-- makes: tables: kind, sort, flag, cause, verdict
 
 CREATE TABLE kind(number INTEGER PRIMARY KEY, name TEXT NOT NULL) STRICT;
 INSERT INTO kind VALUES (0, 'BC_TRANSACTION'), (1, 'BC_REPLY'), (2, 'BC_ACQUIRE_RESULT'), (3, 'BC_FREE_BUFFER'),

@@ -3,6 +3,14 @@
 -- Since version 4, method and node_interface are new.
 -- Since version 5, command and uid of process, the names that begin with book, disagreement, side_call, side_unstacked,
 -- stack, finding_stack, service and node_service are, and the column service of record.
+-- needs: nothing
+-- makes: tables: raw_capture, raw_process, raw_thread, raw_frame, raw_record, raw_interface, raw_service, raw_object,
+--   raw_call, raw_generation, raw_send, raw_delivery, raw_level, side_device, side_process, side_thread, side_time,
+--   side_lost, interface, service, method, call_interface, object_interface, object_service, status, side_missed,
+--   side_calls, side_handle, book, book_opening, book_handle, book_node, book_buffer, book_call, disagreement,
+--   side_call, side_pc, side_map, side_unstacked, symbol, capture, report, finding; indexes: side_process_of_pid,
+--   side_thread_of_tid
+
 PRAGMA user_version = 6;
 
 -- ---- raw tables: the rows that `./listing --tables` writes, column by column

@@ -4,7 +4,6 @@ import functools
 import pathlib
 import sqlite3
 
-
 # Numbers that have a name in statements and are in no table: the direction of a write, the code to which an object
 # answers with its interface, and the first number that can't be of a process or a thread of Linux: `./record` gives
 # such numbers where the system's is taken.

@@ -1,6 +1,11 @@
 -- The views, which docs/DATABASE.md describes. A view can't have parameters, so raw_tables.py puts the numbers in. It
 -- also joins a line that is eight spaces in to the one before it: the database keeps the text of a view, and names are
 -- longer than numbers.
+-- needs: schema.sql: interface, object_interface, object_service, raw_call, raw_delivery, raw_frame, raw_generation,
+--   raw_level, raw_object, raw_process, raw_record, raw_send, raw_thread, service, side_device, side_map, side_pc,
+--   side_process, side_thread, side_time, symbol; numbers.sql: cause, kind, sort, verdict; rules/nodes.sql: node_of
+-- makes: views: device, process, thread, frame, record, object, call, handle, send, delivery, level, reference,
+--   listing, came_to, sent_to, node_interface, stack, node_service
 
 CREATE VIEW device AS
 SELECT DISTINCT p.device, s.name FROM raw_process p LEFT JOIN side_device s USING (device);

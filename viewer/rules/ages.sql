@@ -1,5 +1,9 @@
 -- How long each finding has lasted, what its thread did after it, and whether it ended with its thread or process.
 -- Times are used if the side list has them, and frames otherwise.
+-- needs: database/schema.sql: book, book_opening, capture, finding, raw_call, raw_capture, raw_delivery, raw_frame,
+--   raw_record, raw_thread, side_time; database/views.sql: process, thread
+-- makes: temporary tables: last, process_life, begun, life, usual, old, ended, leaving; indexes: life_of_process,
+--   begun_process, life_of_thread, old_finding, ended_finding, leaving_finding
 
 -- ---- how long: to the end of its thread, its process or the capture
 

@@ -1,4 +1,6 @@
 -- R: calls that were answered with a status.
+-- needs: database/schema.sql: finding
+-- makes: nothing
 
 UPDATE finding SET rule = 'R1'
 FROM (SELECT path FROM finding WHERE section = 'answers' GROUP BY path HAVING count(*) >= :OFTEN

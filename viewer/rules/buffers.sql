@@ -1,4 +1,6 @@
 -- T, U: buffers.
+-- needs: database/schema.sql: finding; ages.sql: ended, leaving, old; rule.sql: lossy
+-- makes: nothing
 
 UPDATE finding SET rule = 'T1' WHERE rule IS NULL AND section = 'buffers'
   AND (later = 0 AND finding.id IN (SELECT id FROM ended) OR finding.id IN (SELECT id FROM leaving));

@@ -1,4 +1,7 @@
 -- A, C, T, U: calls and served calls that are open.
+-- needs: database/schema.sql: finding, raw_call, raw_delivery, raw_thread, side_time; nodes.sql: who; ages.sql: ended,
+--   last, life, old; waits.sql: full_pool, pool, ring, waited, waits, waits_for; rule.sql: lossy; judging.py: counted
+-- makes: nothing
 
 -- A: one finding with an open call.
 UPDATE finding SET rule = 'A1', lead = w.id FROM waits w

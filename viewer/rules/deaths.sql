@@ -1,4 +1,7 @@
 -- D3, D4, D6, T, U: deaths and clears.
+-- needs: database/schema.sql: finding; facts.sql: dead_record; ages.sql: begun, ended, leaving, old, process_life;
+--   rule.sql: lossy
+-- makes: temporary tables: balance, begun_death; indexes: balance_at
 
 UPDATE finding SET rule = 'D3', note = 'the one at ' || d.place FROM finding d
 WHERE finding.rule IS NULL AND finding.section = 'clears' AND finding.what = 'unconfirmed' AND d.section = 'deaths'

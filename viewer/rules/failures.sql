@@ -1,4 +1,7 @@
 -- E: calls and sends that failed, and oneway sends that may be spam.
+-- needs: database/schema.sql: finding, raw_call, raw_delivery, raw_record, raw_send, raw_thread, side_time; nodes.sql:
+--   node_of, who; facts.sql: told_death; judging.py: counted
+-- makes: temporary tables: failure, too_late, refused_first, in_the_way; indexes: failure_of, failure_before
 
 -- The error reply that closed a failed call or refused a send: its kind, and the send.
 CREATE TEMP TABLE failure AS

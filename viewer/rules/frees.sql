@@ -1,4 +1,7 @@
 -- F: frees.
+-- needs: database/schema.sql: book_buffer, finding, raw_delivery, raw_record, raw_thread; database/views.sql: came_to,
+--   delivery, sent_to; ages.sql: begun, process_life; rule.sql: lossy; judging.py: call_name
+-- makes: temporary tables: freed, begun_free; indexes: freed_address
 
 CREATE TEMP TABLE freed AS
 SELECT t.upid, r.address, d.place, d.freed_by FROM raw_delivery d JOIN raw_record r USING (place)

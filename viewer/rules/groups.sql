@@ -1,4 +1,8 @@
 -- Findings in groups, and who talks to whom: what the page shows first.
+-- needs: database/schema.sql: finding, raw_call, raw_delivery, raw_generation, raw_record, raw_send, side_time;
+--   database/views.sql: process; nodes.sql: node_of, who; rule.sql: rule; judging.py: likeness, without_methods
+-- makes: tables: title, finding_head, finding_group, traffic; temporary tables: named, ranked, common, paths; indexes:
+--   head_of_group, ranked_group, common_of, paths_of
 
 -- The title of a finding: by its rule, or by its section and what it is in that section.
 CREATE TABLE title(rule TEXT, section TEXT, what TEXT, title TEXT NOT NULL) STRICT;

@@ -1,5 +1,8 @@
 -- H1, H2: handles that nobody gave, and references let go of more often than taken; H6, H7: what the driver's books of
 -- the beginning have of these.
+-- needs: database/schema.sql: book_handle, book_node, finding, raw_delivery, raw_generation, raw_record, raw_thread,
+--   report; ages.sql: begun, process_life; rule.sql: lossy; judging.py: number_in
+-- makes: temporary tables: unseen, handle_row, held_before
 
 -- The first delivery to a process of which it is not known which objects it had: its data are not in the capture.
 CREATE TEMP TABLE unseen AS

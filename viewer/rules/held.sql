@@ -1,4 +1,9 @@
 -- H3 to H7, T, U: references to handles and nodes that are held, and those that are balanced.
+-- needs: database/schema.sql: finding, raw_generation, raw_record, raw_thread, side_time; nodes.sql: manager, who;
+--   facts.sql: given, given_way, told_death; ages.sql: ended, last, leaving, process_life; rule.sql: lossy;
+--   handles.sql: handle_row; judging.py: counted
+-- makes: temporary tables: mourned, taken_again, most_held, kept_elsewhere; indexes: taken_again_of, most_held_of,
+--   kept_elsewhere_of
 
 -- The proxies of the dead go with the next collection of garbage: one is held for long after :VERY_LONG, and several
 -- after :LONG.

@@ -1,5 +1,8 @@
 -- Which interfaces calls name: those of each code at each node, and those of each node; and under which names nodes are
 -- registered as services.
+-- needs: database/schema.sql: call_interface, interface, object_interface, object_service, raw_call, raw_generation,
+--   raw_object, raw_record, raw_thread, service; database/views.sql: came_to, sent_to; nodes.sql: node_of
+-- makes: temporary tables: naming, told_name, to_manager, is_service
 
 -- How many records of each code and node name an interface; of a handle whose node is not known, its process with a
 -- minus in place of the node's, and the handle in place of its ptr. The driver knows a node of a process by its ptr.

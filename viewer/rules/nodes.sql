@@ -1,4 +1,9 @@
 -- Which node each generation of a handle leads to: who talks to whom.
+-- needs: database/schema.sql: book_handle, raw_call, raw_delivery, raw_generation, raw_object, raw_process, raw_record,
+--   raw_send, raw_thread, side_device; database/views.sql: device, process
+-- makes: tables: who, peer, node_of; temporary tables: handed, passed_on, misled, alike, between_two, sent_again,
+--   got_again, paired, manager; indexes: call_of_thread, object_of_record, send_refused, generation_of_handle,
+--   passed_on_from, paired_delivery
 
 -- ---- indexes: a query below, or one of the page, was slow without them
 

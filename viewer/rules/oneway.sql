@@ -1,4 +1,7 @@
 -- W, E3, U1: oneway sends that never came, and the buffers that they wait for.
+-- needs: database/schema.sql: finding, raw_delivery, raw_record, raw_thread, side_time; ages.sql: ended, old,
+--   process_life; rule.sql: lossy
+-- makes: temporary tables: last_oneway
 
 UPDATE finding SET rule = 'W1' WHERE rule IS NULL AND section = 'oneway'
   AND (SELECT flags & :TF_UPDATE_TXN FROM raw_record r WHERE r.place = finding.place);

@@ -1,5 +1,7 @@
 -- The rules, of which the first one that fits a finding decides, and the processes of which frames are missing.
 -- docs/VIEW.md has the rules in words.
+-- needs: database/schema.sql: raw_capture, raw_process, side_lost, side_missed; ages.sql: last, process_life
+-- makes: tables: rule; temporary tables: lossy
 
 -- Processes with missing frames. If the side list does not say whose a missing frame was, it may be of any process.
 CREATE TEMP TABLE lossy AS

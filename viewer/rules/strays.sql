@@ -1,4 +1,7 @@
 -- S: strays, and calls that are crossed. M3: sends that an error reply may have ended.
+-- needs: database/schema.sql: book_call, finding, raw_call, raw_record, raw_send, raw_thread; ages.sql: begun,
+--   process_life; rule.sql: lossy
+-- makes: temporary tables: first_crossed, begun_call; indexes: first_crossed_of
 
 CREATE TEMP TABLE first_crossed AS
 SELECT utid, min(closer) AS closer FROM raw_call

@@ -2,7 +2,8 @@
 If one changes, the sentences of its rules change too, in rule.sql and in docs/VIEW.md."""
 
 THRESHOLDS = {
-    # Nothing younger is old; and what is left undone so shortly before an end comes of that end.
+    # Nothing younger is old or late (U2, U4, C1, H3); and what is left undone so shortly before an end, or freed only
+    # then, comes of that end (T1, W2).
     "LONG": 100_000_000,
     # Long even for a single send or handle after the news of a death (E1, H3), and for what waits for a busy pool (C6).
     # Up to here a buffer is also under way if no more frames came over it than over others (U1).

@@ -1,4 +1,10 @@
 -- What open calls wait for, and what the threads do that could take them.
+-- needs: database/schema.sql: book_call, finding, raw_call, raw_process, raw_record, raw_send, raw_thread, side_calls,
+--   side_thread, side_time; database/views.sql: came_to, process, sent_to, thread; ages.sql: last, life, process_life;
+--   judging.py: call_name, duration
+-- makes: temporary tables: waits, few, waits_for, main_thread, ring, serves_on, queued, loop, taker, taken, holder,
+--   pool, full_pool, step, waited; indexes: waits_thread, waits_server, waits_delivery, next_wait, queued_at, pool_of,
+--   full_pool_of, step_from, waited_for
 
 -- Open calls, and what they wait for: the innermost call that the thread that got the call has made since; or, for a
 -- call that nobody got, the calls of the process that should get it. A call back to a process that waits for this very
