@@ -137,8 +137,8 @@ def check_narrowed(room: pathlib.Path, fail: Fail) -> None:
 
 def without_attachments(capture: bytes) -> bytes:
     """The capture with the same records, and without attachment entries."""
-    return capture[:16] + b"".join(capture[one.place:one.place + 24] + u32(0) + capture[one.place + 28:one.end - len(one.attached)]
-                                   for one in frames_of(capture))
+    return capture[:16] + b"".join(capture[one.place:one.place + 24] + u32(0) + capture[one.place + 28:one.place + 32]
+                                   + one.commands for one in frames_of(capture))
 
 
 # ---- what is at a place, and columns

@@ -1,5 +1,6 @@
 #!/usr/bin/env python3
-"""Checks the rules of `view` on small sessions, one on either side of each threshold and order.
+"""Checks the rules of `view` on small sessions, one on either side of each threshold and order; and that the head of
+each SQL file of `view` says what its statements need and make.
 
     checks/run rules                    plays the sessions of sessions/*cases.py, and compares the rules of their findings
     checks/run rules -- --edits [EDIT]  also tries wrong rules: each edit of sessions/edits.txt must change what a
@@ -26,6 +27,7 @@ from typing import Iterator, NamedTuple
 from checks.kit.checking import Fail, check
 from checks.kit.programs import CHECKS, DRIVER, LISTING, ROOT
 from checks.kit.second_reading import reading
+from checks.viewer.heads import faults_of_heads
 from checks.viewer.sessions import book_cases, name_cases, stack_cases, state_cases  # noqa: F401
 from checks.viewer.sessions.cases import CASES, Case
 from checks.viewer.sessions.session import Session
@@ -123,11 +125,13 @@ class Edit(NamedTuple):
 
 
 def edits_of(path: pathlib.Path) -> list[Edit]:
-    found = []
+    found, file, at = [], "", ""
     for block in path.read_text().split("\n\n")[1:]:
-        lines = dict(line.partition(" ")[::2] for line in block.strip().splitlines())
-        at, old, new = (lines[word].replace("\\n", "\n") for word in ("at", "old", "new"))
-        found.append(Edit(lines["edit"], lines["file"], at, old, new, lines.get("nothing")))
+        lines = {word: text.replace("\\n", "\n") for word, _, text in (
+            line.partition(" ") for line in block.strip().splitlines())}
+        if "in" in lines:
+            file, _, at = lines["in"].partition(" at ")
+        found.append(Edit(lines["edit"], file, at, lines["old"], lines["new"], lines.get("nothing")))
     return found
 
 
@@ -136,6 +140,8 @@ def edited(edit: Edit, folder: pathlib.Path) -> None:
     shutil.copytree(judging.FOLDER, folder, ignore=shutil.ignore_patterns("out", "__pycache__"))
     path = folder / edit.file
     text = path.read_text()
+    if not edit.at and text.count(edit.old) > 1:
+        raise ValueError("what it replaces is in the file more than once")
     at = text.index(edit.old, text.index(edit.at))
     path.write_text(text[:at] + edit.new + text[at + len(edit.old):])
 
@@ -207,6 +213,8 @@ def show(bases: list[bytes], text: str) -> None:
 
 def judge(given: argparse.Namespace, room: pathlib.Path, fail: Fail) -> None:
     build_programs(ROOT)
+    for fault in faults_of_heads():
+        fail(fault)
     with ThreadPoolExecutor(os.cpu_count()) as pool:
         bases = list(pool.map(made, repeat(room), range(len(CASES)), CASES))
     if given.show is not None:

@@ -5,18 +5,48 @@ import mmap
 import operator
 import os
 import pathlib
+import re
 import shutil
+import sqlite3
 import struct
 import subprocess
+from contextlib import closing
 from typing import Iterator
 
-from viewer.database.sqlite import open_database, statements_of
+from viewer.database.sqlite import UNLISTED, named_numbers, open_database, statements_in
 from viewer.files import Stopped
 from viewer.program_names import LIBRARY, PACKED
 
 FOLDER = pathlib.Path(__file__).resolve().parent
 
+# The files that make the tables and the views of a new database, in order.
+SCHEMA = ("schema.sql", "numbers.sql", "views.sql", "about.sql")
+
 MASK = struct.Struct("<Q")
+
+# ---- the schema
+
+
+@functools.cache
+def spellings() -> dict[str, str]:
+    """The named numbers, as views have them."""
+    with closing(sqlite3.connect(":memory:")) as database:
+        database.executescript((FOLDER / "numbers.sql").read_text())
+        return {**{name: str(number) for name, number in named_numbers(database).items()}, **UNLISTED}
+
+
+def schema_of(name: str) -> str:
+    """The statements of a file of the schema, in which numbers stand for their names, and lines are joined as views.sql
+    says."""
+    text = (FOLDER / name).read_text().replace(f"\n{' ' * 8}", " ")
+    return re.sub(r":([A-Z_]+)", lambda found: spellings()[found[1]], text)
+
+
+@functools.cache
+def schema() -> str:
+    """The statements that make a new database."""
+    return "".join(map(schema_of, SCHEMA))
+
 
 # ---- the loader
 
@@ -62,8 +92,10 @@ def loader() -> pathlib.Path | None:
 
 
 def load_by_program(program: pathlib.Path, database: pathlib.Path, rows: pathlib.Path, side: str | None) -> None:
-    loaded = subprocess.run([program, database, rows, FOLDER / "schema.sql", *([] if side is None else [side])],
-                            capture_output=True, text=True)
+    made = rows / "schema.sql"
+    made.write_text(schema())
+    loaded = subprocess.run([program, database, rows, made, *([] if side is None else [side])], capture_output=True,
+                            text=True)
     if loaded.returncode:
         raise Stopped(4, loaded.stderr.strip().removeprefix("load: "))
 
@@ -102,7 +134,7 @@ def load_by_python(database: pathlib.Path, rows: pathlib.Path) -> None:
     made = open_database(database)
     made.execute("PRAGMA page_size=8192")
     made.execute("BEGIN")
-    for statement in statements_of(FOLDER / "schema.sql"):
+    for statement in statements_in(schema()):
         made.execute(statement)
     names = made.execute("SELECT name FROM sqlite_schema WHERE type = 'table' AND name GLOB 'raw_*'"
                          " ORDER BY 1").fetchall()

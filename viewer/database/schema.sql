@@ -3,13 +3,21 @@
 -- Since version 4, method and node_interface are new.
 -- Since version 5, command and uid of process, the names that begin with book, disagreement, side_call, side_unstacked,
 -- stack, finding_stack, service and node_service are, and the column service of record.
+-- needs: nothing
+-- makes: tables: raw_capture, raw_process, raw_thread, raw_frame, raw_record, raw_interface, raw_service, raw_object,
+--   raw_call, raw_generation, raw_send, raw_delivery, raw_level, side_device, side_process, side_thread, side_time,
+--   side_lost, interface, service, method, call_interface, object_interface, object_service, status, side_missed,
+--   side_calls, side_handle, book, book_opening, book_handle, book_node, book_buffer, book_call, disagreement,
+--   side_call, side_pc, side_map, side_unstacked, symbol, capture, report, finding; indexes: side_process_of_pid,
+--   side_thread_of_tid
+
 PRAGMA user_version = 6;
 
 -- ---- raw tables: the rows that `./listing --tables` writes, column by column
 --
--- docs/DATABASE.md has the form of a row. These tables may change; the views below may not. A change of a column, of
--- its meaning or of the order raises the layout. They are not STRICT: the loader has only whole numbers, and checking
--- each took a quarter of its time.
+-- docs/DATABASE.md has the form of a row. These tables may change; the views in views.sql may not. A change of a
+-- column, of its meaning or of the order raises the layout. They are not STRICT: the loader has only whole numbers, and
+-- checking each took a quarter of its time.
 --
 -- A column is present in every row unless it may be NULL. A place is the place of a record's code word unless said
 -- otherwise. A difference of two sequences is taken in 64 bits without a sign. Rows rise by the first column, in
@@ -253,7 +261,7 @@ CREATE TABLE side_calls(device INTEGER, process INTEGER, thread INTEGER, made IN
   served INTEGER NOT NULL, PRIMARY KEY(device, process, thread)) STRICT;
 CREATE TABLE side_handle(device INTEGER, process INTEGER, handle INTEGER, PRIMARY KEY(device, process, handle)) STRICT;
 -- The copies of the driver's books that are beside the side list, and what openings of the capture had in its book
--- `state`. Tables and columns are in docs/DATABASE.md; held.py fills them.
+-- `state`. Tables and columns are in docs/DATABASE.md; load_books.py fills them.
 CREATE TABLE book(moment TEXT NOT NULL, what TEXT NOT NULL, from_seq INTEGER NOT NULL, after INTEGER NOT NULL,
   ts INTEGER NOT NULL, PRIMARY KEY(moment, what)) STRICT;
 CREATE TABLE book_opening(moment TEXT NOT NULL, upid INTEGER NOT NULL, quiet INTEGER NOT NULL, deaths INTEGER NOT NULL,
@@ -294,201 +302,3 @@ CREATE TABLE finding(id INTEGER PRIMARY KEY, report INTEGER, section TEXT NOT NU
   seq INTEGER, upid INTEGER NOT NULL, utid INTEGER, handle INTEGER, code INTEGER, ptr INTEGER, cookie INTEGER,
   generation INTEGER, target INTEGER, path TEXT, n_all INTEGER, n_good INTEGER, longest_seq INTEGER, longest INTEGER,
   age_seq INTEGER, age INTEGER, later INTEGER, lead INTEGER, waiting INTEGER, rule TEXT, note TEXT) STRICT;
-
--- ---- the names of numbers. The files after this one use these names for the numbers: `:BR_REPLY` is 259.
-
-CREATE TABLE kind(number INTEGER PRIMARY KEY, name TEXT NOT NULL) STRICT;
-INSERT INTO kind VALUES (0, 'BC_TRANSACTION'), (1, 'BC_REPLY'), (2, 'BC_ACQUIRE_RESULT'), (3, 'BC_FREE_BUFFER'),
-  (4, 'BC_INCREFS'), (5, 'BC_ACQUIRE'), (6, 'BC_RELEASE'), (7, 'BC_DECREFS'), (8, 'BC_INCREFS_DONE'),
-  (9, 'BC_ACQUIRE_DONE'), (10, 'BC_ATTEMPT_ACQUIRE'), (11, 'BC_REGISTER_LOOPER'), (12, 'BC_ENTER_LOOPER'),
-  (13, 'BC_EXIT_LOOPER'), (14, 'BC_REQUEST_DEATH_NOTIFICATION'), (15, 'BC_CLEAR_DEATH_NOTIFICATION'),
-  (16, 'BC_DEAD_BINDER_DONE'), (17, 'BC_TRANSACTION_SG'), (18, 'BC_REPLY_SG'), (255, 'OPAQUE'), (256, 'BR_ERROR'),
-  (257, 'BR_OK'), (258, 'BR_TRANSACTION'), (259, 'BR_REPLY'), (260, 'BR_ACQUIRE_RESULT'), (261, 'BR_DEAD_REPLY'),
-  (262, 'BR_TRANSACTION_COMPLETE'), (263, 'BR_INCREFS'), (264, 'BR_ACQUIRE'), (265, 'BR_RELEASE'), (266, 'BR_DECREFS'),
-  (267, 'BR_ATTEMPT_ACQUIRE'), (268, 'BR_NOOP'), (269, 'BR_SPAWN_LOOPER'), (270, 'BR_FINISHED'),
-  (271, 'BR_DEAD_BINDER'), (272, 'BR_CLEAR_DEATH_NOTIFICATION_DONE'), (273, 'BR_FAILED_REPLY'),
-  (274, 'BR_FROZEN_REPLY'), (275, 'BR_ONEWAY_SPAM_SUSPECT'), (276, 'BR_TRANSACTION_PENDING_FROZEN'), (511, 'OPAQUE'),
-  (514, 'BR_TRANSACTION_SEC_CTX');
-CREATE TABLE sort(number INTEGER PRIMARY KEY, name TEXT NOT NULL) STRICT;
-INSERT INTO sort VALUES (0x73622a85, 'BINDER'), (0x77622a85, 'WEAK_BINDER'), (0x73682a85, 'HANDLE'),
-  (0x77682a85, 'WEAK_HANDLE'), (0x66642a85, 'FD'), (0x66646185, 'FDA'), (0x70742a85, 'PTR');
-CREATE TABLE flag(number INTEGER PRIMARY KEY, name TEXT NOT NULL) STRICT;
-INSERT INTO flag VALUES (0x01, 'TF_ONE_WAY'), (0x04, 'TF_ROOT_OBJECT'), (0x08, 'TF_STATUS_CODE'),
-  (0x10, 'TF_ACCEPT_FDS'), (0x20, 'TF_CLEAR_BUF'), (0x40, 'TF_UPDATE_TXN');
-CREATE TABLE cause(number INTEGER PRIMARY KEY, name TEXT NOT NULL) STRICT;
-INSERT INTO cause VALUES (1, 'ListLength'), (2, 'Misaligned'), (3, 'Overlap'), (4, 'Short'), (5, 'UnknownSort');
-CREATE TABLE verdict(number INTEGER PRIMARY KEY, name TEXT NOT NULL) STRICT;
-INSERT INTO verdict VALUES (0, 'open'), (1, 'answered'), (2, 'replied'), (3, 'failed'), (4, 'crossed');
-
--- ---- the views
-
-CREATE VIEW device AS
-SELECT DISTINCT p.device, s.name FROM raw_process p LEFT JOIN side_device s USING (device);
-
-CREATE VIEW process AS
-SELECT p.upid, p.device, p.process, coalesce(s.pid, iif(p.process < 4194304, p.process, NULL)) AS pid, s.name,
-  s.opening, s.met, s.opened, s.ended_after, s.ended, p.first_seq, p.last_seq, p.frames, s.command, s.uid
-FROM raw_process p LEFT JOIN side_process s USING (device, process);
-
-CREATE VIEW thread AS
-SELECT t.utid, t.upid, p.device, p.process, t.thread, coalesce(s.tid, iif(t.thread < 4194304, t.thread, NULL)) AS tid,
-  s.name, s.ended_after, s.ended, s.why, t.first_seq, t.last_seq, t.frames, t.last_record, t.last_write
-FROM raw_thread t JOIN raw_process p USING (upid) LEFT JOIN side_thread s USING (device, process, thread);
-
-CREATE VIEW frame AS
-SELECT f.seq, f.place, f.utid, t.upid, iif(f.direction = 1, 'write', 'read') AS direction, f.command_length,
-  f.attachment_length, f.records, x.ts
-FROM raw_frame f JOIN raw_thread t USING (utid) LEFT JOIN side_time x USING (seq);
-
-CREATE VIEW record AS
-SELECT r.place, r.seq, r.utid, t.upid, k.name AS kind, r.handle, r.ptr, r.cookie, r.address, r.code, r.flags,
-  r.flags & 1 AS oneway, r.sender_pid, r.sender_euid, r.data_size, r.offsets_size, r.offsets, r.extra, r.attachment,
-  r.value, x.ts, i.name AS interface, v.name AS service
-FROM raw_record r JOIN raw_thread t USING (utid) LEFT JOIN kind k ON k.number = r.kind
-  LEFT JOIN side_time x USING (seq) LEFT JOIN interface i ON i.id = r.interface
-  LEFT JOIN service v ON v.id = r.service;
-
-CREATE VIEW object AS
-SELECT o.place, o.idx, o.offset, s.name AS sort, o.flags, o.binder, o.handle, o.fd, o.cookie, o.num_fds, o.buffer,
-  o.length, o.parent, o.parent_offset, c.name AS bad
-FROM raw_object o LEFT JOIN sort s ON s.number = o.sort LEFT JOIN cause c ON c.number = o.bad;
-
--- The reply to the code _NTF, 0x5f4e5446, names the interface of the node that is asked.
-CREATE VIEW call AS
-SELECT c.place, c.seq, c.utid, t.upid, iif(c.served, 'served', 'made') AS side, c.depth, c.parent, r.code, r.flags,
-  r.handle, s.generation, r.ptr, r.cookie, r.sender_pid, r.data_size, v.name AS verdict, c.closer,
-  c.seq + c.dur_seq AS closer_seq, c.dur_seq, b.ts, z.ts - b.ts AS dur, s.delivery, s.certain, i.name AS interface
-FROM raw_call c JOIN raw_thread t USING (utid) JOIN raw_record r USING (place)
-  LEFT JOIN verdict v ON v.number = c.verdict LEFT JOIN raw_send s ON s.place = c.place
-  LEFT JOIN side_time b ON b.seq = c.seq LEFT JOIN side_time z ON z.seq = c.seq + c.dur_seq
-  LEFT JOIN raw_record a ON a.place = iif(r.code = 0x5f4e5446, c.closer, NULL)
-  LEFT JOIN interface i ON i.id = coalesce(r.interface, a.interface);
-
-CREATE VIEW handle AS
-SELECT g.id AS generation, g.upid, g.handle, g.n, g.begin, g.end, g.given_by, g.held_since, g.strong, g.weak,
-  g.held_strong, g.held_weak, g.acquired, g.released, g.increfs, g.decrefs
-FROM raw_generation g;
-
-CREATE VIEW send AS
-SELECT s.place, s.seq, s.utid, t.upid, k.name AS kind, r.handle, s.generation, r.code, r.flags, r.flags & 1 AS oneway,
-  r.data_size,
-  CASE WHEN s.refused IS NOT NULL THEN 'refused' WHEN s.delivery IS NOT NULL THEN 'delivered'
-    WHEN s.confirmed IS NOT NULL THEN 'confirmed' ELSE 'unknown' END AS outcome,
-  s.confirmed, s.refused, s.delivery, s.certain, s.fits, x.ts, i.name AS interface
-FROM raw_send s JOIN raw_thread t USING (utid) JOIN raw_record r USING (place) LEFT JOIN kind k ON k.number = r.kind
-  LEFT JOIN side_time x ON x.seq = s.seq
-  LEFT JOIN interface i ON i.id = iif(r.kind IN (1, 18), NULL, r.interface);
-
--- The code, the handle and the interface of a BR_REPLY are those of the call that it answers.
-CREATE VIEW delivery AS
-SELECT d.place, d.seq, d.utid, t.upid, k.name AS kind, r.address, r.data_size,
-  iif(r.kind = 259, c.code, r.code) AS code, iif(r.kind = 259, c.handle, NULL) AS handle, r.ptr, r.cookie,
-  iif(r.kind = 259, 0, r.flags & 1) AS oneway, d.call, d.send, d.freed_by, f.utid AS freed_by_utid, d.dur_seq, d.held,
-  b.ts, z.ts - b.ts AS dur, i.name AS interface
-FROM raw_delivery d JOIN raw_thread t USING (utid) JOIN raw_record r USING (place)
-  LEFT JOIN kind k ON k.number = r.kind LEFT JOIN raw_record c ON c.place = d.call
-  LEFT JOIN raw_record f ON f.place = d.freed_by LEFT JOIN side_time b ON b.seq = d.seq
-  LEFT JOIN side_time z ON z.seq = d.seq + d.dur_seq
-  LEFT JOIN interface i ON i.id = iif(r.kind = 259, c.interface, r.interface);
-
-CREATE VIEW level AS SELECT upid, slice, buffers, bytes, refs, calls, served FROM raw_level;
-
--- Each reference that is taken or let go, with the counts after it. The report counts in the same way.
-CREATE VIEW reference AS
-SELECT r.place, r.seq, r.utid, t.upid, r.handle, k.name AS kind,
-  sum((r.kind = 5) - (r.kind = 6)) OVER changes AS strong, sum((r.kind = 4) - (r.kind = 7)) OVER changes AS weak
-FROM raw_record r JOIN raw_thread t USING (utid) JOIN kind k ON k.number = r.kind
-WHERE r.kind BETWEEN 4 AND 7
-WINDOW changes AS (PARTITION BY t.upid, r.handle ORDER BY r.place ROWS UNBOUNDED PRECEDING);
-
--- A row is a line of `./listing`.
-CREATE VIEW listing AS
-SELECT r.place, r.seq, p.device, p.process, t.thread, k.name AS kind, r.handle, printf('0x%x', r.ptr) AS ptr,
-  printf('0x%x', r.cookie) AS cookie, r.code, r.flags, r.sender_pid, r.data_size, printf('0x%x', r.address) AS address,
-  i.name AS interface
-FROM raw_record r JOIN raw_thread t USING (utid) JOIN raw_process p USING (upid) LEFT JOIN kind k ON k.number = r.kind
-  LEFT JOIN interface i ON i.id = iif(r.kind IN (1, 18, 259), NULL, r.interface);
-
--- Which node each transaction reached; and to which one each was sent, or if that is not known, to which handle, with
--- the process that sent it.
-CREATE VIEW came_to AS
-SELECT d.place, r.code, t.upid, r.ptr, r.interface
-FROM raw_delivery d JOIN raw_record r USING (place) JOIN raw_thread t ON t.utid = d.utid WHERE r.kind <> 259;
-CREATE VIEW sent_to AS
-SELECT s.place, r.code, coalesce(n.upid, -g.upid) AS upid, coalesce(n.ptr, r.handle) AS ptr, r.interface
-FROM raw_send s JOIN raw_record r USING (place) JOIN raw_generation g ON g.id = s.generation
-  LEFT JOIN node_of n ON n.generation = s.generation;
-
-CREATE VIEW node_interface AS
-SELECT o.upid, o.ptr, i.name AS interface, o.n, o.others
-FROM object_interface o JOIN interface i ON i.id = o.interface WHERE o.upid > 0;
-
--- The frames of the stacks. The map of a frame is that of the call from which its function returns to pc.
-CREATE VIEW stack AS
-SELECT f.stack, f.idx, coalesce(y.inlined, 0) AS inlined, f.pid, f.pc, f.path, f.build_id, f.address, y.function,
-  y.source
-FROM (SELECT p.stack, p.idx, p.pid, p.pc, m.path, m.build_id,
-    CAST(m.address + (p.pc - m.start) AS INTEGER) AS address
-  FROM side_pc p LEFT JOIN side_map m ON m.memory = p.memory AND m.end >= p.pc
-    AND m.start = (SELECT max(start) FROM side_map x WHERE x.memory = p.memory AND x.start < p.pc)) f
-  LEFT JOIN symbol y ON y.build_id = f.build_id AND y.address = f.address;
-
-CREATE VIEW node_service AS
-SELECT o.upid, o.ptr, v.name AS service, x.interface, o.registered, o.n, o.others,
-  iif(o.registered IS NULL, 'inferred', 'bytes') AS rests_on
-FROM object_service o LEFT JOIN service v ON v.id = o.service LEFT JOIN node_interface x USING (upid, ptr)
-WHERE o.upid > 0;
-
--- ---- what each name rests on
-
-CREATE TABLE about(name TEXT PRIMARY KEY, rests_on TEXT NOT NULL
-  CHECK (rests_on IN ('bytes', 'rule', 'proved', 'side', 'inferred')), text TEXT NOT NULL) STRICT;
-INSERT INTO about VALUES
-  ('capture', 'bytes', 'what the capture is: a key and a value each'),
-  ('device', 'side', 'a Binder device of the capture; its name is from the side list'),
-  ('process', 'side',
-    'a device and a process number, as upid; pid, name, command, uid, opening, ends: of the side list'),
-  ('thread', 'side', 'a thread of a process, as utid; tid, name and end are from the side list'),
-  ('side_lost', 'side', 'a frame that the recorder lost, and why'),
-  ('side_missed', 'side', 'what the recorder missed without giving it a number, of whatever process'),
-  ('side_calls', 'side', 'the calls of a thread that were open before the first file'),
-  ('side_handle', 'side', 'a handle that a process had met before the first file'),
-  ('book', 'side', 'a copy of one of the driver''s books, and which frames came before and while it was made'),
-  ('book_opening', 'side', 'an opening in such a copy, and the deaths and clears that wait there'),
-  ('book_handle', 'side', 'a handle of an opening in such a copy; its node is NULL if its process is not known'),
-  ('book_node', 'side', 'an object of an opening in such a copy'),
-  ('book_buffer', 'side', 'a buffer of an opening in such a copy'),
-  ('book_call', 'side', 'a call that a thread had open in such a copy'),
-  ('disagreement', 'inferred', 'where the report and the books at the end differ'),
-  ('side_call', 'side', 'the stack of the call that wrote a frame'),
-  ('side_unstacked', 'side', 'stacks that the recorder did not have, and why'),
-  ('stack', 'side', 'the frames of a stack; function and source are from the files of --symbols'),
-  ('frame', 'bytes', 'what one call wrote or read; ts, in nanoseconds, is from the side list'),
-  ('record', 'bytes', 'a record, with its fields by the names of binder.h; a field that it has not is NULL'),
-  ('object', 'bytes', 'an object of an attachment, up to the first bad one'),
-  ('interface', 'bytes', 'the name of an interface that a record has in its data'),
-  ('service', 'bytes', 'the name of a service that a record has in its data'),
-  ('method', 'inferred', 'a method of an interface, by the files of --methods, or built in; source says where'),
-  ('node_interface', 'inferred', 'the interface that most calls to a node name'),
-  ('node_service', 'inferred', 'a node that is a service, and its name; rests_on says whether bytes say so'),
-  ('listing', 'bytes', 'a line of ./listing'),
-  ('call', 'rule', 'a call, by the rules of REPORT.md; place, closer and verdict are proved for the list of its thread;'
-    || ' delivery is inferred'),
-  ('delivery', 'rule', 'a buffer that a process got; place and freed_by, which gave it back, are proved for the list of'
-    || ' deliveries and frees; send is inferred'),
-  ('reference', 'rule', 'a reference that is taken or let go, with the counts after it'),
-  ('level', 'rule', 'what each process holds at most in each of 16 slices'),
-  ('status', 'bytes', 'the number of a BR_REPLY with TF_STATUS_CODE'),
-  ('report', 'proved', 'the report, row by row and word by word; section head has its heads'),
-  ('handle', 'inferred', 'a generation of a handle: a span in which it means one object, as its references tell;'
-    || ' acquired to decrefs, strong and weak are proved for the list of its records'),
-  ('send', 'inferred', 'a transaction or reply that was sent, and what became of it'),
-  ('who', 'side', 'the name and the number of a process'),
-  ('peer', 'inferred', 'the nodes that a generation of a handle was seen to lead to'),
-  ('node_of', 'inferred', 'the one of them that is taken'),
-  ('finding_head', 'inferred', 'which group a finding is in'),
-  ('finding_stack', 'inferred', 'the stacks that tell of a finding, the first one by n first, and whose they are'),
-  ('finding', 'inferred', 'a row of the report, or a oneway send that never came, with the rule that judged it'),
-  ('finding_group', 'inferred', 'findings of one path in one line: n of all'),
-  ('rule', 'inferred', 'the rules: id, verdict, and one sentence of why'),
-  ('traffic', 'inferred', 'who talks to whom: a generation of a handle, a code, and how much');

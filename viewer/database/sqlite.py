@@ -4,23 +4,33 @@ import functools
 import pathlib
 import sqlite3
 
+# Numbers that have a name in statements and are in no table: the direction of a write, the code to which an object
+# answers with its interface, and the first number that can't be of a process or a thread of Linux: `./record` gives
+# such numbers where the system's is taken.
+UNLISTED = {"WRITE": "1", "_NTF": "0x5f4e5446", "NO_PID": "4194304"}
 
-@functools.cache
-def statements_of(path: pathlib.Path) -> tuple[str, ...]:
-    """The SQL statements of a file, one after another."""
+
+def statements_in(text: str) -> list[str]:
+    """The SQL statements of a text, one after another."""
     found, statement = [], ""
-    for line in path.read_text().splitlines(keepends=True):
+    for line in text.splitlines(keepends=True):
         statement += line
         if sqlite3.complete_statement(statement):
             found.append(statement)
             statement = ""
-    return tuple(found)
+    return found
+
+
+@functools.cache
+def statements_of(path: pathlib.Path) -> list[str]:
+    return statements_in(path.read_text())
 
 
 def named_numbers(database: sqlite3.Connection) -> dict[str, int]:
-    """The numbers that statements use by name: kinds of records, sorts of objects and flags."""
-    return dict(database.execute("SELECT name, number FROM kind WHERE name <> 'OPAQUE'"
-                                 " UNION ALL SELECT name, number FROM sort UNION ALL SELECT name, number FROM flag"))
+    """The numbers that statements use by name: kinds of records, sorts of objects, flags, and some more."""
+    named = database.execute("SELECT name, number FROM kind WHERE name <> 'OPAQUE'"
+                             " UNION ALL SELECT name, number FROM sort UNION ALL SELECT name, number FROM flag")
+    return {**dict(named), **{name: int(number, 0) for name, number in UNLISTED.items()}}
 
 
 def open_database(path: pathlib.Path) -> sqlite3.Connection:

@@ -1,6 +1,9 @@
 -- How long each finding has lasted, what its thread did after it, and whether it ended with its thread or process.
--- Times are used if the side list has them, and frames otherwise. After facts.sql.
-BEGIN;
+-- Times are used if the side list has them, and frames otherwise.
+-- needs: database/schema.sql: book, book_opening, capture, finding, raw_call, raw_capture, raw_delivery, raw_frame,
+--   raw_record, raw_thread, side_time; database/views.sql: process, thread
+-- makes: temporary tables: last, process_life, begun, life, usual, old, ended, leaving; indexes: life_of_process,
+--   begun_process, life_of_thread, old_finding, ended_finding, leaving_finding
 
 -- ---- how long: to the end of its thread, its process or the capture
 
@@ -38,36 +41,37 @@ UPDATE finding SET
 FROM last, life l, process_life p
 WHERE l.utid = finding.utid AND p.upid = iif(section = 'oneway', finding.target, finding.upid);
 
--- later: how many calls its thread began after it, at most 4. All that a thread does after an open call is within that
--- call, so a call counts if it is no deeper than a call that would begin at the finding. For what is not a transaction,
--- write frames count: those among the next 2,000 frames, or one if the thread wrote only after these.
+-- later: how many calls its thread began after it, at most :MOST_LATER. All that a thread does after an open call is
+-- within that call, so a call counts if it is no deeper than a call that would begin at the finding. For what is not a
+-- transaction, write frames count: those among the next :FRAMES_AHEAD, or one if the thread wrote only after these.
 UPDATE finding SET later = (SELECT count(*) FROM (SELECT 1 FROM (SELECT depth FROM raw_call c
-  WHERE c.utid = finding.utid AND c.place > finding.place ORDER BY c.place LIMIT 64) c WHERE c.depth <= coalesce(
+  WHERE c.utid = finding.utid AND c.place > finding.place ORDER BY c.place LIMIT :CALLS_AHEAD) c
+  WHERE c.depth <= coalesce(
     (SELECT o.depth FROM raw_delivery d JOIN raw_call o ON o.place = d.call WHERE d.place = finding.place),
     (SELECT o.depth + (o.closer IS NULL OR o.closer > finding.place) FROM raw_call o WHERE o.utid = finding.utid
-      AND o.place < finding.place ORDER BY o.place DESC LIMIT 1), 1) LIMIT 4))
+      AND o.place < finding.place ORDER BY o.place DESC LIMIT 1), 1) LIMIT :MOST_LATER))
 WHERE section IN ('calls', 'served', 'buffers');
 UPDATE finding SET later = max(coalesce(later, 0), iif(t.last_write > finding.place, max(1, (SELECT count(*) FROM (
-    SELECT 1 FROM raw_frame f WHERE f.seq > finding.seq AND f.seq <= finding.seq + 2000 AND f.utid = finding.utid
-      AND f.direction = 1 AND f.records > 0 LIMIT 4))), 0))
+    SELECT 1 FROM raw_frame f WHERE f.seq > finding.seq AND f.seq <= finding.seq + :FRAMES_AHEAD
+      AND f.utid = finding.utid AND f.direction = :WRITE AND f.records > 0 LIMIT :MOST_LATER))), 0))
 FROM raw_thread t
 WHERE t.utid = finding.utid AND section NOT IN ('calls', 'served')
   AND (later IS NULL OR EXISTS (SELECT 1 FROM raw_record r
     WHERE r.place = finding.place AND r.kind IN (:BR_TRANSACTION, :BR_TRANSACTION_SEC_CTX) AND r.flags & :TF_ONE_WAY));
 
--- What is old: older than ten times the longest of its path or, if there is none, ten times the median of all buffers
--- or calls, of which some 10,000 are looked at; and older than 0.1 s.
+-- What is old: older than :OLD times the longest of its path or, if there is none, the median of all buffers or calls,
+-- of which some :SAMPLE are looked at; and older than :LONG.
 CREATE TEMP TABLE usual AS
 WITH held AS (SELECT z.ts - x.ts AS dur FROM raw_delivery d JOIN side_time x ON x.seq = d.seq
     JOIN side_time z ON z.seq = d.seq + d.dur_seq
-    WHERE d.place / 4 % (SELECT 1 + count(*) / 10000 FROM raw_delivery) = 0 ORDER BY dur),
+    WHERE d.place / 4 % (SELECT 1 + count(*) / :SAMPLE FROM raw_delivery) = 0 ORDER BY dur),
   called AS (SELECT z.ts - x.ts AS dur FROM raw_call c JOIN side_time x ON x.seq = c.seq
     JOIN side_time z ON z.seq = c.seq + c.dur_seq
-    WHERE c.verdict IN (1, 2) AND c.place / 4 % (SELECT 1 + count(*) / 10000 FROM raw_call) = 0 ORDER BY dur)
+    WHERE c.verdict IN (1, 2) AND c.place / 4 % (SELECT 1 + count(*) / :SAMPLE FROM raw_call) = 0 ORDER BY dur)
 SELECT 'buffers' AS section, (SELECT dur FROM held LIMIT 1 OFFSET (SELECT count(*) / 2 FROM held)) AS dur
 UNION ALL SELECT 'calls', (SELECT dur FROM called LIMIT 1 OFFSET (SELECT count(*) / 2 FROM called));
 CREATE TEMP TABLE old AS
-SELECT f.id FROM finding f WHERE f.age > max(100000000, 10 * coalesce(f.longest, (SELECT dur FROM usual u
+SELECT f.id FROM finding f WHERE f.age > max(:LONG, :OLD * coalesce(f.longest, (SELECT dur FROM usual u
   WHERE u.section = iif(f.section = 'served', 'calls', f.section)), 0));
 CREATE UNIQUE INDEX temp.old_finding ON old(id);
 -- What ended with its thread or process, and was not old then.
@@ -76,13 +80,11 @@ SELECT f.id FROM finding f JOIN life l USING (utid)
   JOIN process_life p ON p.upid = iif(section = 'oneway', f.target, f.upid)
 WHERE iif(section = 'oneway', p.ended_after, l.ended_after) IS NOT NULL AND f.id NOT IN (SELECT id FROM old);
 CREATE UNIQUE INDEX temp.ended_finding ON ended(id);
--- What a process leaves undone within 0.1 s of its end: the driver drops all that is for a process with it, and what a
+-- What a process leaves undone within :LONG of its end: the driver drops all that is for a process with it, and what a
 -- thread had still to read of clears and nodes with the thread.
 CREATE TEMP TABLE leaving AS
 SELECT f.id FROM finding f JOIN process_life p USING (upid) LEFT JOIN life l USING (utid)
-WHERE f.section IN ('buffers', 'deaths') AND p.ended_after NOTNULL AND f.age <= 100000000
+WHERE f.section IN ('buffers', 'deaths') AND p.ended_after NOTNULL AND f.age <= :LONG
   OR f.section IN ('nodes', 'clears') AND l.ended_after NOTNULL
-    AND l.ended - (SELECT ts FROM side_time x WHERE x.seq = f.seq) <= 100000000;
+    AND l.ended - (SELECT ts FROM side_time x WHERE x.seq = f.seq) <= :LONG;
 CREATE UNIQUE INDEX temp.leaving_finding ON leaving(id);
-
-COMMIT;

@@ -78,7 +78,7 @@ SELECT upid, 'request for handle ' || handle, max(report), max(books) FROM (
   UNION ALL SELECT upid, handle, 0, 1 FROM book_handle b WHERE moment = 'end' AND requested
     AND coalesce((SELECT max(place) FROM dead_record q WHERE (q.upid, q.handle) = (b.upid, b.handle)
         AND q.kind = :BC_REQUEST_DEATH_NOTIFICATION)
-      > coalesce((SELECT max(place) FROM told t WHERE (t.upid, t.handle) = (b.upid, b.handle)), -1),
+      > coalesce((SELECT max(place) FROM told_death t WHERE (t.upid, t.handle) = (b.upid, b.handle)), -1),
       NOT EXISTS (SELECT 1 FROM book_handle x WHERE x.moment = 'begin' AND (x.upid, x.handle) = (b.upid, b.handle)
         AND x.requested)))
 GROUP BY upid, handle"""}

@@ -1,6 +1,11 @@
 -- What is known of each finding: what its record says, which node its handle leads to, its path, and how many took that
--- path. rules.sql judges it. After nodes.sql.
-BEGIN;
+-- path.
+-- needs: database/schema.sql: finding, raw_call, raw_delivery, raw_generation, raw_record, raw_send, raw_thread,
+--   report, side_time, status; database/views.sql: delivery; nodes.sql: manager, node_of, who; judging.py: call_name,
+--   object_name, service_name, status_name
+-- makes: temporary tables: dead_record, told_death, asked, buffer_path, buffer_text, send_path, given, given_way,
+--   object_of, answered, answered_name; indexes: dead_cookie, dead_handle, dead_place, told_generation, asked_node,
+--   given_generation, object_of_generation
 
 -- ---- findings that are not rows of the report
 
@@ -36,13 +41,13 @@ CREATE INDEX temp.dead_cookie ON dead_record(upid, cookie, kind, place);
 CREATE INDEX temp.dead_handle ON dead_record(upid, handle, kind, place);
 CREATE UNIQUE INDEX temp.dead_place ON dead_record(place);
 -- The deaths that were reported to a process, each with the generation that the latest request with its cookie names.
-CREATE TEMP TABLE told AS
+CREATE TEMP TABLE told_death AS
 SELECT d.place, d.upid, d.cookie, q.handle, (SELECT g.id FROM raw_generation g WHERE g.upid = q.upid
   AND g.handle = q.handle AND g.begin <= q.place ORDER BY g.begin DESC LIMIT 1) AS generation
 FROM dead_record d JOIN dead_record q ON q.place = (SELECT max(x.place) FROM dead_record x WHERE x.upid = d.upid
   AND x.cookie = d.cookie AND x.kind = :BC_REQUEST_DEATH_NOTIFICATION AND x.place < d.place)
 WHERE d.kind = :BR_DEAD_BINDER;
-CREATE INDEX temp.told_generation ON told(generation);
+CREATE INDEX temp.told_generation ON told_death(generation);
 
 -- For a handle: the generation that is held, or else the last one; and the place where it was taken or given.
 UPDATE finding SET generation = (SELECT g.id FROM raw_generation g WHERE g.upid = finding.upid
@@ -77,7 +82,7 @@ UPDATE finding SET code = r.code, ptr = r.ptr, cookie = r.cookie FROM raw_call c
 WHERE c.served AND c.closer = finding.place AND section = 'objects' AND c.utid = finding.utid;
 UPDATE finding SET cookie = d.cookie, handle = coalesce(d.handle, finding.handle) FROM dead_record d
 WHERE d.place = finding.place AND section IN ('requests', 'deaths', 'clears');
-UPDATE finding SET handle = t.handle, generation = t.generation FROM told t
+UPDATE finding SET handle = t.handle, generation = t.generation FROM told_death t
 WHERE t.place = finding.place AND section = 'deaths';
 UPDATE finding SET generation = (SELECT g.id FROM raw_generation g WHERE g.upid = finding.upid
   AND g.handle = finding.handle AND g.begin <= finding.place ORDER BY g.begin DESC LIMIT 1)
@@ -217,5 +222,3 @@ FROM object_of o, answered a JOIN answered_name b ON (b.code, b.name) = (a.code,
   status x JOIN raw_delivery d USING (place)
 WHERE section = 'answers' AND o.generation = finding.generation AND a.name = o.name AND a.code = finding.code
   AND d.call = finding.place;
-
-COMMIT;

@@ -1,5 +1,8 @@
--- Findings in groups, and who talks to whom: what the page shows first. After rules.sql.
-BEGIN;
+-- Findings in groups, and who talks to whom: what the page shows first.
+-- needs: database/schema.sql: finding, raw_call, raw_delivery, raw_generation, raw_record, raw_send, side_time;
+--   database/views.sql: process; nodes.sql: node_of, who; rule.sql: rule; judging.py: likeness, without_methods
+-- makes: tables: title, finding_head, finding_group, traffic; temporary tables: named, ranked, common, paths; indexes:
+--   head_of_group, ranked_group, common_of, paths_of
 
 -- The title of a finding: by its rule, or by its section and what it is in that section.
 CREATE TABLE title(rule TEXT, section TEXT, what TEXT, title TEXT NOT NULL) STRICT;
@@ -92,7 +95,7 @@ CREATE TABLE traffic(upid INTEGER NOT NULL, handle INTEGER NOT NULL, generation 
 INSERT INTO traffic
 SELECT x.upid, x.handle, x.generation, x.code, x.oneway, x.sends, x.failed, x.refused, x.open, x.bytes, x.delivered,
   x.one_fits, x.buffers, x.peak, x.longest_seq, n.upid, n.ptr, n.cookie, x.longest
-FROM (SELECT g.upid, g.handle, s.generation, r.code, r.flags & 1 AS oneway, count(*) AS sends,
+FROM (SELECT g.upid, g.handle, s.generation, r.code, r.flags & :TF_ONE_WAY AS oneway, count(*) AS sends,
     sum(coalesce(c.verdict = 3, 0) OR s.refused NOTNULL) AS failed, count(s.refused) AS refused,
     coalesce(sum(c.verdict = 0), 0) AS open,
     CAST(min(total(r.data_size), 9e18) AS INTEGER) AS bytes, count(s.delivery) AS delivered,
@@ -102,6 +105,4 @@ FROM (SELECT g.upid, g.handle, s.generation, r.code, r.flags & 1 AS oneway, coun
   FROM raw_send s JOIN raw_record r USING (place) JOIN raw_generation g ON g.id = s.generation
     LEFT JOIN raw_call c USING (place) LEFT JOIN raw_delivery d ON d.place = s.delivery
     LEFT JOIN side_time b ON b.seq = c.seq LEFT JOIN side_time z ON z.seq = c.seq + c.dur_seq
-  GROUP BY s.generation, r.code, r.flags & 1) x LEFT JOIN node_of n ON n.generation = x.generation;
-
-COMMIT;
+  GROUP BY s.generation, r.code, r.flags & :TF_ONE_WAY) x LEFT JOIN node_of n ON n.generation = x.generation;

@@ -1,6 +1,8 @@
 -- Which interfaces calls name: those of each code at each node, and those of each node; and under which names nodes are
--- registered as services. After nodes.sql.
-BEGIN;
+-- registered as services.
+-- needs: database/schema.sql: call_interface, interface, object_interface, object_service, raw_call, raw_generation,
+--   raw_object, raw_record, raw_thread, service; database/views.sql: came_to, sent_to; nodes.sql: node_of
+-- makes: temporary tables: naming, told_name, to_manager, is_service
 
 -- How many records of each code and node name an interface; of a handle whose node is not known, its process with a
 -- minus in place of the node's, and the handle in place of its ptr. The driver knows a node of a process by its ptr.
@@ -12,7 +14,7 @@ FROM (SELECT code, upid, ptr, interface FROM came_to WHERE interface NOTNULL
 WHERE EXISTS (SELECT 1 FROM interface) GROUP BY 1, 2, 3, 4;
 CREATE TEMP TABLE told_name AS
 SELECT r.place, b.interface FROM raw_record r JOIN raw_call c USING (place) JOIN raw_record b ON b.place = c.closer
-WHERE r.code = 0x5f4e5446 AND b.interface NOTNULL AND EXISTS (SELECT 1 FROM interface);
+WHERE r.code = :_NTF AND b.interface NOTNULL AND EXISTS (SELECT 1 FROM interface);
 INSERT INTO naming
 SELECT NULL, a.upid, a.ptr, t.interface, count(*)
 FROM (SELECT place, upid, ptr FROM told_name JOIN came_to USING (place)
@@ -75,5 +77,3 @@ FROM (SELECT upid, ptr, service, min(registered) AS registered, count(*) AS n,
       ORDER BY min(registered) IS NULL, min(registered), count(*) DESC, min(place)) AS nth
   FROM is_service GROUP BY 1, 2, 3)
 WHERE nth = 1;
-
-COMMIT;

@@ -1,5 +1,9 @@
 -- Which node each generation of a handle leads to: who talks to whom.
-BEGIN;
+-- needs: database/schema.sql: book_handle, raw_call, raw_delivery, raw_generation, raw_object, raw_process, raw_record,
+--   raw_send, raw_thread, side_device; database/views.sql: device, process
+-- makes: tables: who, peer, node_of; temporary tables: handed, passed_on, misled, alike, between_two, sent_again,
+--   got_again, paired, manager; indexes: call_of_thread, object_of_record, send_refused, generation_of_handle,
+--   passed_on_from, paired_delivery
 
 -- ---- indexes: a query below, or one of the page, was slow without them
 
@@ -56,7 +60,7 @@ INSERT INTO node_of
 WITH RECURSIVE way(generation, upid, ptr, cookie, steps) AS (
   SELECT p.generation, n.upid, n.ptr, n.cookie, 1 FROM passed_on p JOIN node_of n ON n.generation = p.of
   UNION ALL SELECT p.generation, w.upid, w.ptr, w.cookie, w.steps + 1 FROM way w JOIN passed_on p ON p.of = w.generation
-  WHERE w.steps < 8)
+  WHERE w.steps < :STEPS)
 SELECT generation, w.upid, w.ptr, w.cookie, 1 FROM way w JOIN handed h USING (generation)
 WHERE h.certain AND generation NOT IN (SELECT generation FROM node_of) GROUP BY generation;
 
@@ -130,5 +134,3 @@ WHERE g.handle = 0 AND g.id NOT IN (SELECT generation FROM node_of);
 
 CREATE TEMP TABLE manager AS
 SELECT DISTINCT n.upid FROM node_of n JOIN raw_generation g ON g.id = n.generation WHERE g.handle = 0;
-
-COMMIT;

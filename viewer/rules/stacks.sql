@@ -1,8 +1,9 @@
 -- Which stacks tell of a finding, and whose they are: first that of the call that its record comes of, then that of the
 -- call that wrote its record. A record that was read has no stack of its own, and what libbinder has to say of handles
--- and buffers its threads write later, in whatever call comes next. After groups.sql, and after rules.sql for
--- `dead_record`.
-BEGIN;
+-- and buffers its threads write later, in whatever call comes next.
+-- needs: database/schema.sql: finding, raw_call, raw_delivery, raw_generation, raw_object, raw_record, raw_send,
+--   raw_thread, side_call; facts.sql: dead_record
+-- makes: tables: finding_stack; temporary tables: tells
 
 CREATE TEMP TABLE tells AS
 -- A handle: the call whose reply gave it, or the send of another process that did.
@@ -42,5 +43,3 @@ CREATE TABLE finding_stack(id INTEGER, n INTEGER, place INTEGER NOT NULL, seq IN
 INSERT INTO finding_stack
 SELECT t.id, row_number() OVER (PARTITION BY t.id ORDER BY t.n), t.place, r.seq, c.stack, t.whose
 FROM tells t JOIN raw_record r USING (place) JOIN side_call c ON c.seq = r.seq;
-
-COMMIT;

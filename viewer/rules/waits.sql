@@ -1,5 +1,10 @@
--- What open calls wait for, and what the threads do that could take them. After ages.sql.
-BEGIN;
+-- What open calls wait for, and what the threads do that could take them.
+-- needs: database/schema.sql: book_call, finding, raw_call, raw_process, raw_record, raw_send, raw_thread, side_calls,
+--   side_thread, side_time; database/views.sql: came_to, process, sent_to, thread; ages.sql: last, life, process_life;
+--   judging.py: call_name, duration
+-- makes: temporary tables: waits, few, waits_for, main_thread, ring, serves_on, queued, loop, taker, taken, holder,
+--   pool, full_pool, step, waited; indexes: waits_thread, waits_server, waits_delivery, next_wait, queued_at, pool_of,
+--   full_pool_of, step_from, waited_for
 
 -- Open calls, and what they wait for: the innermost call that the thread that got the call has made since; or, for a
 -- call that nobody got, the calls of the process that should get it. A call back to a process that waits for this very
@@ -13,7 +18,7 @@ WHERE f.section = 'calls' AND f.what = 'open';
 CREATE INDEX temp.waits_thread ON waits(utid, place);
 CREATE INDEX temp.waits_server ON waits(server, upid);
 CREATE INDEX temp.waits_delivery ON waits(delivery);
-CREATE TEMP TABLE few AS SELECT upid FROM waits GROUP BY upid HAVING count(*) <= 16;
+CREATE TEMP TABLE few AS SELECT upid FROM waits GROUP BY upid HAVING count(*) <= :FEW;
 CREATE TEMP TABLE waits_for AS
 SELECT w.id, (SELECT n.id FROM waits n WHERE n.utid = w.server AND n.place > w.delivery ORDER BY n.place DESC LIMIT 1)
   AS next, 0 AS by_main
@@ -34,7 +39,7 @@ WHERE w.replied = 0 AND w.server <> m.utid AND w.id NOT IN (SELECT id FROM waits
 CREATE INDEX temp.next_wait ON waits_for(id);
 CREATE TEMP TABLE ring AS
 WITH RECURSIVE chain(id, at, length) AS (SELECT id, id, 0 FROM waits
-  UNION SELECT c.id, n.next, c.length + 1 FROM chain c JOIN waits_for n ON n.id = c.at WHERE c.length < 8)
+  UNION SELECT c.id, n.next, c.length + 1 FROM chain c JOIN waits_for n ON n.id = c.at WHERE c.length < :STEPS)
 SELECT DISTINCT w.id FROM chain c JOIN waits w ON w.id = c.id JOIN waits e ON e.id = c.at
 WHERE c.length > 0 AND e.server_upid = w.upid AND (e.delivery IS NULL OR e.server <> w.utid
   AND e.replied = 0 AND w.utid IN (SELECT utid FROM main_thread));
@@ -138,5 +143,3 @@ SELECT r.at AS id, sum(b.n - (r.begin IN (SELECT -q.upid FROM queued q WHERE q.i
 FROM reach r JOIN begin b ON b.id = r.begin
 WHERE r.at > 0 AND r.at <> r.begin GROUP BY 1;
 CREATE UNIQUE INDEX temp.waited_for ON waited(id);
-
-COMMIT;

@@ -2,15 +2,19 @@
 -- most come first. Of its buffers, how much space the driver has given for data and offsets, each rounded up to 8
 -- bytes, and how much of this for oneway transactions. After its end a process holds nothing, and a call ends with its
 -- thread. ?1: the most rows.
+-- needs: database/schema.sql: raw_call, raw_capture, raw_delivery, raw_generation, raw_level, raw_record, raw_thread;
+--   database/numbers.sql: flag, kind; database/views.sql: process, thread
+-- makes: columns: upid, ended, space, oneway_space, buffers, buffers_left, bytes, bytes_left, refs, refs_left, calls,
+--   calls_left, served, served_left
 WITH lived AS MATERIALIZED (SELECT p.upid, iif(p.ended_after <= c.last_seq, p.ended_after, NULL) AS ended_after,
     (p.ended_after - c.first_seq) * 16 / (c.last_seq - c.first_seq + 1) AS slice FROM process p, raw_capture c),
   left_over AS MATERIALIZED (
     SELECT upid, count(*) AS buffers, min(total(data_size), 9e18) AS bytes, min(total(space), 9e18) AS space,
       min(total(iif(oneway, space, 0)), 9e18) AS oneway
-    FROM (SELECT t.upid, r.data_size, k.name <> 'BR_REPLY' AND r.flags & 1 AS oneway,
+    FROM (SELECT t.upid, r.data_size, k.name <> 'BR_REPLY' AND r.flags & f.number AS oneway,
         max(8, (r.data_size + 7) / 8 * 8 + (r.offsets_size + 7) / 8 * 8) AS space
       FROM raw_delivery d JOIN raw_record r USING (place) JOIN raw_thread t ON t.utid = d.utid
-        JOIN kind k ON k.number = r.kind
+        JOIN kind k ON k.number = r.kind JOIN flag f ON f.name = 'TF_ONE_WAY'
       WHERE d.freed_by IS NULL) GROUP BY 1),
   calling AS MATERIALIZED (
     SELECT t.upid, sum(NOT c.served) AS calls, sum(c.served) AS served FROM raw_call c JOIN thread t USING (utid)
@@ -21,13 +25,13 @@ WITH lived AS MATERIALIZED (SELECT p.upid, iif(p.ended_after <= c.last_seq, p.en
   levels AS (SELECT l.upid, l.slice, v.slice IS NOT NULL AND l.slice > v.slice AND v.ended_after IS NOT NULL AS ended,
       l.buffers, l.bytes, l.refs, l.calls, l.served
     FROM raw_level l JOIN lived v USING (upid) ORDER BY l.upid, l.slice)
-SELECT l.upid, v.ended_after IS NOT NULL,
-  CAST(coalesce(b.space, 0) AS INTEGER), CAST(coalesce(b.oneway, 0) AS INTEGER),
-  json_group_array(iif(l.ended, 0, l.buffers)), coalesce(b.buffers, 0),
-  json_group_array(iif(l.ended, 0, l.bytes)), CAST(coalesce(b.bytes, 0) AS INTEGER),
-  json_group_array(iif(l.ended, 0, l.refs)), coalesce(g.refs, 0),
-  json_group_array(iif(l.ended, 0, l.calls)), coalesce(o.calls, 0),
-  json_group_array(iif(l.ended, 0, l.served)), coalesce(o.served, 0)
+SELECT l.upid, v.ended_after IS NOT NULL AS ended,
+  CAST(coalesce(b.space, 0) AS INTEGER) AS space, CAST(coalesce(b.oneway, 0) AS INTEGER) AS oneway_space,
+  json_group_array(iif(l.ended, 0, l.buffers)) AS buffers, coalesce(b.buffers, 0) AS buffers_left,
+  json_group_array(iif(l.ended, 0, l.bytes)) AS bytes, CAST(coalesce(b.bytes, 0) AS INTEGER) AS bytes_left,
+  json_group_array(iif(l.ended, 0, l.refs)) AS refs, coalesce(g.refs, 0) AS refs_left,
+  json_group_array(iif(l.ended, 0, l.calls)) AS calls, coalesce(o.calls, 0) AS calls_left,
+  json_group_array(iif(l.ended, 0, l.served)) AS served, coalesce(o.served, 0) AS served_left
 FROM levels l JOIN lived v USING (upid) LEFT JOIN left_over b USING (upid) LEFT JOIN calling o USING (upid)
   LEFT JOIN counted g USING (upid)
 GROUP BY l.upid ORDER BY max(l.buffers) DESC, l.upid LIMIT ?1

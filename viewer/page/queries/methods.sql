@@ -1,5 +1,7 @@
 -- The calls that have a name: interface, code, method, where that is from, and how many were sent; most first. ?1: the
 -- most rows.
+-- needs: database/schema.sql: call_interface, interface, method; rules/groups.sql: traffic
+-- makes: columns: name, code, method, source, n
 SELECT i.name, t.code, m.method, m.source, sum(t.sends) AS n
 FROM traffic t JOIN call_interface c
     ON (c.code, c.upid, c.ptr) = (t.code, coalesce(t.node_upid, -t.upid), coalesce(t.ptr, t.handle))

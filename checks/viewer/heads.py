@@ -1,0 +1,137 @@
+"""The heads of the SQL files of `view`: which names of which file their statements need, and what they make.
+
+SQLite says, as it compiles a statement, what it reads, changes and creates, and which functions it calls. The head of a
+file must have exactly that; otherwise the check says what it should be. The files run in the order of JUDGING, in which
+SQLite also refuses a statement that needs what only a later file makes."""
+
+import pathlib
+import sqlite3
+import textwrap
+from collections import defaultdict
+from itertools import takewhile
+from typing import Iterator
+
+from checks.kit.programs import ROOT
+from viewer.database import raw_tables
+from viewer.database.sqlite import statements_in, statements_of
+from viewer.rules import judging
+
+VIEWER = ROOT / "viewer"
+QUERIES, VIEWS, FUNCTIONS = VIEWER / "page/queries", raw_tables.FOLDER / "views.sql", judging.FOLDER / "judging.py"
+
+MAKES = {sqlite3.SQLITE_CREATE_TABLE: "tables", sqlite3.SQLITE_CREATE_TEMP_TABLE: "temporary tables",
+         sqlite3.SQLITE_CREATE_VIEW: "views", sqlite3.SQLITE_CREATE_INDEX: "indexes",
+         sqlite3.SQLITE_CREATE_TEMP_INDEX: "indexes"}
+CHANGES = (sqlite3.SQLITE_INSERT, sqlite3.SQLITE_UPDATE, sqlite3.SQLITE_DELETE)
+
+
+def files_of_statements() -> dict[str, pathlib.Path]:
+    """The statements that make and judge a database, then those of the page, in their order, each with its file."""
+    found: dict[str, pathlib.Path] = {}
+    for name in raw_tables.SCHEMA:
+        found.update(dict.fromkeys(statements_in(raw_tables.schema_of(name)), raw_tables.FOLDER / name))
+    for name in judging.JUDGING:
+        found.update(dict.fromkeys(statements_of(judging.FOLDER / name), judging.FOLDER / name))
+    return {**found, **{path.read_text(): path for path in QUERIES.glob("*.sql")}}
+
+
+class Watched:
+    """A database that notes what the statements of each file use and make, and which file made a name."""
+
+    def __init__(self) -> None:
+        self.database = sqlite3.connect(":memory:", isolation_level=None)
+        self.database.set_authorizer(self.note)
+        self.files = files_of_statements()
+        self.seen: list[tuple] = []
+        self.uses: dict[pathlib.Path, set[str]] = defaultdict(set)
+        self.makes: dict[pathlib.Path, dict[str, list[str]]] = defaultdict(lambda: defaultdict(list))
+        self.maker: dict[str, pathlib.Path] = {}
+
+    def __getattr__(self, name: str) -> object:
+        return getattr(self.database, name)
+
+    def note(self, action: int, first: str | None, second: str | None, _: str | None, within: str | None) -> int:
+        self.seen.append((action, first, second, within))
+        return sqlite3.SQLITE_OK
+
+    def create_function(self, name: str, *how: object, **more: object) -> None:
+        self.maker[name] = FUNCTIONS
+        self.database.create_function(name, *how, **more)
+
+    def execute(self, statement: str, *values: object) -> sqlite3.Cursor:
+        self.seen.clear()
+        path = self.files.get(statement)
+        try:
+            answer = self.database.execute(statement, *values)
+        except sqlite3.OperationalError as error:
+            raise SystemExit(f"checks/rules: {path}: {error}; or does it run too early, by JUDGING?") from error
+        if path is not None:
+            self.take(path)
+            if path.parent == QUERIES:
+                self.makes[path]["columns"] = [column for column, *_ in answer.description]
+        return answer
+
+    def is_view(self, name: str | None) -> bool:
+        return self.maker.get(name or "") == VIEWS
+
+    def take(self, path: pathlib.Path) -> None:
+        """Notes what the last statement did. What a view reads is no matter of a statement that reads the view. Of what
+        is read without a column, as by `count(*)`, SQLite does not say whether a view reads it."""
+        used, inside, bare = set(), set(), set()
+        for action, first, second, within in self.seen:
+            if action in MAKES and not first.startswith("sqlite_"):
+                self.makes[path][MAKES[action]].append(first)
+                self.maker[first] = path
+            elif action == sqlite3.SQLITE_READ and not second:
+                bare.add(first)
+            elif action == sqlite3.SQLITE_READ:
+                (inside if self.is_view(within) else used).add(first)
+            elif action == sqlite3.SQLITE_SELECT and self.is_view(within):
+                bare.add(within)
+            elif action in CHANGES:
+                used.add(first)
+            elif action == sqlite3.SQLITE_FUNCTION and self.maker.get(second) == FUNCTIONS:
+                used.add(second)
+        self.uses[path] |= used | bare - inside
+
+    def look_into_views(self) -> None:
+        """Notes what the views read, as a matter of their file."""
+        for view in self.makes[VIEWS]["views"]:
+            self.execute(f"SELECT * FROM {view}")
+            read = [seen[1:] for seen in self.seen if seen[0] == sqlite3.SQLITE_READ]
+            bare = {table for table, column, _ in read if not column}
+            self.uses[VIEWS] |= {table for table, column, within in read if column and within == view}
+            self.uses[VIEWS] |= bare - {table for table, column, _ in read if column}
+
+    def head(self, path: pathlib.Path) -> str:
+        """The lines that the head of a file must have."""
+        needs = {maker.name if maker.parent == path.parent else f"{maker.parent.name}/{maker.name}":
+                 sorted(name for name in self.uses[path] if self.maker.get(name) == maker)
+                 for maker in dict.fromkeys([*self.files.values(), FUNCTIONS]) if maker != path}
+        makes = {kind: self.makes[path][kind] for kind in dict.fromkeys([*MAKES.values(), "columns"])}
+        return f"{lines_of('needs', needs)}\n{lines_of('makes', makes)}"
+
+
+def lines_of(word: str, names: dict[str, list[str]]) -> str:
+    said = "; ".join(f"{of}: {', '.join(some)}" for of, some in names.items() if some) or "nothing"
+    return textwrap.fill(f"{word}: {said}", 120, initial_indent="-- ", subsequent_indent="--   ",
+                         break_on_hyphens=False, break_long_words=False)
+
+
+def faults_of_heads() -> Iterator[str]:
+    """What is wrong with the heads."""
+    watched = Watched()
+    for statement, path in watched.files.items():
+        if path.parent == raw_tables.FOLDER:
+            watched.execute(statement)
+    judging.judge(watched)
+    for statement, path in watched.files.items():
+        if path.parent == QUERIES:
+            watched.execute(statement, {"1": 0, "2": 0})
+    watched.look_into_views()
+    for path in sorted(VIEWER.rglob("*.sql")):
+        said = "\n".join(takewhile(lambda line: line.startswith("--"), path.read_text().splitlines()))
+        if path not in watched.files.values():
+            yield f"{path.relative_to(ROOT)}: nothing runs it"
+        elif watched.head(path) not in said:
+            yield f"{path.relative_to(ROOT)}: its head must have these lines:\n{watched.head(path)}"

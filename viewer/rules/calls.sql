@@ -1,0 +1,60 @@
+-- A, C, T, U: calls and served calls that are open.
+-- needs: database/schema.sql: finding, raw_call, raw_delivery, raw_thread, side_time; nodes.sql: who; ages.sql: ended,
+--   last, life, old; waits.sql: full_pool, pool, ring, waited, waits, waits_for; rule.sql: lossy; judging.py: counted
+-- makes: nothing
+
+-- A: one finding with an open call.
+UPDATE finding SET rule = 'A1', lead = w.id FROM waits w
+WHERE section IN ('served', 'buffers') AND w.delivery = finding.place AND (w.replied = 0 OR section = 'served');
+-- A call that failed because its server ended, and the served call there.
+UPDATE finding SET rule = 'A1', lead = f.id FROM raw_delivery d JOIN finding f ON f.place = d.send
+WHERE finding.section = 'served' AND finding.what = 'open' AND d.place = finding.place AND f.section = 'calls'
+  AND f.what = 'failed' AND finding.rule IS NULL;
+UPDATE finding SET rule = 'A1', lead = coalesce(v.lead, v.id) FROM finding v
+WHERE finding.rule IS NULL AND finding.section = 'buffers' AND v.section = 'served' AND v.what = 'open'
+  AND v.place = finding.place;
+
+-- C, T, U: calls and served calls that are open.
+UPDATE finding SET rule = 'T1' WHERE rule IS NULL AND section IN ('calls', 'served') AND what = 'open'
+  AND finding.id IN (SELECT id FROM ended);
+-- An answer that came after the end of its thread found nobody; one that came before may have been read late.
+UPDATE finding SET rule = CASE WHEN l.ended_after < c.seq + c.dur_seq THEN 'T1'
+    WHEN coalesce(l.ended, last.ts) - (SELECT ts FROM side_time x WHERE x.seq = c.seq + c.dur_seq) > :LONG THEN 'C1'
+    ELSE 'C2' END,
+  note = 'replied at ' || c.closer
+FROM waits w JOIN raw_call c ON c.place = w.delivery JOIN life l ON l.utid = w.utid, last
+WHERE rule IS NULL AND w.id = finding.id AND w.replied = 2;
+UPDATE finding SET rule = iif(upid IN (SELECT upid FROM lossy), 'M2', 'C3')
+WHERE rule IS NULL AND id IN (SELECT id FROM ring) AND finding.id IN (SELECT id FROM old);
+-- What waits for another call, and the call that a full pool waits for. If frames are missing, a delivery may be too.
+UPDATE finding SET waiting = w.n FROM waited w WHERE w.id = finding.id;
+UPDATE finding SET rule = 'C7', note = coalesce((SELECT p.doing FROM waits w JOIN full_pool p ON p.upid = w.server_upid
+    WHERE w.id = finding.id AND w.delivery IS NULL), 'the call at ' || (SELECT n.place FROM waits_for f JOIN waits n
+    ON n.id = f.next WHERE f.id = finding.id))
+WHERE rule IS NULL AND upid NOT IN (SELECT upid FROM lossy) AND coalesce(target, 0) NOT IN (SELECT upid FROM lossy)
+  AND id IN (SELECT w.id FROM waits w WHERE w.delivery IS NULL AND w.server_upid IN (SELECT upid FROM full_pool)
+    UNION SELECT f.id FROM waits_for f JOIN waits w USING (id) WHERE w.delivery NOTNULL AND NOT f.by_main);
+UPDATE finding SET rule = 'U1' WHERE rule IS NULL AND section IN ('calls', 'served') AND what = 'open'
+  AND n_good >= :ENOUGH AND coalesce(age <= :USUAL * longest, age_seq <= :USUAL * longest_seq);
+UPDATE finding SET rule = iif(upid IN (SELECT upid FROM lossy), 'M2', 'C6')
+WHERE rule IS NULL AND finding.id IN (SELECT id FROM old) AND finding.id IN (SELECT w.id FROM waited w WHERE w.by_pool)
+  AND EXISTS (SELECT 1 FROM finding q JOIN old o ON o.id = q.id WHERE q.rule = 'C7' AND q.age > :VERY_LONG);
+-- If frames of its target are missing, it may wait for another call there.
+UPDATE finding SET rule = iif(upid IN (SELECT upid FROM lossy) OR coalesce(target, 0) IN (SELECT upid FROM lossy), 'M2',
+  'U2')
+WHERE rule IS NULL AND section IN ('calls', 'served') AND what = 'open' AND n_good >= :ENOUGH
+  AND coalesce(age > max(:LONG, :OLD * longest), age_seq > :OLD * longest_seq);
+UPDATE finding SET rule = 'U6' WHERE rule IS NULL AND section IN ('calls', 'served') AND what = 'open' AND later = 0
+  AND age IS NOT NULL AND finding.id NOT IN (SELECT id FROM old);
+UPDATE finding SET rule = iif(w.delivery IS NULL, 'C5', 'C4') FROM waits w WHERE rule IS NULL AND w.id = finding.id;
+-- What the threads do that have such a call, or could take it; and how many wait for it.
+UPDATE finding SET note = iif(waiting > 0, counted(waiting, 'waits', 'wait') || ' for it; ', '')
+  || CASE WHEN w.delivery IS NULL THEN coalesce('not got: ' || (SELECT doing FROM pool p WHERE p.upid = w.server_upid),
+      'not got')
+    ELSE (SELECT who FROM who WHERE upid = w.server_upid) || ' got it at ' || w.delivery
+      || coalesce((SELECT iif(x.by_main, ', and its main thread waits for the call at ', ', and waits for the call at ')
+          || n.place FROM waits_for x JOIN waits n ON n.id = x.next WHERE x.id = finding.id),
+        (SELECT iif(t.last_seq <= d.seq, ', and thread ' || t.thread || ' has done nothing since', '')
+          FROM raw_thread t JOIN raw_call d ON d.place = w.delivery WHERE t.utid = w.server), '') END
+FROM waits w WHERE w.id = finding.id AND rule IN ('C3', 'C4', 'C5', 'C6', 'U2', 'M2');
+UPDATE finding SET rule = 'C4' WHERE rule IS NULL AND section = 'served' AND what = 'open';

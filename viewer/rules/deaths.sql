@@ -1,0 +1,39 @@
+-- D3, D4, D6, T, U: deaths and clears.
+-- needs: database/schema.sql: finding; facts.sql: dead_record; ages.sql: begun, ended, leaving, old, process_life;
+--   rule.sql: lossy
+-- makes: temporary tables: balance, begun_death; indexes: balance_at
+
+UPDATE finding SET rule = 'D3', note = 'the one at ' || d.place FROM finding d
+WHERE finding.rule IS NULL AND finding.section = 'clears' AND finding.what = 'unconfirmed' AND d.section = 'deaths'
+  AND d.what = 'unacknowledged' AND d.upid = finding.upid AND d.cookie = finding.cookie;
+UPDATE finding SET rule = CASE WHEN later = 0 AND finding.id IN (SELECT id FROM ended)
+    OR finding.id IN (SELECT id FROM leaving) THEN 'T1'
+  WHEN finding.upid IN (SELECT upid FROM lossy) THEN 'M1' WHEN later > 1 THEN 'U4'
+  WHEN finding.id IN (SELECT id FROM old) THEN 'U5' ELSE 'U6' END
+WHERE rule IS NULL AND section IN ('deaths', 'clears') AND what IN ('unacknowledged', 'unconfirmed');
+-- Answers to deaths and clears. Several of one cookie may be under way at once, so those of a cookie are counted: an
+-- answer is one too many if it makes more answers than questions, and more than any answer before it.
+CREATE TEMP TABLE balance AS
+SELECT place, is_answer, sum(1 - 2 * is_answer) OVER so_far AS open FROM (
+  SELECT place, upid, cookie, kind IN (:BC_DEAD_BINDER_DONE, :BR_CLEAR_DEATH_NOTIFICATION_DONE) AS is_answer,
+    kind IN (:BR_DEAD_BINDER, :BC_DEAD_BINDER_DONE) AS is_death
+  FROM dead_record WHERE kind <> :BC_REQUEST_DEATH_NOTIFICATION
+    AND EXISTS (SELECT 1 FROM finding WHERE section IN ('deaths', 'clears') AND what = 'stray'))
+WINDOW so_far AS (PARTITION BY upid, cookie, is_death ORDER BY place);
+CREATE UNIQUE INDEX temp.balance_at ON balance(place);
+UPDATE finding SET rule = 'D6' FROM balance b, dead_record d
+WHERE rule IS NULL AND section IN ('deaths', 'clears') AND b.place = finding.place AND d.place = finding.place
+  AND b.open >= min(0, coalesce((SELECT min(x.open) FROM balance x JOIN dead_record y USING (place)
+    WHERE y.upid = d.upid AND y.cookie = d.cookie AND x.place < d.place
+      AND (y.kind IN (:BR_DEAD_BINDER, :BC_DEAD_BINDER_DONE)) = (finding.section = 'deaths')), 0));
+-- The driver's books say that deaths wait for acknowledgement, and not how many.
+CREATE TEMP TABLE begun_death AS
+SELECT f.id, b.quiet, iif(f.section = 'deaths', b.deaths,
+  row_number() OVER (PARTITION BY f.upid, f.section ORDER BY f.place) <= b.clears) AS had
+FROM finding f JOIN begun b USING (upid) WHERE f.rule IS NULL AND f.section IN ('deaths', 'clears');
+UPDATE finding SET rule = CASE
+  WHEN EXISTS (SELECT 1 FROM begun_death b WHERE b.id = finding.id AND b.had) THEN 'P2'
+  WHEN finding.upid IN (SELECT upid FROM lossy) THEN 'M1'
+  WHEN (SELECT known FROM process_life p WHERE p.upid = finding.upid)
+    OR EXISTS (SELECT 1 FROM begun_death b WHERE b.id = finding.id AND b.quiet) THEN 'D4' ELSE 'P1' END
+WHERE rule IS NULL AND section IN ('deaths', 'clears');

@@ -1,0 +1,52 @@
+-- E: calls and sends that failed, and oneway sends that may be spam.
+-- needs: database/schema.sql: finding, raw_call, raw_delivery, raw_record, raw_send, raw_thread, side_time; nodes.sql:
+--   node_of, who; facts.sql: told_death; judging.py: counted
+-- makes: temporary tables: failure, too_late, refused_first, in_the_way; indexes: failure_of, failure_before
+
+-- The error reply that closed a failed call or refused a send: its kind, and the send.
+CREATE TEMP TABLE failure AS
+SELECT f.id, e.kind, f.generation, f.place, e.place AS reply, s.refused = e.place AS refused FROM finding f
+  JOIN raw_call c USING (place) JOIN raw_record e ON e.place = c.closer LEFT JOIN raw_send s USING (place)
+WHERE f.section = 'calls' AND f.what = 'failed'
+UNION ALL SELECT f.id, e.kind, f.generation, s.place, e.place, 1 FROM finding f JOIN raw_record e USING (place)
+  JOIN raw_send s ON s.refused = f.place WHERE f.section = 'refused'
+UNION ALL SELECT f.id, e.kind, NULL, NULL, e.place, 1 FROM finding f JOIN raw_record e USING (place)
+WHERE f.section = 'refused' AND NOT EXISTS (SELECT 1 FROM raw_send s WHERE s.refused = f.place);
+CREATE UNIQUE INDEX temp.failure_of ON failure(id);
+CREATE INDEX temp.failure_before ON failure(generation, kind, reply);
+
+-- One thread reads the news of a death while another sends: a single send soon after the news says nothing.
+CREATE TEMP TABLE too_late AS
+SELECT e.id, t.place, count(*) OVER (PARTITION BY e.generation) > 1 OR coalesce(
+  (SELECT ts FROM side_time x JOIN raw_record r USING (seq) WHERE r.place = e.place)
+    - (SELECT ts FROM side_time x JOIN raw_record r USING (seq) WHERE r.place = t.place) > :VERY_LONG, 0) AS certain
+FROM failure e JOIN told_death t ON t.generation = e.generation WHERE e.kind = :BR_DEAD_REPLY AND t.place < e.place;
+UPDATE finding SET rule = 'E1', note = 'told at ' || t.place FROM too_late t
+WHERE rule IS NULL AND t.id = finding.id AND t.certain;
+UPDATE finding SET rule = 'E2' FROM failure e WHERE rule IS NULL AND e.id = finding.id AND e.kind = :BR_DEAD_REPLY
+  AND EXISTS (SELECT 1 FROM failure b WHERE b.generation = e.generation AND b.kind = :BR_DEAD_REPLY
+    AND b.reply < e.place);
+UPDATE finding SET rule = CASE e.kind WHEN :BR_DEAD_REPLY THEN 'E3' WHEN :BR_FROZEN_REPLY THEN 'E4'
+  ELSE iif(e.refused, 'E5', 'E6') END
+FROM failure e WHERE rule IS NULL AND e.id = finding.id;
+
+-- What waits or is held at the receiver when its first oneway send is refused, and from whom. The driver rounds sizes
+-- up to 8 bytes, and takes half of the buffer space of a process for oneway transactions.
+CREATE TEMP TABLE refused_first AS
+SELECT f.id, e.place, f.target, row_number() OVER (PARTITION BY f.upid, f.target ORDER BY e.place) AS nth
+FROM failure e JOIN finding f USING (id) JOIN raw_record r ON r.place = e.place
+WHERE e.refused AND f.target NOTNULL AND r.flags & :TF_ONE_WAY;
+DELETE FROM refused_first WHERE nth > 1;
+CREATE TEMP TABLE in_the_way AS
+SELECT q.id, q.target, t.upid, count(*) AS n,
+  sum((r.data_size + 7) / 8 * 8 + (r.offsets_size + 7) / 8 * 8 + (coalesce(r.extra, 0) + 7) / 8 * 8) AS bytes
+FROM (SELECT * FROM refused_first ORDER BY place LIMIT :NOTED) q JOIN node_of n ON n.upid = q.target
+  JOIN raw_send s ON s.generation = n.generation AND s.place < q.place JOIN raw_record r ON r.place = s.place
+  JOIN raw_thread t ON t.utid = s.utid LEFT JOIN raw_delivery d ON d.place = s.delivery
+WHERE s.refused IS NULL AND r.flags & :TF_ONE_WAY AND coalesce(d.freed_by > q.place, 1) GROUP BY 1, 2, 3;
+UPDATE finding SET note = (SELECT counted(sum(n), 'oneway send') || ' with ' || counted(sum(bytes), 'byte')
+    || ' waited or were held at ' || (SELECT who FROM who w WHERE w.upid = target) || ': ' || group_concat(
+      counted(n, 'send') || ' from ' || (SELECT who FROM who w WHERE w.upid = i.upid), ', ')
+  FROM (SELECT * FROM in_the_way ORDER BY n DESC) i WHERE i.id = finding.id)
+WHERE rule = 'E5' AND id IN (SELECT id FROM in_the_way);
+UPDATE finding SET rule = 'E7' WHERE rule IS NULL AND section = 'spam';

@@ -1,0 +1,34 @@
+-- F: frees.
+-- needs: database/schema.sql: book_buffer, finding, raw_delivery, raw_record, raw_thread; database/views.sql: came_to,
+--   delivery, sent_to; ages.sql: begun, process_life; rule.sql: lossy; judging.py: call_name
+-- makes: temporary tables: freed, begun_free; indexes: freed_address
+
+CREATE TEMP TABLE freed AS
+SELECT t.upid, r.address, d.place, d.freed_by FROM raw_delivery d JOIN raw_record r USING (place)
+  JOIN raw_thread t ON t.utid = d.utid
+WHERE EXISTS (SELECT 1 FROM finding WHERE section = 'frees') AND d.freed_by IS NOT NULL
+  AND r.address IN (SELECT x.address FROM finding f JOIN raw_record x USING (place) WHERE f.section = 'frees');
+CREATE INDEX temp.freed_address ON freed(upid, address, place);
+UPDATE finding SET rule = iif(finding.upid IN (SELECT upid FROM lossy), 'M1', 'F1'), note = 'at ' || d.freed_by,
+  path = iif(d.kind = 'BR_REPLY', 'reply to ', '') || coalesce(
+    (SELECT call_name(v.code, v.upid, v.ptr) FROM came_to v WHERE v.place = d.place),
+    (SELECT call_name(v.code, v.upid, v.ptr) FROM sent_to v WHERE v.place = d.call), call_name(d.code, NULL, NULL),
+    'code ?')
+FROM raw_record x, delivery d
+WHERE rule IS NULL AND finding.section = 'frees' AND x.place = finding.place AND d.freed_by < finding.place
+  AND d.place = (SELECT e.place FROM freed e WHERE e.upid = finding.upid AND e.address = x.address
+    AND e.place < finding.place ORDER BY e.place DESC LIMIT 1);
+-- Each buffer that a process had when the recording began may be freed once. Newer kernels have in place of an address
+-- how far it is from the beginning of a page-aligned mapping, so there only the last three digits are compared.
+CREATE TEMP TABLE begun_free AS
+SELECT f.id, f.seq > b.after AS known, (SELECT count(*) FROM book_buffer k WHERE k.moment = 'begin' AND k.upid = f.upid
+    AND NOT k.unread AND (k.address = r.address OR k.address < 1 << 30 AND k.address & 4095 = r.address & 4095)) AS n,
+  row_number() OVER (PARTITION BY f.upid, r.address ORDER BY f.place) AS nth
+FROM finding f JOIN begun b USING (upid) JOIN raw_record r USING (place)
+WHERE f.rule IS NULL AND f.section = 'frees';
+UPDATE finding SET rule = CASE
+  WHEN EXISTS (SELECT 1 FROM begun_free b WHERE b.id = finding.id AND b.nth <= b.n) THEN 'P2'
+  WHEN finding.upid IN (SELECT upid FROM lossy) THEN 'M1'
+  WHEN (SELECT known FROM process_life p WHERE p.upid = finding.upid)
+    OR EXISTS (SELECT 1 FROM begun_free b WHERE b.id = finding.id AND b.known) THEN 'F2' ELSE 'P1' END
+WHERE rule IS NULL AND section = 'frees';

@@ -1,0 +1,61 @@
+-- H1, H2: handles that nobody gave, and references let go of more often than taken; H6, H7: what the driver's books of
+-- the beginning have of these.
+-- needs: database/schema.sql: book_handle, book_node, finding, raw_delivery, raw_generation, raw_record, raw_thread,
+--   report; ages.sql: begun, process_life; rule.sql: lossy; judging.py: number_in
+-- makes: temporary tables: unseen, handle_row, held_before
+
+-- The first delivery to a process of which it is not known which objects it had: its data are not in the capture.
+CREATE TEMP TABLE unseen AS
+SELECT t.upid, min(d.place) AS place
+FROM (SELECT 1 FROM finding f JOIN raw_generation g ON g.id = f.generation
+    WHERE f.section = 'handles' AND f.handle <> 0 AND g.given_by IS NULL LIMIT 1)
+  CROSS JOIN raw_delivery d JOIN raw_record r USING (place) JOIN raw_thread t ON t.utid = d.utid
+WHERE r.offsets_size <> 0 AND r.attachment IS NULL GROUP BY 1;
+-- What a process held when the recording began is in the driver's books. What it named only after the copy was there,
+-- it had not let go of before.
+CREATE TEMP TABLE handle_row AS
+SELECT f.id, f.upid, f.handle, f.generation, f.what,
+  coalesce((SELECT b.quiet FROM begun b WHERE b.upid = f.upid) OR (SELECT r.seq > b.after FROM begun b
+    JOIN raw_generation g ON g.upid = b.upid JOIN raw_record r ON r.place = g.begin
+    WHERE b.upid = f.upid AND f.section = 'handles' AND g.handle = f.handle AND g.n = 1), 0) AS begun,
+  -- Below 0 if more was let go, or acknowledged, than was taken or asked for; and what buffers hold, or what is due.
+  min(number_in(f.section, r.text, 'strong_low'), number_in(f.section, r.text, 'weak_low'),
+    iif(f.section = 'nodes', number_in(f.section, r.text, 'strong_due'), 0),
+    iif(f.section = 'nodes', number_in(f.section, r.text, 'weak_due'), 0)) AS least,
+  number_in(f.section, r.text, iif(f.section = 'nodes', 'strong_due', 'held_strong')) <> 0
+    OR number_in(f.section, r.text, iif(f.section = 'nodes', 'weak_due', 'held_weak')) <> 0 AS more,
+  (SELECT known FROM process_life p WHERE p.upid = f.upid) AS known,
+  EXISTS (SELECT 1 FROM raw_generation g WHERE g.upid = f.upid AND g.handle = f.handle AND g.given_by IS NOT NULL)
+    AS given
+FROM finding f JOIN report r ON r.id = f.report WHERE f.section IN ('handles', 'nodes');
+-- The same with what was held before added, for handles and nodes that the books have.
+CREATE TEMP TABLE held_before AS
+SELECT h.id, h.begun, k.strong AS had_strong, k.weak AS had_weak,
+  number_in(f.section, r.text, 'strong') + k.strong AS strong, number_in(f.section, r.text, 'weak') + k.weak AS weak,
+  min(number_in(f.section, r.text, 'strong_low') + k.strong, number_in(f.section, r.text, 'weak_low') + k.weak,
+    iif(f.section = 'nodes', number_in(f.section, r.text, 'strong_due') + k.local_strong, 0),
+    iif(f.section = 'nodes', number_in(f.section, r.text, 'weak_due') + k.local_weak, 0)) AS least
+FROM handle_row h JOIN finding f USING (id) JOIN report r ON r.id = f.report
+  JOIN (SELECT 'handles' AS section, upid, handle AS a, 0 AS b, strong, weak, 0 AS local_strong, 0 AS local_weak
+      FROM book_handle WHERE moment = 'begin'
+    UNION ALL SELECT 'nodes', upid, ptr, cookie, strong, weak, local_strong, local_weak FROM book_node
+      WHERE moment = 'begin') k
+  ON (k.section, k.upid, k.a, k.b) = (f.section, h.upid, iif(f.section = 'handles', f.handle, f.ptr),
+    iif(f.section = 'handles', 0, f.cookie))
+WHERE NOT h.known AND (h.least < 0 OR f.section = 'handles' AND NOT h.given AND f.handle <> 0);
+UPDATE finding SET rule = CASE WHEN h.least >= 0 THEN iif(h.strong > 0 OR h.weak > 0, 'H6', 'H7')
+    WHEN NOT h.begun THEN 'P1' ELSE iif(finding.upid IN (SELECT upid FROM lossy), 'M1', 'H2') END,
+  what = CASE WHEN h.least < 0 THEN what WHEN h.strong > 0 OR h.weak > 0 THEN 'held' ELSE 'balanced' END,
+  note = 'before the recording: strong ' || h.had_strong || ', weak ' || h.had_weak
+FROM held_before h WHERE rule IS NULL AND h.id = finding.id;
+UPDATE handle_row SET known = begun WHERE NOT known;
+UPDATE finding SET rule = CASE WHEN NOT h.known OR EXISTS (SELECT 1 FROM unseen u WHERE u.upid = finding.upid
+    AND u.place < finding.place) THEN 'P1'
+  WHEN finding.upid IN (SELECT upid FROM lossy) THEN 'M1' ELSE 'H1' END
+FROM handle_row h
+WHERE rule IS NULL AND section = 'handles' AND h.id = finding.id AND NOT h.given AND finding.handle <> 0
+  AND EXISTS (SELECT 1 FROM raw_generation g WHERE g.upid = h.upid AND g.handle = h.handle
+    AND g.acquired + g.released + g.increfs + g.decrefs > 0);
+UPDATE finding SET rule = iif(h.known, iif(finding.upid IN (SELECT upid FROM lossy), 'M1', 'H2'), 'P1')
+FROM handle_row h
+WHERE rule IS NULL AND h.id = finding.id AND h.least < 0;

@@ -1,0 +1,73 @@
+-- The rules, of which the first one that fits a finding decides, and the processes of which frames are missing.
+-- docs/VIEW.md has the rules in words.
+-- needs: database/schema.sql: raw_capture, raw_process, side_lost, side_missed; ages.sql: last, process_life
+-- makes: tables: rule; temporary tables: lossy
+
+-- Processes with missing frames. If the side list does not say whose a missing frame was, it may be of any process.
+CREATE TEMP TABLE lossy AS
+WITH lost AS (SELECT l.* FROM side_lost l, raw_capture c WHERE l.seq BETWEEN c.first_seq AND c.last_seq)
+SELECT upid FROM raw_process p, last
+WHERE last.missing <> 0 AND (last.missing <> (SELECT count(*) FROM lost WHERE process IS NOT NULL)
+  OR EXISTS (SELECT 1 FROM lost l WHERE (l.device, l.process) = (p.device, p.process)));
+-- What was missed without a number may be of any process that had not ended before, also right before the first frame.
+INSERT INTO lossy SELECT upid FROM process_life p WHERE EXISTS (SELECT 1 FROM side_missed m, raw_capture c
+  WHERE m.after >= c.first_seq - 1 AND m.from_seq <= c.last_seq AND coalesce(p.ended_after >= m.from_seq, 1));
+
+-- ---- the rules
+
+CREATE TABLE rule(id TEXT PRIMARY KEY, verdict TEXT NOT NULL, text TEXT NOT NULL) STRICT;
+INSERT INTO rule VALUES
+  ('A1', 'explained', 'The other end, or the buffer, of a call: one finding with it.'),
+  ('M1', 'explained', 'Frames of its process are missing, and the one that it lacks may be among them.'),
+  ('M2', 'maybe', 'It has lasted as what is real does, but frames of its process, or of whom it calls, are missing.'),
+  ('M3', 'maybe', 'An error reply ended a send, and it need not be this one: frames of its process are missing.'),
+  ('P1', 'explained', 'Not all that came before is known: before the capture, or in data that it does not have.'),
+  ('P2', 'explained', 'It began before the recording: the driver had it in its books then.'),
+  ('T1', 'explained', 'Its process or thread ended then, and the driver has let it go.'),
+  ('U1', 'explained', 'Under way: others of its path took as long.'),
+  ('U2', 'real', 'More than ten times as long as the longest of its path that came to a good end, and 0.1 s.'),
+  ('U3', 'real', 'Three or more, and nearly all of this path, while their threads went on.'),
+  ('U4', 'maybe', 'Its thread went on with other work.'),
+  ('U5', 'maybe', 'The last thing that its thread did, and long before the end.'),
+  ('U6', 'explained', 'The last thing that its thread did, or shortly before the end.'),
+  ('C1', 'maybe', 'It was answered over 0.1 s before the end of its thread, which has not read that.'),
+  ('C2', 'explained', 'It was answered, and its thread had not read that yet.'),
+  ('C3', 'real', 'Each waits for the other: the calls go round in a ring.'),
+  ('C4', 'maybe', 'It was delivered, and not replied.'),
+  ('C5', 'maybe', 'No answer, and no delivery that fits.'),
+  ('C6', 'real', 'It keeps a thread of a pool busy that has no other free, and sends wait there.'),
+  ('C7', 'explained', 'It waits for another call, or for a pool that is busy with others.'),
+  ('E1', 'real', 'Sent to an object of whose death the process had been told: repeatedly, or over 1 s later.'),
+  ('E2', 'maybe', 'Sent to an object that had ended, as an earlier BR_DEAD_REPLY told.'),
+  ('E3', 'explained', 'The process, or the thread, that serves it ended.'),
+  ('E4', 'maybe', 'The process that serves it was frozen.'),
+  ('E5', 'real', 'The driver refused it.'),
+  ('E6', 'real', 'The driver refused its reply.'),
+  ('E7', 'maybe', 'The driver warns: much of the space of the receiver for oneway sends holds what this process sent.'),
+  ('R1', 'maybe', 'Nearly all calls of its path are answered with this status.'),
+  ('R2', 'normal', 'Answered with a status.'),
+  ('S1', 'real', 'The driver refused a send, one of several in one write.'),
+  ('S2', 'real', 'A reply without a call, which the driver refused.'),
+  ('S3', 'explained', 'One off, after a crossed call of its thread.'),
+  ('S4', 'real', 'It fits nothing that its thread did.'),
+  ('H1', 'real', 'A handle that no delivery gave it.'),
+  ('H2', 'real', 'Let go, or given back, more often than taken.'),
+  ('H3', 'maybe', 'Still held long after its death was told.'),
+  ('H4', 'maybe', 'Taken more than once, and still held.'),
+  ('H5', 'maybe', 'Nearly all handles that came this way from one process are kept.'),
+  ('H6', 'normal', 'Still held. Whether it is used is not known.'),
+  ('H7', 'normal', 'Taken and let go of.'),
+  ('D1', 'explained', 'Nothing of the handle is held any more: the driver has dropped the request.'),
+  ('D2', 'maybe', 'A second request of a handle, which the driver does not take.'),
+  ('D3', 'explained', 'The driver waits for the acknowledgement of the death.'),
+  ('D4', 'maybe', 'It answers nothing.'),
+  ('D5', 'normal', 'No death was told: it waits for one.'),
+  ('D6', 'explained', 'Of its cookie there are as many before it as it answers.'),
+  ('F1', 'real', 'Freed before.'),
+  ('F2', 'real', 'An address that was never delivered to it.'),
+  ('O1', 'real', 'Bad data that a process handed over: the driver refuses them.'),
+  ('O2', 'maybe', 'Bad data in a read: mostly not the bytes that were delivered.'),
+  ('O3', 'normal', 'Flags that the header does not name.'),
+  ('W1', 'explained', 'Dropped for a newer one (TF_UPDATE_TXN).'),
+  ('W2', 'explained', 'It waits for the oneway delivery before it to be freed.'),
+  ('W3', 'maybe', 'Sent and confirmed, and never seen to come.');

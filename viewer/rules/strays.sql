@@ -1,0 +1,36 @@
+-- S: strays, and calls that are crossed. M3: sends that an error reply may have ended.
+-- needs: database/schema.sql: book_call, finding, raw_call, raw_record, raw_send, raw_thread; ages.sql: begun,
+--   process_life; rule.sql: lossy
+-- makes: temporary tables: first_crossed, begun_call; indexes: first_crossed_of
+
+CREATE TEMP TABLE first_crossed AS
+SELECT utid, min(closer) AS closer FROM raw_call
+WHERE verdict = 4 AND EXISTS (SELECT 1 FROM finding WHERE section = 'strays' OR what = 'crossed') GROUP BY utid;
+CREATE UNIQUE INDEX temp.first_crossed_of ON first_crossed(utid);
+UPDATE finding SET rule = 'S1', note = 'the send at ' || s.place FROM raw_send s
+WHERE rule IS NULL AND section = 'strays' AND s.refused = finding.place;
+UPDATE finding SET rule = 'S1', note = 'the send at ' || s.place FROM raw_call c JOIN raw_send s ON s.refused = c.closer
+WHERE rule IS NULL AND what = 'crossed' AND c.place = finding.place;
+-- If a call was open, the driver tells the caller of a refused reply, and not the thread that replied. So what came
+-- before the capture does not matter.
+UPDATE finding SET rule = 'S2', note = 'refused at ' || s.refused FROM raw_send s
+WHERE rule IS NULL AND section = 'strays' AND s.place = finding.place AND s.refused IS NOT NULL;
+-- Of a thread that had calls open when the recording began, as many closers are theirs. It is known of a thread without
+-- a frame before the copy of the books.
+CREATE TEMP TABLE begun_call AS
+SELECT f.id, t.first_seq > b.after AS known, (SELECT count(*) FROM book_call c WHERE c.moment = 'begin'
+    AND c.utid = f.utid AND c.side = iif(r.kind IN (:BC_REPLY, :BC_REPLY_SG), 'served', 'made')) AS n,
+  row_number() OVER (PARTITION BY f.utid, r.kind IN (:BC_REPLY, :BC_REPLY_SG) ORDER BY f.place) AS nth
+FROM finding f JOIN raw_record r USING (place) JOIN raw_thread t ON t.utid = f.utid JOIN begun b ON b.upid = f.upid
+WHERE f.rule IS NULL AND f.section = 'strays';
+UPDATE finding SET rule = CASE
+  WHEN EXISTS (SELECT 1 FROM first_crossed c WHERE c.utid = finding.utid AND c.closer < finding.place) THEN 'S3'
+  WHEN EXISTS (SELECT 1 FROM begun_call b WHERE b.id = finding.id AND b.nth <= b.n) THEN 'P2'
+  WHEN finding.upid IN (SELECT upid FROM lossy) THEN 'M1'
+  WHEN (SELECT known FROM process_life p WHERE p.upid = finding.upid)
+    OR EXISTS (SELECT 1 FROM begun_call b WHERE b.id = finding.id AND b.known) THEN 'S4' ELSE 'P1' END
+WHERE rule IS NULL AND (section = 'strays' OR what = 'crossed');
+
+-- M: if frames are missing, an error reply may belong to another send, but not if the send has bad objects.
+UPDATE finding SET rule = 'M3' WHERE rule IN ('E1', 'E5', 'E6', 'S1', 'S2') AND upid IN (SELECT upid FROM lossy)
+  AND place NOT IN (SELECT place FROM finding WHERE section = 'objects');
