@@ -8,7 +8,7 @@ import subprocess
 from typing import NamedTuple
 
 from checks.kit.programs import CHECKS
-from viewer.page import page
+from viewer.page.group_lines import group_lines
 
 
 def view(folder: pathlib.Path, room: pathlib.Path, *words: object) -> tuple[int, str, str]:
@@ -52,7 +52,7 @@ def without_numbers(path: str) -> str:
 
 def groups_of(database: sqlite3.Connection) -> list[tuple[str, ...]]:
     found = []
-    for line in page.group_lines(database):
+    for line in group_lines(database):
         verdict, title, n, n_all, _, _, path, rule, *_ = line.rstrip("\n").split("\t")
         if verdict in ("real", "maybe"):
             found.append((verdict, title, n, n_all, without_numbers(path), rule))

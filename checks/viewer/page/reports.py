@@ -235,7 +235,7 @@ def check_sample(given: tuple[pathlib.Path, pathlib.Path, list[pathlib.Path], pa
     check_in_use(name, database, failed.append)
     kept = [text for text, in database.execute("SELECT text FROM report ORDER BY id")]
     compare(f"{name}, the report in the database", kept, [line.strip() for line in report.splitlines()], failed.append)
-    page.write(database, list(map(str, files)), [], shown)
+    page.write(database, list(map(str, files)), shown)
     text = shown.read_text()
     missing = proved_due(report) - set(shown_of(text).proved)
     compare(f"{name}, rows that are not on its page", sorted(missing), [], failed.append)
