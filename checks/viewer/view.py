@@ -26,6 +26,7 @@ What must hold:
   status 2.
 - SIGTERM leaves nothing in TMPDIR.
 - Names from a stranger run nothing, break nothing and change no direction of text. Existing files are not overwritten.
+- All markup is in the templates of the page. Without their engine only the page is refused.
 - The driver's books at the end agree with the report, or a line says where not, or why they are not compared; copies
   that are no such books are left out. A process is called what its command line says, where that is more than its name.
 - Of calls whose data name an interface, page, database, groups and timeline have that, and the methods of a table of
@@ -61,8 +62,8 @@ from checks.viewer.page.reports import check_sample
 from checks.viewer.page.services import CAPTURES, check_libgbinder, check_services
 from checks.viewer.page.sides import check_files, check_loaders, check_renames, check_side
 from checks.viewer.page.stacks import check_stacks
-from checks.viewer.page.words import (check_hostile, check_malformed, check_secrets, check_stopped, check_told,
-                                      check_words)
+from checks.viewer.page.words import (check_hostile, check_malformed, check_no_engine, check_secrets, check_stopped,
+                                      check_templates, check_told, check_words)
 from viewer.database import raw_tables
 
 
@@ -85,6 +86,8 @@ def check_all(folder: pathlib.Path, room: pathlib.Path, fail: Fail) -> None:
         jobs += [pool.submit(check_gaps, (built, room, path.parent.name)) for path in DRIVER.glob("*/capture.side")]
         check_words(folder, words, fail)
         check_stopped(folder, words, fail)
+        check_no_engine(folder, words, fail)
+        check_templates(fail)
         check_side(built, sides, fail)
         check_renames(built, sides, fail)
         check_files(built, files, fail)
