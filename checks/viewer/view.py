@@ -3,6 +3,10 @@
 
     checks/run view [-- PROGRAM]     PROGRAM is the auditor; without it, it takes the built one
     checks/run view -- --browser     checks the page in Debian's chromium, without a window; by hand
+    checks/run view -- --edits [EDIT]
+                                     tries wrong templates of the page: each edit of page/edits.txt must be refused, and
+                                     a line says by which check; by hand. EDIT is a part of the names of some, or
+                                     several with commas
 
 What must hold:
 
@@ -64,6 +68,7 @@ from checks.viewer.page.sides import check_files, check_loaders, check_renames, 
 from checks.viewer.page.stacks import check_stacks
 from checks.viewer.page.words import (check_hostile, check_malformed, check_no_engine, check_secrets, check_stopped,
                                       check_templates, check_told, check_words)
+from checks.viewer.page.wrong import check_edits
 from viewer.database import raw_tables
 
 
@@ -111,9 +116,11 @@ def judge(given: argparse.Namespace, room: pathlib.Path, fail: Fail) -> None:
     if given.browser:
         room = pathlib.Path(tempfile.mkdtemp(prefix="checks-view."))  # its pictures stay
         check_browser(programs(room, given.programs[0]), room, fail)
+    elif given.edits is not None:
+        check_edits(built_programs(room, given.programs[0]), room, given.edits, fail)
     else:
         check_all(programs(room, given.programs[0]), room, fail)
 
 
 if __name__ == "__main__":
-    check(judge, browser=FLAG)
+    check(judge, browser=FLAG, edits={"nargs": "?", "const": ""})
