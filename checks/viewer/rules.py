@@ -16,18 +16,18 @@ nothing. Otherwise it prints what was expected and what came, and ends with stat
 import argparse
 import os
 import pathlib
-import shutil
 import sqlite3
 import subprocess
 from collections import Counter
 from concurrent.futures import ProcessPoolExecutor, ThreadPoolExecutor
 from itertools import repeat
-from typing import Iterator, NamedTuple
+from typing import Iterator
 
 from checks.kit.checking import Fail, check
 from checks.kit.programs import CHECKS, DRIVER, LISTING, ROOT
 from checks.kit.second_reading import reading
 from checks.viewer.heads import faults_of_heads
+from checks.viewer.edits import Edit, edited, edits_of
 from checks.viewer.sessions import book_cases, name_cases, stack_cases, state_cases  # noqa: F401
 from checks.viewer.sessions.cases import CASES, Case
 from checks.viewer.sessions.session import Session
@@ -110,42 +110,6 @@ def shown(counts: Counter) -> str:
 # ---- wrong rules
 
 
-class Edit(NamedTuple):
-    name: str
-    file: str
-    at: str
-    old: str
-    new: str
-    nothing: str | None
-
-    @property
-    def rule(self) -> str:
-        """The rule that its name begins with, if it does: sessions that get this rule mostly tell the edit."""
-        return self.name.partition("-")[0].upper()
-
-
-def edits_of(path: pathlib.Path) -> list[Edit]:
-    found, file, at = [], "", ""
-    for block in path.read_text().split("\n\n")[1:]:
-        lines = {word: text.replace("\\n", "\n") for word, _, text in (
-            line.partition(" ") for line in block.strip().splitlines())}
-        if "in" in lines:
-            file, _, at = lines["in"].partition(" at ")
-        found.append(Edit(lines["edit"], file, at, lines["old"], lines["new"], lines.get("nothing")))
-    return found
-
-
-def edited(edit: Edit, folder: pathlib.Path) -> None:
-    """Writes the rules with the edit into a new folder."""
-    shutil.copytree(judging.FOLDER, folder, ignore=shutil.ignore_patterns("out", "__pycache__"))
-    path = folder / edit.file
-    text = path.read_text()
-    if not edit.at and text.count(edit.old) > 1:
-        raise ValueError("what it replaces is in the file more than once")
-    at = text.index(edit.old, text.index(edit.at))
-    path.write_text(text[:at] + edit.new + text[at + len(edit.old):])
-
-
 def scenario(room: pathlib.Path, folder: pathlib.Path) -> bytes:
     """The database of a scenario before it is judged."""
     rows, base = room / f"{folder.name}.rows", room / f"{folder.name}.db"
@@ -172,10 +136,11 @@ SCENARIOS: dict[str, tuple[bytes, list[tuple]]] = {}
 
 def told_by(edit: Edit, room: pathlib.Path) -> str | None:
     """What tells an edit from the right rules; None if nothing does."""
-    folder = room / f"edit-{edit.name}"
+    # Sessions that get the rule that its name begins with mostly tell it.
+    folder, rule = room / f"edit-{edit.name}", edit.name.partition("-")[0].upper()
     try:
-        edited(edit, folder)
-        for one, base in sorted(zip(CASES, BASES), key=lambda both: edit.rule not in due_of(both[0])):
+        edited(edit, judging.FOLDER, folder)
+        for one, base in sorted(zip(CASES, BASES), key=lambda both: rule not in due_of(both[0])):
             if faults_of(one, judged(base, folder)):
                 return one.name
         for name, (base, due) in SCENARIOS.items():
@@ -193,8 +158,7 @@ def try_edits(room: pathlib.Path, bases: list[bytes], names: str) -> Iterator[st
         made_of = list(pool.map(scenario, repeat(room), folders))
     BASES[:] = bases
     SCENARIOS.update({path.name: (base, groups_of(judged(base))) for path, base in zip(folders, made_of)})
-    wanted = names.split(",")
-    edits = [edit for edit in edits_of(CHECKS / "viewer/sessions/edits.txt") if any(one in edit.name for one in wanted)]
+    edits = edits_of(CHECKS / "viewer/sessions/edits.txt", names)
     with ProcessPoolExecutor(os.cpu_count()) as pool:
         for edit, told in zip(edits, pool.map(told_by, edits, repeat(room))):
             print(f"{edit.name}: {told or edit.nothing or 'nothing tells it'}")

@@ -2,6 +2,10 @@
 
     checks/run view [-- PROGRAM]
     checks/run view -- --browser     checks the page in Debian's chromium, without a window; by hand
+    checks/run view -- --edits [EDIT]
+                                     tries wrong templates of the page: each edit of page/edits.txt must be refused, and
+                                     a line says by which check; by hand. EDIT is a part of the names of some, or
+                                     several with commas
 
 What must hold:
 
@@ -26,6 +30,7 @@ What must hold:
   status 2.
 - SIGTERM leaves nothing in TMPDIR.
 - Names from a stranger run nothing, break nothing and change no direction of text. Existing files are not overwritten.
+- All markup is in the templates of the page. Without their engine only the page is refused.
 - The driver's books at the end agree with the report, or a line says where not, or why they are not compared; copies
   that are no such books are left out. A process is called what its command line says, where that is more than its name.
 - Of calls whose data name an interface, page, database, groups and timeline have that, and the methods of a table of
@@ -61,8 +66,9 @@ from checks.viewer.page.reports import check_sample
 from checks.viewer.page.services import CAPTURES, check_libgbinder, check_services
 from checks.viewer.page.sides import check_files, check_loaders, check_renames, check_side
 from checks.viewer.page.stacks import check_stacks
-from checks.viewer.page.words import (check_hostile, check_malformed, check_secrets, check_stopped, check_told,
-                                      check_words)
+from checks.viewer.page.words import (check_hostile, check_malformed, check_no_engine, check_secrets, check_stopped,
+                                      check_templates, check_told, check_words)
+from checks.viewer.page.wrong import check_edits
 from viewer.database import raw_tables
 
 
@@ -80,7 +86,8 @@ def check_all(folder: pathlib.Path, room: pathlib.Path, fail: Fail) -> None:
         jobs += [pool.submit(failures_of, check_libgbinder, built, room, name) for name in CAPTURES]
         jobs += [pool.submit(failures_of, check_gaps, built, room, path.parent.name)
                  for path in DRIVER.glob("*/capture.side")]
-        run_parts((check_words, check_stopped), folder, room, fail)
+        check_templates(fail)
+        run_parts((check_words, check_stopped, check_no_engine), folder, room, fail)
         run_parts((check_side, check_renames, check_files, check_secrets, check_told, check_malformed, check_hostile,
                    check_methods, check_unnamed, check_services, check_loaders, check_agreement, check_copies,
                    check_commands, check_stacks, check_growth), built, room, fail)
@@ -93,9 +100,11 @@ def judge(given: argparse.Namespace, room: pathlib.Path, fail: Fail) -> None:
     if given.browser:
         room = pathlib.Path(tempfile.mkdtemp(prefix="checks-view."))  # its pictures stay
         check_browser(programs(room, given.programs[0]), room, fail)
+    elif given.edits is not None:
+        check_edits(built_programs(room, given.programs[0]), room, given.edits, fail)
     else:
         check_all(programs(room, given.programs[0]), room, fail)
 
 
 if __name__ == "__main__":
-    check(judge, browser=FLAG)
+    check(judge, browser=FLAG, edits={"nargs": "?", "const": ""})

@@ -1,4 +1,4 @@
-"""What a thread did around a place: a line for each record, with the calls drawn as brackets."""
+"""What a thread did around a place, its lane on the page: a line for each record, with the calls drawn as brackets."""
 
 import sqlite3
 from typing import Iterator, NamedTuple

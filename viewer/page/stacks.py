@@ -1,11 +1,15 @@
-"""The stacks of calls, as the page shows them."""
+"""The stacks of calls, and of a group those that the page shows."""
 
 import functools
 import itertools
 import os
-import sqlite3
 from collections import Counter
 from typing import NamedTuple
+
+from viewer.page.capture import Capture
+
+# The most stacks of a group.
+STACKS = 4
 
 
 class Frame(NamedTuple):
@@ -22,6 +26,11 @@ class Frame(NamedTuple):
     @property
     def file(self) -> str:
         return os.path.basename(self.path or "")
+
+    @property
+    def short(self) -> str:
+        """The name of a function in a file, or else its place there."""
+        return self.function or f"{self.file}+0x{self.address or 0:x}"
 
     @property
     def key(self) -> "Key":
@@ -42,19 +51,19 @@ class Difference(NamedTuple):
 
 
 class Stacks:
-    """The stacks of a database."""
+    """The stacks of a capture."""
 
-    def __init__(self, database: sqlite3.Connection):
-        self.database = database
-        self.are_there, = database.execute("SELECT EXISTS (SELECT 1 FROM side_call)").fetchone()
+    def __init__(self, capture: Capture):
+        self.capture = capture
+        self.are_there = capture.count("side_call") > 0
         self.frames = functools.cache(self.frames_of)
         self.shape = functools.cache(self.shape_of)
         self.known = functools.cache(self.known_of)
 
     def frames_of(self, stack: int) -> list[Frame]:
         """The frames of a stack, the innermost one first. A function that was put into another one has a frame."""
-        rows = self.database.execute("SELECT idx, pc, path, build_id, address, function, source FROM stack"
-                                     " WHERE stack = ? ORDER BY idx, inlined", (stack,)).fetchall()
+        rows = self.capture.ask("SELECT idx, pc, path, build_id, address, function, source FROM stack WHERE stack = ?"
+                                " ORDER BY idx, inlined", stack)
         return [Frame(pc % 2**64, path, build_id, None if address is None else address % 2**64, function,
                       None if source is None else os.path.basename(source), rows[at + 1:at + 2] != []
                       and rows[at + 1][0] == idx)
@@ -68,6 +77,14 @@ class Stacks:
     def known_of(self, stack: int) -> dict[Key, Frame]:
         """The frames of a stack that are in a file, the innermost one first."""
         return {frame.key: frame for frame in self.frames(stack) if frame.path and frame.address is not None}
+
+    @functools.cached_property
+    def freed(self) -> dict[int, Counter[int]]:
+        """For each group of buffers that were not freed, the stacks of others of their paths that were."""
+        found: dict[int, Counter[int]] = {}
+        for group, stack, count in self.capture.asked("freed_stacks"):
+            found.setdefault(group, Counter())[stack] = count
+        return found
 
     def difference(self, first: Counter[int], second: Counter[int]) -> Difference | None:
         """The frame of the most frequent stack of the first set by which both sets differ most: a greater part of the
@@ -92,3 +109,34 @@ class Stacks:
                 frames[other] = here[other]
                 often[other] += count
         return Difference(*found, [(frames[key], count) for key, count in often.most_common()])
+
+
+class Shown(NamedTuple):
+    """A stack that is shown: its frames, of which record it is, and of how many findings it is the first."""
+    frames: list[Frame]
+    place: int
+    whose: str
+    upid: int
+    thread: int
+    same: int
+
+
+class GroupStacks:
+    """The stacks of a group that are shown: those that tell of its first finding, then the first ones of others, as
+    long as they have other functions; and how many more there are of these. `apart` is for buffers: how many they are,
+    how many others of their path were freed, and what tells the stacks of both apart."""
+
+    def __init__(self, stacks: Stacks, group: int):
+        rows = stacks.capture.asked("stacks", group) if stacks.are_there else []
+        shapes = [stacks.shape(stack) for _, _, stack, *_ in rows]
+        firsts = [at for at, row in enumerate(rows) if at == 0 or rows[at - 1][0] != row[0]]
+        how_often = Counter(shapes[at] for at in firsts)
+        shown: dict[object, Shown] = {}
+        for at in [*(at for at, row in enumerate(rows) if row[0] == rows[0][0]), *firsts]:
+            if shapes[at] not in shown and len(shown) < STACKS:
+                _, place, stack, *whose = rows[at]
+                shown[shapes[at]] = Shown(stacks.frames(stack), place, *whose, how_often[shapes[at]])
+        self.shown = list(shown.values())
+        self.left = len(how_often.keys() - shown.keys())
+        kept, freed = Counter(rows[at][2] for at in firsts), stacks.freed.get(group) if rows else None
+        self.apart = None if freed is None else (kept.total(), freed.total(), stacks.difference(kept, freed))

@@ -11,7 +11,7 @@ from checks.kit.runs import answer
 from checks.viewer.sessions.session import Session
 from viewer.database import loading
 from viewer.database.sqlite import open_database
-from viewer.page import page
+from viewer.page.group_lines import group_lines
 
 
 def view(folder: pathlib.Path, room: pathlib.Path, *words: object) -> tuple[int, str, str]:
@@ -68,7 +68,7 @@ def without_numbers(path: str) -> str:
 
 def groups_of(database: sqlite3.Connection) -> list[tuple[str, ...]]:
     found = []
-    for line in page.group_lines(database):
+    for line in group_lines(database):
         verdict, title, n, n_all, _, _, path, rule, *_ = line.rstrip("\n").split("\t")
         if verdict in ("real", "maybe"):
             found.append((verdict, title, n, n_all, without_numbers(path), rule))

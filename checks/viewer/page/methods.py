@@ -86,6 +86,7 @@ def check_methods(folder: pathlib.Path, room: pathlib.Path, fail: Fail) -> None:
             (True, False, True), fail)
     check_groups(folder, room, fail)
     check_tables(folder, room, fail)
+    check_hostile_methods(folder, room, fail)
 
 
 def check_groups(folder: pathlib.Path, room: pathlib.Path, fail: Fail) -> None:
@@ -106,7 +107,7 @@ def check_groups(folder: pathlib.Path, room: pathlib.Path, fail: Fail) -> None:
 
 
 def check_tables(folder: pathlib.Path, room: pathlib.Path, fail: Fail) -> None:
-    """Tables that are refused; one that says what a built-in method is; and names that mean harm."""
+    """Tables that are refused; and one that says what a built-in method is."""
     bad = {"a field too few": ("a.I\t1\tf\n", 1), "no code": ("a.I\t1\tf\t-\na.I\tx\tg\t-\n", 2),
            "a large code": ("a.I\t4294967296\tf\t-\n", 1), "an empty field": ("a.I\t1\t\t-\n", 1)}
     for what, (text, line) in bad.items():
@@ -118,10 +119,17 @@ def check_tables(folder: pathlib.Path, room: pathlib.Path, fail: Fail) -> None:
     compare("two tables that disagree", (status, "eleventh here, and tenth" in told), (4, True), fail)
     compare("no table", view(folder, room, "named.cap", "--methods", "none", "--groups"),
             (4, "", "view: none: No such file or directory\n"), fail)
+
+
+def check_hostile_methods(folder: pathlib.Path, room: pathlib.Path, fail: Fail) -> None:
+    """Methods whose names mean harm."""
+    played = session()
+    (room / "harm.cap").write_bytes(played.capture())
+    (room / "harm.side").write_text(played.side())
     harm = "<script>window.bad=1</script>\u202e'\"><img src=x onerror=bad()>"
     (room / "harm").write_text("".join(f"check.forms.IIds\t{code}\t{harm}\t{harm}\n" for code in (1, 3, 10))
                                + f"check.forms.IPlain\t1\t{'a' * 2**20}\t-\n<b>.I\t1\tf\t-\n")
-    words = ("named.cap", "--side", "named.side", "--methods", "harm")
+    words = ("harm.cap", "--side", "harm.side", "--methods", "harm")
     compare("hostile methods, status", view(folder, room, *words, "-o", "harm.html", "--trace", "harm.gz")[0], 0, fail)
     text = (room / "harm.html").read_text()
     check_harmless("hostile methods", text, fail)

@@ -5,6 +5,7 @@ import pathlib
 import re
 import sqlite3
 import subprocess
+import unicodedata
 from collections import Counter, defaultdict
 from typing import Iterator, NamedTuple
 
@@ -168,17 +169,20 @@ def check_in_use(name: str, database: sqlite3.Connection, fail: Fail) -> None:
 
 
 class Shown(html.parser.HTMLParser):
-    """What is on a page: the texts of the proved rows, scripts, and attributes that would run something."""
+    """What is on a page: the texts of the proved rows, scripts and what is in them, attributes that would run
+    something, and texts with letters from right to left that are not set apart."""
 
     def __init__(self) -> None:
         super().__init__()
         self.proved: list[str] = []
-        self.scripts, self.bad = 0, []
+        self.scripts, self.bad, self.turned = 0, [], []
+        self.apart, self.script = 0, ""
         self.inside, self.depth, self.text = False, 0, ""
 
     def handle_starttag(self, tag: str, attributes: list[tuple[str, str | None]]) -> None:
         given = dict(attributes)
         self.scripts += tag == "script"
+        self.apart += tag == "bdi"
         self.bad += [name for name in given if name.startswith("on") or name in ("src", "href")]
         if tag in ("iframe", "img", "object", "embed", "base", "link", "form"):
             self.bad.append(tag)
@@ -186,10 +190,15 @@ class Shown(html.parser.HTMLParser):
             self.inside, self.text = True, ""
 
     def handle_data(self, data: str) -> None:
+        if self.cdata_elem == "script":
+            self.script += data
+        if not self.apart and any(unicodedata.bidirectional(one) == "R" for one in data):
+            self.turned.append(data)
         if self.inside:
             self.text += data
 
     def handle_endtag(self, tag: str) -> None:
+        self.apart -= tag == "bdi"
         if self.inside and tag in ("td", "div", "tr", "span", "table"):
             self.proved.append(self.text.strip())
             self.inside = False
@@ -238,7 +247,7 @@ def check_sample(folder: pathlib.Path, room: pathlib.Path, files: list[pathlib.P
     check_in_use(name, database, fail)
     kept = [text for text, in database.execute("SELECT text FROM report ORDER BY id")]
     compare(f"{name}, the report in the database", kept, [line.strip() for line in report.splitlines()], fail)
-    page.write(database, list(map(str, files)), [], shown)
+    page.write(database, list(map(str, files)), shown)
     text = shown.read_text()
     missing = proved_due(report) - set(shown_of(text).proved)
     compare(f"{name}, rows that are not on its page", sorted(missing), [], fail)

@@ -185,13 +185,17 @@ def check_symbols(folder: pathlib.Path, room: pathlib.Path, program: Program, se
 
 def check_hostile_stacks(folder: pathlib.Path, room: pathlib.Path, program: Program, seqs: list[int],
                          fail: Fail) -> None:
-    """Names of files and functions from a stranger run nothing. A line that is not valid is named."""
-    path = "/<img src=x onerror=bad()>\u202e</ol></details>" + "a" * 2**16
+    """Names of files and functions from a stranger run nothing."""
+    path = "/</ol></details>/<img src=x onerror=bad()>\u202e" + "a" * 2**16
     status, told, shown = shown_with(folder, room, side_with(program, seqs, path), "--symbols", program.path.parent)
     compare("hostile stacks: status", (status, told), (0, ""), fail)
     text = shown.read_text() if shown.exists() else ""
     check_harmless("hostile stacks", text, fail)
     compare("hostile stacks: the name is there", "&lt;script&gt;window.bad=1" in text, True, fail)
+
+
+def check_odd_lines(folder: pathlib.Path, room: pathlib.Path, program: Program, seqs: list[int], fail: Fail) -> None:
+    """Addresses at both ends of what there may be. A line that is not valid is named."""
     far = "0x7fffffffffffffff"
     odd = (f"map 9 pid=1 start=0x8000000000000000 end={far} offset={far} address={far} build-id=- name=x\n"
            f"1 stack 9 memory=9 pid=1 pcs={far},0x8000000000000001\n1 call {seqs[0]} stack=9")
@@ -291,4 +295,5 @@ def check_stacks(folder: pathlib.Path, room: pathlib.Path, fail: Fail) -> None:
     check_page(folder, room, program, seqs, fail)
     check_symbols(folder, room, program, seqs, fail)
     check_hostile_stacks(folder, room, program, seqs, fail)
+    check_odd_lines(folder, room, program, seqs, fail)
     check_damaged(room, program, fail)

@@ -1,5 +1,7 @@
 """The words of `view`, what it writes, and captures and names that mean harm."""
 
+import base64
+import hashlib
 import os
 import pathlib
 import re
@@ -14,7 +16,7 @@ from checks.kit.frames import frames_of
 from checks.kit.programs import DRIVER, ROOT
 from checks.recorder.driver.compare import SECRETS, TO_CLEAR
 from checks.viewer.page.common import stored, texts_of, told_by, view
-from checks.viewer.page.reports import check_harmless
+from checks.viewer.page.reports import check_harmless, shown_of
 
 
 def check_rules(made: pathlib.Path, fail: Fail) -> None:
@@ -62,6 +64,39 @@ def check_words(folder: pathlib.Path, room: pathlib.Path, fail: Fail) -> None:
     compare("--groups", (status, len(lines.splitlines())), (0, count), fail)
     check_rules(room / "d.db", fail)
     check_names(room / "d.db", fail)
+
+
+def check_templates(fail: Fail) -> None:
+    """All markup of the page is in its templates, and what they show is escaped but for its style and script."""
+    page = ROOT / "viewer/page"
+    made = [f"{path.name}: {line.strip()}" for path in page.glob("*.py") for line in path.read_text().splitlines()
+            if re.search("</?[a-z]|Markup", line)]
+    compare("markup that Python makes", made, [], fail)
+    raw = [(path.name, found) for path in page.glob("templates/*") for found in
+           re.findall(r"\|\s*safe\b|autoescape false", path.read_text())]
+    compare("what templates do not escape", raw, [("page.html", "autoescape false")] * 2, fail)
+
+
+# Runs ./view, which does not find the engine of the templates.
+NO_ENGINE = """
+import runpy, sys
+sys.modules["jinja2"] = None
+sys.argv = sys.argv[1:]
+runpy.run_path(sys.argv[0], run_name="__main__")
+"""
+
+
+def check_no_engine(folder: pathlib.Path, room: pathlib.Path, fail: Fail) -> None:
+    """Without the engine there is no page, and all else is made."""
+    here = DRIVER / "gaps"
+    words = [sys.executable, "-c", NO_ENGINE, folder / "view", here / "capture-1.cap", "--side", here / "capture.side"]
+    missing = "view: jinja2 is missing to make the page; this installs it: apt-get install python3-jinja2\n"
+    for more, due, made in ((("-o", "none.html", "--database", "none.db"), (1, missing), []),
+                            (("--groups", "--database", "some.db", "--trace", "some.gz"), (0, ""),
+                             ["some.db", "some.gz"])):
+        ended = subprocess.run([*words, *more], cwd=room, capture_output=True, text=True)
+        compare(f"no engine, {more}", (ended.returncode, told_by(ended.stderr)), due, fail)
+        compare(f"no engine, {more}: what is made", [one for one in more if (room / one).exists()], made, fail)
 
 
 # Runs ./view, which gets SIGTERM with each call of a function of `os` that makes or removes a file in TMPDIR.
@@ -160,22 +195,38 @@ def check_malformed(folder: pathlib.Path, room: pathlib.Path, fail: Fail) -> Non
                 ended.stdout.strip(), fail)
 
 
-HOSTILE = ("<script>window.bad=1</script>, one", "\"'><img src=x onerror=bad()>", "\u202egnp.exe", "a" * 2**20,
-           "</table></details><h1>", "tab\there")
+HOSTILE = {"manager": "<script>window.bad=1</script>, one", "short-lived": "\"'><img src=x onerror=bad()>",
+           "deaf-watcher": "\u202egnp.exe", "service": "a" * 2**20, "client": "\u05d0</table></details><h1>",
+           "waiting": "tab\there", "hasty-watcher": "\u05d0\u05d1 1"}
+
+
+def check_policy(text: str, fail: Fail) -> None:
+    """A page has one script, its own. Its policy lets it run that, and load nothing."""
+    script = (ROOT / "viewer/page/page.js").read_text()
+    digest = base64.b64encode(hashlib.sha256(script.encode()).digest()).decode()
+    compare("what is in the scripts of the page", shown_of(text).script, script, fail)
+    compare("the policy of the page", re.findall('Content-Security-Policy" content="([^"]*)"', text),
+            [f"default-src 'none'; style-src 'unsafe-inline'; script-src 'sha256-{digest}'"], fail)
 
 
 def check_hostile(folder: pathlib.Path, room: pathlib.Path, fail: Fail) -> pathlib.Path:
     """Checks a page with a side list that has names from a stranger. Returns the page."""
     side = (DRIVER / "leaks/capture.side").read_text()
-    for old, new in zip(("manager", "short-lived", "deaf-watcher", "service", "client", "waiting"), HOSTILE):
+    for old, new in HOSTILE.items():
         side = re.sub(f"name={old}$", lambda _: "name=" + new.replace("\t", "\\x09"), side, flags=re.MULTILINE)
     (room / "hostile.side").write_text(side)
-    named = room / "<script>bad&.cap"
+    named = room / "<script>bad&\u202e.cap"
     shutil.copy(DRIVER / "leaks/capture-1.cap", named)
     compare("hostile names, status",
             view(folder, room, named.name, "--side", "hostile.side", "-o", "hostile.html")[0], 0, fail)
     text = (room / "hostile.html").read_text()
+    check_policy(text, fail)
     check_harmless("hostile names", text, fail)
+    compare("hostile names: characters that are not shown", [one for one in text if not one.isprintable()
+                                                            and one != "\n"], [], fail)
+    compare("hostile names: the number of one of them", '<span class="sign">U+202E</span>gnp.exe' in text, True, fail)
+    compare("hostile names: texts that may turn others", shown_of(text).turned, [], fail)
+    compare("hostile names: paths that are not set apart", re.findall("<span><b>[^<]*</b> (?!<bdi>)", text), [], fail)
     compare("hostile names: the page stays small", len(text) < 2**20, True, fail)
     status, lines, _ = view(folder, room, named.name, "--side", "hostile.side", "--groups")
     tabs = {line.count("\t") for line in lines.splitlines()}

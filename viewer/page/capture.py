@@ -1,0 +1,40 @@
+"""The capture that a page shows: its database, and what all sections need of that."""
+
+import pathlib
+import shlex
+import sqlite3
+
+from viewer.program_names import called
+from viewer.rules.names import Names
+
+QUERIES = pathlib.Path(__file__).resolve().parent / "queries"
+
+# The most rows of a section. The rest is counted.
+ROWS = 1000
+
+
+class Capture:
+    """The capture. A process is called as in `who`, and a call or an object as in `names`."""
+
+    def __init__(self, database: sqlite3.Connection, files: list[str]):
+        self.database = database
+        named = " ".join(map(shlex.quote, files))
+        self.command, self.report = f"{called('listing')} {named}", f"{called('audit')} report {named}"
+        self.facts = dict(database.execute("SELECT key, value FROM capture"))
+        self.who = dict(database.execute("SELECT upid, who FROM who"))
+        self.rules = dict(database.execute("SELECT id, text FROM rule"))
+        self.names = Names(database)
+
+    def ask(self, query: str, *values: object) -> list[tuple]:
+        return self.database.execute(query, values).fetchall()
+
+    def asked(self, name: str, *values: object) -> list[tuple]:
+        """The answer of the query in a file."""
+        return self.ask((QUERIES / f"{name}.sql").read_text(), *values)
+
+    def rows(self, name: str, most: int = ROWS) -> list[tuple]:
+        """The rows of the query in a file, which takes no more than how many there may be."""
+        return self.asked(name, most)
+
+    def count(self, table: str, condition: str = "1", *values: object) -> int:
+        return self.ask(f"SELECT count(*) FROM {table} WHERE {condition}", *values)[0][0]

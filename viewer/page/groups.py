@@ -1,0 +1,60 @@
+"""The groups of findings, with what the page shows of each."""
+
+from typing import Iterator
+
+from viewer.page.around_place import lane_of
+from viewer.page.capture import ROWS, Capture
+from viewer.page.plots import Plot, growth_of, strip
+from viewer.page.stacks import GroupStacks, Stacks
+
+# The most findings of a group and lanes of a page.
+FINDINGS, LANES = 100, 300
+
+
+class Group:
+    """A group. It has no more findings than the page shows, and one."""
+
+    def __init__(self, capture: Capture, stacks: Stacks, row: tuple):
+        (self.number, self.verdict, self.title, self.path, self.n, self.n_all, self.first, self.last, self.waiting,
+         rules, self.note) = row
+        self.rules = rules.split(",")
+        self.found = capture.asked("findings", self.number, FINDINGS + 1)
+        self.who = [upid for upid, in capture.asked("group_who", self.number)]
+        self.plot = self.plot_of(capture)
+        self.stacks = GroupStacks(stacks, self.number)
+        self.lane: tuple | None = None
+
+    def plot_of(self, capture: Capture) -> Plot | None:
+        """How many findings it has over time or, of few, where they are."""
+        if self.n >= 8:
+            return growth_of(capture, self.number)
+        places = [place for _, place, *_ in self.found if place is not None]
+        return strip(places, capture.facts["bytes"]) if places else None
+
+
+class Groups:
+    """The groups of a capture. The first of a page have lanes: what the thread of the first finding did around it."""
+
+    def __init__(self, capture: Capture):
+        self.capture, self.stacks, self.lanes = capture, Stacks(capture), 0
+
+    def of(self, *verdicts: str) -> Iterator[Group]:
+        """The groups of some verdicts, one after another."""
+        for verdict in verdicts:
+            for row in self.capture.asked("groups", verdict, ROWS):
+                group = Group(self.capture, self.stacks, row)
+                if verdict != "normal" and self.lanes < LANES:
+                    self.give_lane(group)
+                yield group
+
+    def left(self, *verdicts: str) -> int:
+        """How many groups there are that `of` leaves out."""
+        return sum(max(self.capture.count("finding_group", "verdict = ?", verdict) - ROWS, 0) for verdict in verdicts)
+
+    def give_lane(self, group: Group) -> None:
+        """Gives a group the place of its first finding that has a thread, and the lines around that."""
+        for _, place, utid, *_ in group.found:
+            if place is not None and utid is not None:
+                self.lanes += 1
+                group.lane = place, list(lane_of(self.capture.database, self.capture.names, utid, place))
+                return

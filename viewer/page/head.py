@@ -1,0 +1,27 @@
+"""What the head of the page says: what the capture has, and what is not known of it."""
+
+from viewer.page.capture import Capture
+from viewer.rules import agreement
+
+# Rows of the side list, if they count between two frames of the capture.
+WITHIN = "raw_capture c WHERE after >= c.first_seq - 1 AND from_seq <= c.last_seq GROUP BY 1 ORDER BY 1"
+
+
+def head_of(capture: Capture) -> dict[str, object]:
+    """The facts of the capture, and of its side list. Of lists that are cut the page shows 20, and here is one more."""
+    ask = capture.ask
+    return {
+        "first_ts": None, "until_ts": None, "payloads": None, **capture.facts, "has_end": "end_ts" in capture.facts,
+        "agreed": agreement.line_of(capture.database),
+        "met": ask("SELECT who FROM who JOIN process USING (upid) WHERE met IS NOT 'from-start' AND upid NOT IN (SELECT"
+                   " upid FROM book_opening WHERE moment = 'begin') ORDER BY upid LIMIT 21"),
+        "held": capture.rows("held_before", 21),
+        "calls": ask("SELECT coalesce(sum(made + served), 0) FROM side_calls")[0][0],
+        "handles": capture.count("side_handle"),
+        "going_on": capture.rows("calls_before", 21),
+        "lost": ask("SELECT why, count(*) FROM side_lost WHERE seq BETWEEN (SELECT first_seq FROM raw_capture)"
+                    " AND (SELECT last_seq FROM raw_capture) GROUP BY 1 ORDER BY 2 DESC"),
+        "missed": ask(f"SELECT what, sum(count) FROM side_missed, {WITHIN}"),
+        "unstacked": ask(f"SELECT what, sum(count) FROM side_unstacked, {WITHIN}"),
+        "groups": dict(ask("SELECT verdict, count(*) FROM finding_group GROUP BY 1")),
+        "findings": dict(ask("SELECT verdict, sum(n) FROM finding_group GROUP BY 1"))}
