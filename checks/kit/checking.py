@@ -65,18 +65,19 @@ def check(judge: Callable[[argparse.Namespace, pathlib.Path, Fail], Iterable[str
     afterwards, and a function that takes failures; others it may yield. The command line may have these options, in the
     form of argparse, and programs. If it names no program, `given.programs` has the built auditor, and that by Rattle's
     own compiler if it is there."""
-    line = argparse.ArgumentParser(description=sys.modules["__main__"].__doc__, allow_abbrev=False,
-                                   epilog=ENDING, formatter_class=argparse.RawDescriptionHelpFormatter)
+    name = pathlib.Path(sys.argv[0]).stem
+    line = argparse.ArgumentParser(f"checks/run {name} --", description=sys.modules["__main__"].__doc__, epilog=ENDING,
+                                   allow_abbrev=False, formatter_class=argparse.RawDescriptionHelpFormatter)
     line.add_argument("programs", metavar="PROGRAM", nargs="*", type=pathlib.Path,
                       default=[AUDITOR, *[BY_RATTLE] * BY_RATTLE.exists()],
                       help="the auditor, or several; without it the built ones")
-    for name, how in options.items():
-        line.add_argument(f"--{name}", **how)
+    for option, how in options.items():
+        line.add_argument(f"--{option}", **how)
     given = line.parse_args()
     given.programs = [program.resolve() for program in given.programs]
     failed: list[str] = []
     with own_room() as room:
         failed.extend(judge(given, room, failed.append) or ())
     for what in failed:
-        print(f"checks/{pathlib.Path(sys.argv[0]).stem}: {what}", file=sys.stderr)
+        print(f"checks/{name}: {what}", file=sys.stderr)
     sys.exit(1 if failed else 0)
