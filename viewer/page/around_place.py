@@ -9,8 +9,8 @@ from viewer.rules.names import Names
 # most BYTES bytes are looked at.
 RECORDS, FRAMES, BYTES = 6, 20_000, 4000
 
-# BR_TRANSACTION_COMPLETE and BR_NOOP say least.
-LEFT_OUT = "(262, 268)"
+# What says least.
+LEFT_OUT = "('BR_TRANSACTION_COMPLETE', 'BR_NOOP')"
 
 
 class Line(NamedTuple):
@@ -36,7 +36,7 @@ def fields_of(names: Names, kind: str, handle: int | None, code: int | None, siz
 FIELDS = ("SELECT r.place, r.seq, k.name, r.handle, r.code, r.data_size, r.address, r.cookie, r.interface,"
           + ",".join(f" coalesce((SELECT v.{key} FROM sent_to v WHERE v.place = r.place),"
                      f" (SELECT v.{key} FROM came_to v WHERE v.place = r.place))" for key in ("upid", "ptr")))
-WANTED = f"JOIN kind k ON k.number = r.kind WHERE r.kind NOT IN {LEFT_OUT} ORDER BY r.place"
+WANTED = f"JOIN kind k ON k.number = r.kind WHERE k.name NOT IN {LEFT_OUT} ORDER BY r.place"
 OF_THREAD = "FROM (SELECT * FROM raw_frame WHERE utid = :utid AND records > 0 AND seq BETWEEN"
 ITS_SEQ = "(SELECT seq FROM raw_record WHERE place = :place)"
 BEFORE = (f"{FIELDS} {OF_THREAD} {ITS_SEQ} - {FRAMES} AND {ITS_SEQ} ORDER BY seq DESC LIMIT :count) f"
