@@ -15,8 +15,9 @@ from checks.kit.programs import AUDITOR, BY_RATTLE
 Fail = Callable[[str], None]
 
 # How each check ends, as `--help` says.
-ENDING = """If all is well, nothing is printed but what is asked for. If not, a line on standard error says of each thing
-what is wrong with it, or what was expected and what came, and the status is 1."""
+ENDING = """\
+If all is well, nothing is printed but what is asked for. If not, a line on standard error says of each thing what is
+wrong with it, or what was expected and what came, and the status is 1."""
 
 # An option without a value, as `check` takes it.
 FLAG = {"action": "store_true"}

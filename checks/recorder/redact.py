@@ -1,4 +1,3 @@
-#!/usr/bin/env python3
 """Checks what `./record --redact` takes out of payloads.
 
     checks/run redact [-- PROGRAM]      PROGRAM is the auditor; without it, it takes the built one

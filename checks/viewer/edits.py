@@ -6,7 +6,8 @@ from typing import NamedTuple
 
 
 class Edit(NamedTuple):
-    """In a file the one `old`, or the first one at or after `at`, becomes `new`. `nothing`: why that changes nothing."""
+    """In a file the one `old`, or the first one at or after `at`, becomes `new`; `nothing` says why that changes
+    nothing."""
     name: str
     file: str
     at: str

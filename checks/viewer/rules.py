@@ -1,16 +1,14 @@
-#!/usr/bin/env python3
 """Checks the rules of `view` on small sessions, one on either side of each threshold and order; and that the head of
 each SQL file of `view` says what its statements need and make.
 
-    checks/run rules                    plays the sessions of sessions/*cases.py, and compares the rules of their findings
+    checks/run rules                    plays the sessions of sessions/*cases.py, and compares the rules that they get
     checks/run rules -- --edits [EDIT]  also tries wrong rules: each edit of sessions/edits.txt must change what a
                                         session or a scenario of samples/driver gets, or say why it changes nothing; a
                                         line says what tells it. EDIT is a part of the names of some, or several with
                                         commas
     checks/run rules -- --show CASE     prints the findings of the sessions whose name has this text
 
-The report of a session is that of the second reading, its tables are those of `./listing`. If all is well it prints
-nothing. Otherwise it prints what was expected and what came, and ends with status 1.
+The report of a session is that of the second reading, its tables are those of `./listing`.
 """
 
 import argparse

@@ -1,4 +1,5 @@
-"""The driver's books of a scenario, as it saved them from /sys/kernel/debug/binder. viewer/database/books.py reads them."""
+"""The driver's books of a scenario, as it saved them from /sys/kernel/debug/binder. viewer/database/books.py reads
+them."""
 
 import pathlib
 import re

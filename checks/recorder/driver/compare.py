@@ -1,4 +1,3 @@
-#!/usr/bin/env python3
 """Compares the results of a guest: compare.py AUDITOR FOLDER [whole]
 
 Each folder in FOLDER is a scenario. The capture must be well formed, and what the recorder lost must be in the side

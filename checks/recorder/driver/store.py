@@ -1,4 +1,3 @@
-#!/usr/bin/env python3
 """store.py AUDITOR FROM TO: stores the small scenarios of a guest, with their books and the report on each."""
 
 import pathlib

@@ -1,4 +1,3 @@
-#!/usr/bin/env python3
 """Checks the stored captures of the real driver.
 
     checks/run stored [-- PROGRAM]      PROGRAM is the auditor; without it, it takes the built one
