@@ -206,6 +206,9 @@ class Page:
             yield ("In these calls were: " + ", ".join(f"{name_of(who)} thread {thread} ({made} made, {served} served)"
                                                        for who, thread, made, served in going_on[:20])
                    + (", …" if len(going_on) > 20 else "") + ".")
+        if late := self.facts["late_frames"]:
+            yield (f"{counted(late, 'frame')} {'is' if late == 1 else 'are'} later than the end of the recording, and"
+                   " what they come of is not in the capture: findings that come of them are explained (L1).")
         lost = self.ask("SELECT why, count(*) FROM side_lost WHERE seq BETWEEN (SELECT first_seq FROM raw_capture)"
                         " AND (SELECT last_seq FROM raw_capture) GROUP BY 1 ORDER BY 2 DESC")
         if lost:

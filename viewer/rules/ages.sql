@@ -1,5 +1,5 @@
 -- How long each finding has lasted, what its thread did after it, and whether it ended with its thread or process.
--- Times are used if the side list has them, and frames otherwise. After facts.sql.
+-- Times are used if the side list has them, and frames otherwise. After late.sql.
 BEGIN;
 
 -- ---- how long: to the end of its thread, its process or the capture
@@ -40,9 +40,11 @@ WHERE l.utid = finding.utid AND p.upid = iif(section = 'oneway', finding.target,
 
 -- later: how many calls its thread began after it, at most 4. All that a thread does after an open call is within that
 -- call, so a call counts if it is no deeper than a call that would begin at the finding. For what is not a transaction,
--- write frames count: those among the next 2,000 frames, or one if the thread wrote only after these.
+-- write frames count: those among the next 2,000 frames, or one if the thread wrote only after these. What came after
+-- the end does not count.
 UPDATE finding SET later = (SELECT count(*) FROM (SELECT 1 FROM (SELECT depth FROM raw_call c
-  WHERE c.utid = finding.utid AND c.place > finding.place ORDER BY c.place LIMIT 64) c WHERE c.depth <= coalesce(
+  WHERE c.utid = finding.utid AND c.place > finding.place AND c.seq NOT IN (SELECT seq FROM late)
+  ORDER BY c.place LIMIT 64) c WHERE c.depth <= coalesce(
     (SELECT o.depth FROM raw_delivery d JOIN raw_call o ON o.place = d.call WHERE d.place = finding.place),
     (SELECT o.depth + (o.closer IS NULL OR o.closer > finding.place) FROM raw_call o WHERE o.utid = finding.utid
       AND o.place < finding.place ORDER BY o.place DESC LIMIT 1), 1) LIMIT 4))

@@ -11,7 +11,8 @@ from viewer.units import counted, duration_of, likeness, status_name
 FOLDER = pathlib.Path(__file__).resolve().parent
 
 # The files that judge the rows of the report, in order.
-JUDGING = ("nodes.sql", "names.sql", "facts.sql", "ages.sql", "waits.sql", "rules.sql", "groups.sql", "stacks.sql")
+JUDGING = ("nodes.sql", "names.sql", "facts.sql", "late.sql", "ages.sql", "waits.sql", "rules.sql", "groups.sql",
+           "stacks.sql")
 
 
 def judge(database: sqlite3.Connection, folder: pathlib.Path = FOLDER) -> None:
