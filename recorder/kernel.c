@@ -15,6 +15,7 @@
 
 static struct record *program;
 static struct bpf_link *opens, *releases;
+static u64 end_number = UINT64_MAX;	/* with which the recording has ended */
 static char last_words[512];
 
 /* Keeps the first line that libbpf writes about a failure, for the message to the user. */
@@ -176,9 +177,16 @@ void kernel_start(void)
 	__atomic_store_n(&program->data->stopped, 0, __ATOMIC_SEQ_CST);
 }
 
-void kernel_stop(void)
+/* The end is a place in the order of the numbers, which one counter gives to all processors: what took its number
+ * before this look at the counter is in the recording, and what took it later is not. Of two frames of which one comes
+ * of the other, that one has the higher number, on whichever processors they are: so all that a frame of the recording
+ * comes of is before the end, too. `stopped` only saves work. A processor may see it some time later, and take more
+ * numbers. */
+u64 kernel_stop(void)
 {
+	end_number = kernel_last_number();
 	__atomic_store_n(&program->data->stopped, 1, __ATOMIC_SEQ_CST);
+	return end_number;
 }
 
 void kernel_detach(void)
@@ -191,7 +199,8 @@ void kernel_detach(void)
 
 u64 kernel_last_number(void)
 {
-	return __atomic_load_n(&program->bss->last_number, __ATOMIC_SEQ_CST);
+	u64 number = __atomic_load_n(&program->bss->last_number, __ATOMIC_SEQ_CST);
+	return number < end_number ? number : end_number;
 }
 
 u64 kernel_bound(void)

@@ -9,10 +9,12 @@ void kernel_load(const struct options *options, struct ring *ring);
 /* Looks up the openings that exist already. */
 void kernel_meet_openings(void);
 void kernel_start(void);
-/* From now on no new call is recorded. Calls in the driver still report how they end. */
-void kernel_stop(void);
-/* From now on calls in the driver report nothing either. */
+/* Ends the recording with the last number that has been taken by now, and returns it. No more numbers are taken, but
+ * for some by programs that have begun. What the driver still does with writes that have a number is reported. */
+u64 kernel_stop(void);
+/* From now on that is not reported either. */
 void kernel_detach(void);
+/* The last number that was taken, or the one with which the recording has ended. */
 u64 kernel_last_number(void);
 /* The messages of all numbers up to this one are in the ring, or had no room there. */
 u64 kernel_bound(void);

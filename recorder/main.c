@@ -27,7 +27,7 @@
 #define TELL_EVERY (1000u * MILLISECOND)
 #define LOOK_EVERY (2u * MILLISECOND)
 #define FEW_MESSAGES 256
-#define LAST_WAIT (1000u * MILLISECOND)		/* for writes that the driver has not finished */
+#define LAST_WAIT (1000u * MILLISECOND)		/* for frames that are not whole when the recording ends */
 
 static volatile sig_atomic_t signal_got;
 
@@ -114,24 +114,28 @@ static int record(struct ring *ring)
 	return error;
 }
 
-/* Takes what still comes, from calls that are in the driver. */
+/* Ends the recording at one moment. What comes later is not in it, for example what a call reads that waits in the
+ * driver then: what that comes of may not be in it either. What has its number by then may still be on its way, and is
+ * waited for: a program copies it, the loader is behind with the ring, or the driver is not through with a write. */
 static void finish(struct ring *ring)
 {
-	kernel_stop();
-	u64 stopped = now();
-	for (int round = 0; now() - stopped < LAST_WAIT && (round < 3 || window_waiting()); round++) {
+	u64 last = kernel_stop(), stopped = now();
+	window_stop(last, stopped);
+	while (window_last() < last && now() - stopped < LAST_WAIT) {
 		take(ring);
 		pause_for(LOOK_EVERY);
 	}
 	kernel_detach();
 	pause_for(10 * LOOK_EVERY);
-	while (take(ring) > 0 || (kernel_bound() < kernel_last_number() && now() - stopped < 2 * LAST_WAIT))
+	while (take(ring) > 0 || (kernel_bound() < last && now() - stopped < 2 * LAST_WAIT))
 		pause_for(LOOK_EVERY);
 	missed_tell();
-	window_end(kernel_last_number());
+	window_end();
 	stacks_end();
 	books_tell();
-	side_line(stopped, "end recording after=%llu frames=%llu lost=%llu", (unsigned long long)window_last(),
+	/* A program that had its number at the end may have looked at the clock after that. */
+	u64 time = window_latest() > stopped ? window_latest() : stopped;
+	side_line(time, "end recording after=%llu frames=%llu lost=%llu", (unsigned long long)window_last(),
 		  (unsigned long long)window_frames(), (unsigned long long)window_lost());
 }
 

@@ -465,6 +465,8 @@ SEC("tp/binder/binder_ioctl_done") int at_return(struct number_fields *fields)
 			lose(t, t->write_number, REASON_EFAULT);
 		else
 			end_write(t, unknown ? 0 : written);
+	} else if (stopped) {		/* what is read after the end is not in the recording */
+		return 0;
 	} else if (unknown) {
 		if (t->read_consumed < t->read_size)
 			end_read(t, 0);

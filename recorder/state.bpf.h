@@ -114,7 +114,7 @@ TABLE(driver_devices, u32, u32);	/* that the driver made itself */
 const volatile u64 ring_limit = 60 << 20;
 const volatile u32 by_process = 0, by_device = 0, no_attachments = 0;
 
-u32 stopped = 1;
+u32 stopped = 1;		/* no number is taken: the recording has not begun, or has ended (kernel_stop) */
 u64 last_number = 0;
 u32 last_thread = 0, last_opening = 0;
 u64 half_calls = 0;	/* calls of which the entry, a command or the return was not seen */

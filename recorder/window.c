@@ -32,6 +32,8 @@ static u64 room;
 static u64 next = 1, end = 1;			/* the numbers from `next` to before `end` have a slot */
 static u64 checked;				/* no number up to this one is silent */
 static u64 memory, waiting, frames, lost, lost_because[REASON_END];
+static u64 last_number = UINT64_MAX, last_time = UINT64_MAX;	/* where the recording ends */
+static u64 latest;				/* the latest time of a frame that was written */
 static u64 *waits_of;				/* by thread: its write that waits, or 0 */
 static u32 wait_room;
 
@@ -40,6 +42,7 @@ u64 window_frames(void) { return frames; }
 u64 window_lost(void) { return lost; }
 u64 window_lost_because(enum reason reason) { return lost_because[reason]; }
 u64 window_last(void) { return next - 1; }
+u64 window_latest(void) { return latest; }
 
 static struct slot *at(u64 number)
 {
@@ -114,6 +117,8 @@ static void settle_slot(struct slot *slot)
 			lose_slot(slot, reason);
 		else
 			frames++;
+		if (!reason && slot->frame->time > latest)
+			latest = slot->frame->time;
 	}
 	if (slot->state == LOST)
 		write_lost(slot);
@@ -155,7 +160,13 @@ void window_silent_until(u64 bound)
 		checked = bound;
 }
 
-void window_end(u64 last_number)
+void window_stop(u64 number, u64 time)
+{
+	last_number = number;
+	last_time = time;
+}
+
+void window_end(void)
 {
 	window_silent_until(last_number);
 	for (u64 number = next; number < end; number++)
@@ -328,10 +339,19 @@ static void hear_event(const struct event *event)
 	}
 }
 
+/* Whether a message tells of what came after the recording: of a later frame or, if it is of no frame, of a later time.
+ * What frames of the recording need to know of their threads came before them, and what is told of such a frame has its
+ * number, be it ever so late. */
+static int is_after_end(const struct message *head)
+{
+	int is_of_frame = head->type < MESSAGE_OPENING || head->type == MESSAGE_STACK;
+	return head->number > last_number || (!is_of_frame && head->time > last_time);
+}
+
 void window_hear(const void *message, u64 bytes)
 {
 	const struct message *head = message;
-	if (bytes < sizeof *head)
+	if (bytes < sizeof *head || is_after_end(head))
 		return;
 	if (head->type == MESSAGE_CHUNK)
 		hear_chunk(message);

@@ -11,8 +11,10 @@ void window_silent_until(u64 bound);
 /* Writes frames that can be written, for a moment: the ring must not get full meanwhile. Returns 1 if there are
  * more. */
 int window_settle(void);
-/* The recording has ended with this number. */
-void window_end(u64 last_number);
+/* The recording ends with this number, at this time: from now on messages of what came after that are left out. */
+void window_stop(u64 number, u64 time);
+/* No message comes any more: writes what is left up to that number. */
+void window_end(void);
 /* How many writes wait for the driver to say what it consumed. */
 u64 window_waiting(void);
 u64 window_frames(void);
@@ -20,4 +22,6 @@ u64 window_lost(void);
 u64 window_lost_because(enum reason reason);
 /* The last number that is settled. */
 u64 window_last(void);
+/* The latest time of a frame that was written. */
+u64 window_latest(void);
 #endif

@@ -1,5 +1,6 @@
-/* flight WORD..: the recorder on these words, with a driver that is made up. The driver is through with its only write
- * when the recording ends: so nearly all frames are written after its books were copied. See loader. */
+/* flight WORD..: the recorder on these words, with a driver that is made up, which ends the recording by a signal. It
+ * is through with its only write after that: so nearly all frames are written after its books were copied. And it does
+ * more then, which is not in the recording. See loader. */
 #define _GNU_SOURCE
 #include "kernel.h"
 #include "kit.h"
@@ -7,6 +8,7 @@
 #include "needs.h"
 #include <fcntl.h>
 #include <linux/android/binder.h>
+#include <signal.h>
 #include <stdarg.h>
 #include <stdlib.h>
 #include <string.h>
@@ -21,6 +23,7 @@ enum {
 static u32 looks;		/* how often the ring was looked at */
 static int is_stopped, is_written;
 static u64 last;		/* the number that was taken last */
+static u64 end_number;		/* the same when the recording ended */
 static u64 missed;		/* events */
 
 /* A frame of so many codes without a payload. */
@@ -34,6 +37,31 @@ static void hear_codes(void (*hear)(const void *, u64), u32 direction, u32 code,
 		memcpy((u8 *)(chunk + 1) + i * sizeof code, &code, sizeof code);
 	hear(chunk, sizeof *chunk + bytes);
 	free(chunk);
+}
+
+static void hear_event(void (*hear)(const void *, u64), struct event event)
+{
+	hear(&event, sizeof event);
+}
+
+/* A process that had no opening of a device ends. */
+static void hear_end(void (*hear)(const void *, u64), u32 process)
+{
+	struct event event = { .head = head_of(MESSAGE_ENDED, 0, last, 0), .ended = { .process = process, .is_last = 1 } };
+	hear_event(hear, event);
+}
+
+/* The driver is through with the write. All else is after the end: a process ends; a program that had begun takes a
+ * number for a read, one for a read that is lost, and one for a write that does not end; and one more process ends. */
+static void hear_last(void (*hear)(const void *, u64))
+{
+	hear_event(hear, (struct event){ .head = head_of(MESSAGE_WRITTEN, DIRECTION_WRITE, 3, DIRECTION_WRITE), .written = { 4 } });
+	hear_end(hear, 2002);
+	hear_codes(hear, DIRECTION_READ, BR_NOOP, RETURNS);
+	hear_event(hear, (struct event){ .head = head_of(MESSAGE_LOST, DIRECTION_READ, ++last, DIRECTION_READ),
+					 .lost = { REASON_UNREADABLE } });
+	hear_codes(hear, DIRECTION_WRITE, BC_ENTER_LOOPER, 1);
+	hear_end(hear, 2003);
 }
 
 /* Two reads come, and something is missed that no later frame lacks. Then the write comes, and the reads that wait for
@@ -50,11 +78,11 @@ long ring_drain(struct ring *ring, void (*hear)(const void *message, u64 bytes))
 		hear_codes(hear, DIRECTION_WRITE, BC_ENTER_LOOPER, 1);
 		for (u32 i = 0; i < READS; i++)
 			hear_codes(hear, DIRECTION_READ, BR_NOOP, RETURNS);
+		hear_end(hear, 2001);
 		missed += 3;
+		raise(SIGINT);
 	} else if (is_stopped && !is_written) {
-		struct event event = { .head = head_of(MESSAGE_WRITTEN, DIRECTION_WRITE, 3, DIRECTION_WRITE),
-				       .written = { 4 } };
-		hear(&event, sizeof event);
+		hear_last(hear);
 		is_written = 1;
 		return 1;
 	}
@@ -100,17 +128,23 @@ void need_tracepoints(void) {}
 
 void kernel_load(const struct options *options, struct ring *ring) { (void)options, (void)ring; }
 void kernel_start(void) {}
-void kernel_stop(void) { is_stopped = 1; }
 void kernel_detach(void) {}
 void kernel_unload(void) {}
-u64 kernel_last_number(void) { return last; }
-u64 kernel_bound(void) { return last; }
+u64 kernel_last_number(void) { return is_stopped ? end_number : last; }
+u64 kernel_bound(void) { return kernel_last_number(); }
 u64 kernel_runs_missed(void) { return missed; }
 u64 kernel_calls_32_bit(void) { return 0; }
 u64 kernel_calls_without_number(void) { return 0; }
 u64 kernel_stacks_without_room(void) { return 0; }
 u64 kernel_stacks_failed(void) { return 0; }
 u64 kernel_stacks_empty(void) { return 0; }
+
+u64 kernel_stop(void)
+{
+	end_number = last;
+	is_stopped = 1;
+	return end_number;
+}
 
 void kernel_meet_openings(void)
 {

@@ -3,7 +3,8 @@
 # entries, 200,000 ends of processes while a write waits, 500 MiB of other frames while a write waits, and 100 MiB of
 # frames that can be written at once, and are redacted. Also that command lines of all bytes are whole lines of the side
 # list. And if most frames of a flight recorder are written only when it ends, that the last side list tells of the
-# driver's books of the end, and each one of what was missed meanwhile, since older side lists are removed then.
+# driver's books of the end, and each one of what was missed meanwhile, since older side lists are removed then. And that
+# a recording ends at one moment: what has its number by then is written later, and what comes later is in no line.
 #
 #     checks/run loader
 #
@@ -30,15 +31,28 @@ tells() { # OUT DUE SIDE..
   done < <(sed -nE 's/^[0-9]+ books ([a-z]+) ([a-z]+) .* bytes=([0-9]+)$/\1.\2 \3/p' "${@:3}")
 }
 
+# Checks the lines of what ends and is lost, the last frame, and that no frame is later than the end.
+ends_at_once() { # SIDE
+  local due told
+  due=$'end pid 2001 after=103\nend recording after=103 frames=103 lost=0\nframe 103 in time'
+  told=$(awk '$2 == "frame" { last = $3; if ($1 > latest) latest = $1 }
+    $2 == "end" || $2 == "lost" { time = $1; sub(/^[0-9]+ /, ""); print }
+    END { print "frame", last, (latest > time ? "late" : "in time") }' "$1")
+  if [[ $told != "$due" ]]; then
+    printf 'checks/loader: the end of a recording: %s\n' "$told" && failed=1
+  fi
+}
+
 failed=0
 "$here/build.sh" loader "$room"
 "$room/loader" "$room/out" || failed=1
 
 "$here/build.sh" flight "$room" -Wl,--wrap=open
-ends='end state,end transactions,end stats,recording'
-"$room/flight" -o "$room/whole" -- true 2>/dev/null
+ends='pid,end state,end transactions,end stats,recording'
+"$room/flight" -o "$room/whole" 2>/dev/null
 tells "$room/whole" "begin state,begin transactions,begin stats,$ends" "$room/whole.side"
-"$room/flight" -o "$room/kept" --size 65536 --files 2 -- true 2>"$room/told"
+ends_at_once "$room/whole.side"
+"$room/flight" -o "$room/kept" --size 65536 --files 2 2>"$room/told"
 lists=("$room"/kept-*.side)
 if [[ ${#lists[@]} != 2 || -e $room/kept-1.side ]]; then
   printf 'checks/loader: a flight recorder kept %s: %s\n' "${lists[*]}" "$(<"$room/told")" && failed=1

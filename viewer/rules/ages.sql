@@ -1,7 +1,7 @@
 -- How long each finding has lasted, what its thread did after it, and whether it ended with its thread or process.
 -- Times are used if the side list has them, and frames otherwise.
 -- needs: database/schema.sql: book, book_opening, capture, finding, raw_call, raw_capture, raw_delivery, raw_frame,
---   raw_record, raw_thread, side_time; database/views.sql: process, thread
+--   raw_record, raw_thread, side_time; database/views.sql: process, thread; late.sql: late
 -- makes: temporary tables: last, process_life, begun, life, usual, old, ended, leaving; indexes: life_of_process,
 --   begun_process, life_of_thread, old_finding, ended_finding, leaving_finding
 
@@ -44,8 +44,10 @@ WHERE l.utid = finding.utid AND p.upid = iif(section = 'oneway', finding.target,
 -- later: how many calls its thread began after it, at most :MOST_LATER. All that a thread does after an open call is
 -- within that call, so a call counts if it is no deeper than a call that would begin at the finding. For what is not a
 -- transaction, write frames count: those among the next :FRAMES_AHEAD, or one if the thread wrote only after these.
+-- What came after the end does not count.
 UPDATE finding SET later = (SELECT count(*) FROM (SELECT 1 FROM (SELECT depth FROM raw_call c
-  WHERE c.utid = finding.utid AND c.place > finding.place ORDER BY c.place LIMIT :CALLS_AHEAD) c
+  WHERE c.utid = finding.utid AND c.place > finding.place AND c.seq NOT IN (SELECT seq FROM late)
+  ORDER BY c.place LIMIT :CALLS_AHEAD) c
   WHERE c.depth <= coalesce(
     (SELECT o.depth FROM raw_delivery d JOIN raw_call o ON o.place = d.call WHERE d.place = finding.place),
     (SELECT o.depth + (o.closer IS NULL OR o.closer > finding.place) FROM raw_call o WHERE o.utid = finding.utid

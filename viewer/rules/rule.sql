@@ -18,6 +18,7 @@ INSERT INTO lossy SELECT upid FROM process_life p WHERE EXISTS (SELECT 1 FROM si
 CREATE TABLE rule(id TEXT PRIMARY KEY, verdict TEXT NOT NULL, text TEXT NOT NULL) STRICT;
 INSERT INTO rule VALUES
   ('A1', 'explained', 'The other end, or the buffer, of a call: one finding with it.'),
+  ('L1', 'explained', 'It comes of what was read after the end of the recording.'),
   ('M1', 'explained', 'Frames of its process are missing, and the one that it lacks may be among them.'),
   ('M2', 'maybe', 'It has lasted as what is real does, but frames of its process, or of whom it calls, are missing.'),
   ('M3', 'maybe', 'An error reply ended a send, and it need not be this one: frames of its process are missing.'),

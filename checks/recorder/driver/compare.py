@@ -1,10 +1,10 @@
 """Compares the results of a guest: compare.py AUDITOR FOLDER [whole]
 
-Each folder in FOLDER is a scenario. The capture must be well formed, and what the recorder lost must be in the side
-list. sections.py compares the report with the driver's books. If the witness recorded too, the two recordings are
-compared frame by frame. The list explained.txt has the differences that are explained, with their reasons. Any other
-difference is named, and the status is then 1. To test the comparison itself, one count of each section is changed in
-the books: if that is not found, the status is 1 too.
+Each folder in FOLDER is a scenario. The capture must be well formed and end at one moment, and what the recorder lost
+must be in the side list. sections.py compares the report with the driver's books. If the witness recorded too, the two
+recordings are compared frame by frame. The list explained.txt has the differences that are explained, with their
+reasons. Any other difference is named, and the status is then 1. To test the comparison itself, one count of each
+section is changed in the books: if that is not found, the status is 1 too.
 """
 
 import pathlib
@@ -120,6 +120,21 @@ def lost_differences(recording):
         yield "lost", "all", "untold", len(unused - told), 0
     for why, count in sorted(Counter(why for _, why in recording.lost).items()):
         yield "lost", "all", why, count, 0
+
+
+def end_differences(recording):
+    """A recording ends at one moment: no frame comes after it, nothing is told to have ended after it, and it names the
+    last number."""
+    if recording.end is None:
+        return
+    time, after = recording.end
+    numbers = [*(number for number, _ in recording.lost), *(frame.sequence for frame in recording.frames)]
+    if late := sum(one > time for one in recording.times):
+        yield "end", "all", "late", late, 0
+    if late := sum(one > time for one in recording.ends):
+        yield "end", "all", "ended", late, 0
+    if after != max(numbers, default=0):
+        yield "end", "all", "after", after, max(numbers, default=0)
 
 
 MISSED = {"crowd": "calls-without-number"}	# what a scenario makes the recorder miss
@@ -341,7 +356,7 @@ class Scenario:
             if not self.recording.frames:
                 found.append(("capture", "all", "frames", 0, 1))
             if self.how == "late" and self.recording.lasted_after_frames() > MOST_AFTER:
-                found.append(("lost", "all", "end", self.recording.lasted_after_frames(), MOST_AFTER))
+                found.append(("end", "all", "without-frames", self.recording.lasted_after_frames(), MOST_AFTER))
             if self.how == "flight":
                 found += flight_differences(self.recording, self.folder)
             if self.how == "hoard":
@@ -352,17 +367,19 @@ class Scenario:
                 found += view_differences(self.folder)
             if self.has_copies:
                 found += copy_differences(self.how, self.recording, self.folder)
-            return found, {"capture", "lost", "names", "books"} | ({"view"} if self.name == "before" else set())
+            found += end_differences(self.recording)
+            return found, {"capture", "lost", "names", "books", "end"} | ({"view"} if self.name == "before" else set())
         if self.books is None:
             return [("status", "all", "no books", self.status, 0)], {"status"}
         sides = both(self.recording, self.report, books_of.Books(texts or self.books))
         found = list(sides.differences())
         found += purpose_differences(self.name, self.report, self.recording)
         found += lost_differences(self.recording)
+        found += end_differences(self.recording)
         found += sender_differences(self.recording)
         found += bits_differences(self.how, self.recording)
         found += [("status", "all", "unsaid", words, 0) for words in SAYS.get(self.how, ()) if words not in self.output]
-        seen = sides.seen | {"purpose", "lost", "capture", "status", "senders", "names"}
+        seen = sides.seen | {"purpose", "lost", "end", "capture", "status", "senders", "names"}
         if self.name in ("people", "people-redacted"):
             found += command_differences(self.recording)
         if self.has_copies:

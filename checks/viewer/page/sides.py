@@ -57,6 +57,21 @@ def check_side(folder: pathlib.Path, room: pathlib.Path, fail: Fail) -> None:
             compare(f"{what}, the page says it", "The side list " in shown.read_text(), bool(line), fail)
 
 
+def check_late(folder: pathlib.Path, room: pathlib.Path, fail: Fail) -> None:
+    """Of a recording that goes on after its end, as those of earlier recorders do, the page says how many frames are
+    later."""
+    here = DRIVER / "hung"
+    side = (here / "capture.side").read_text()
+    times = sorted(int(time) for time in re.findall(r"^(\d+) frame ", side, re.MULTILINE))
+    for late in 0, 1, 3:
+        (room / "late.side").write_text(re.sub(r"^\d+ end recording", f"{times[-1 - late]} end recording", side,
+                                               flags=re.MULTILINE))
+        shown = room / f"late-{late}.html"
+        view(folder, room, here / "capture-1.cap", "--side", "late.side", "-o", shown.name)
+        came = re.findall(r"(\d+ frames?) (?:is|are) later than the end of the recording", texts_of(shown))
+        compare(f"{late} late frames", came, ["1 frame"] if late == 1 else ["3 frames"] if late else [], fail)
+
+
 def as_files(side: str, first: int) -> list[str]:
     """The side lists of a recorder that keeps the newest files, and whose second file begins with frame `first`."""
     head, begun, lines = "binder side list 1\n", "", [[], []]

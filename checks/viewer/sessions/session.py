@@ -142,7 +142,7 @@ class Session:
     def __init__(self, has_side=True):
         self.time, self.sequence, self.has_side = 1_000_000_000, 0, has_side
         self.frames, self.lines, self.missing, self.copies = [HEADER_2], [], 0, {}
-        self.stack = None
+        self.stack = self.end = None
         self.tell("begin realtime=1 kernel=6.1 machine=x86_64")
         self.tell("device 0 major=10 minor=1 name=binder")
 
@@ -187,10 +187,14 @@ class Session:
         service.main.writes(*([ENTER] if enters else []))
         return service, client
 
+    def stops(self, now=True):
+        """The recording ends now, and what comes later is in it all the same."""
+        self.end = self.time if now else None
+
     def capture(self):
         return b"".join(self.frames)
 
     def side(self):
         frames = self.sequence - self.missing
-        end = f"{self.time} end recording after={self.sequence} frames={frames} lost={self.missing}\n"
+        end = f"{self.end or self.time} end recording after={self.sequence} frames={frames} lost={self.missing}\n"
         return "binder side list 1\n" + "".join(self.lines) + end
