@@ -1,0 +1,44 @@
+/* Processes of a single thread: see roles.h. */
+#include "roles.h"
+
+static struct proxy *other;
+static int64_t began;
+
+static void call_other(const struct single *single)
+{
+	struct message message = message_to(single->calls_interface);
+	add_filler(&message, 16 + draw(100));
+	if (fresh(&other, single->calls, OK)) ask(other, 1, &message, NULL);
+	else message_end(&message);
+}
+
+static void work(const struct single *single)
+{
+	nap(single->work_least, single->work_most);
+	if (single->later && now() > began + single->later) nap(single->later_work, single->later_work);
+}
+
+static int32_t single_answer(struct object *object, uint32_t code, struct reader *request, struct message *reply)
+{
+	const struct single *single = object->of;
+	(void)request;
+	if (code != 1 && code != 2) return UNKNOWN_CODE;
+	work(single);
+	if (code == 2 && single->calls_in_work) call_other(single);
+	add_number(reply, 0);
+	add_filler(reply, 8 + draw(60));
+	return OK;
+}
+
+void single(void)
+{
+	const struct single *single = given;
+	began = now();
+	join(0);
+	publish(single->name, make_object(single_answer, (void *)single));
+	command(self(), BC_ENTER_LOOPER, NULL);
+	for (;;) {
+		serve_for(single->least + draw(single->most - single->least + 1));
+		if (single->calls && running()) call_other(single);
+	}
+}
