@@ -92,7 +92,7 @@ static void metrics_intake(void)
 /* ---- fingerprint: a call that is never answered, as nobody says that its job is over */
 
 static const struct waits biometrics = {.name = "fingerprint", .interface = "android.hardware.fingerprint.IFingerprint",
-	.threads = 10, .longest = 3000, .job_least = 30, .job_most = 250, .lost_in = 35};
+	.threads = 10, .longest = 3000, .job_least = 30, .job_most = 250, .lost_in = 20};
 static const struct poller unlock = {.service = "fingerprint", .interface = "android.hardware.fingerprint.IFingerprint",
 	.threads = 3, .least = 20, .most = 120, .change = 1, .job = 5, .state = 5};
 static const struct poller indicator = {.service = "fingerprint",
@@ -113,11 +113,10 @@ static void fingerprint(void)
 
 static const struct single modem = {.name = "modem", .interface = "android.hardware.radio.IRadio", .calls = "sim",
 	.calls_interface = "android.hardware.radio.sim.ISim", .least = 200, .most = 700, .work_least = 2,
-	.work_most = 8,
-	.calls_in_work = true, .later = 8000, .later_work = 40};
+	.work_most = 8, .calls_in_work = true, .later = 6000, .tick = 300};
 static const struct single sim = {.name = "sim", .interface = "android.hardware.radio.sim.ISim", .calls = "modem",
 	.calls_interface = "android.hardware.radio.IRadio", .least = 400, .most = 1100, .work_least = 1,
-	.work_most = 4};
+	.work_most = 4, .later = 6000, .tick = 300};
 static const struct visitor phone_app = {.threads = 2, .least = 90, .most = 240, .visits = {
 	{"modem", "android.hardware.radio.IRadio", 1, 40, 4, false},
 	{"modem", "android.hardware.radio.IRadio", 2, 40, 2, false},
@@ -136,15 +135,14 @@ static void modem_and_sim(void)
 /* ---- car-gateway: three processes of one thread call each other in a ring */
 
 static const struct single cluster = {.name = "cluster", .interface = "com.car.ICluster", .calls = "gateway",
-	.calls_interface = "com.car.IGateway", .least = 60, .most = 260, .work_least = 2, .work_most = 8, .later = 7000,
-	.later_work = 25};
+	.calls_interface = "com.car.IGateway", .least = 60, .most = 260, .work_least = 2, .work_most = 8,
+	.later = 5000, .tick = 200};
 static const struct single gateway = {.name = "gateway", .interface = "com.car.IGateway", .calls = "diagnosis",
 	.calls_interface = "com.car.IDiagnosis", .least = 60, .most = 260, .work_least = 2, .work_most = 8,
-	.later = 7000,
-	.later_work = 25};
+	.later = 5000, .tick = 200};
 static const struct single diagnosis = {.name = "diagnosis", .interface = "com.car.IDiagnosis", .calls = "cluster",
-	.calls_interface = "com.car.ICluster", .least = 60, .most = 260, .work_least = 2, .work_most = 8, .later = 7000,
-	.later_work = 25};
+	.calls_interface = "com.car.ICluster", .least = 60, .most = 260, .work_least = 2, .work_most = 8,
+	.later = 5000, .tick = 200};
 static const struct visitor driver_app = {.threads = 2, .least = 60, .most = 200, .visits = {
 	{"cluster", "com.car.ICluster", 1, 40, 3, false}, {"gateway", "com.car.IGateway", 1, 40, 1, false},
 	{"settings", "android.content.IContentService", 1, 40, 3, false}}};
@@ -188,9 +186,9 @@ static const struct plain dumps = {"dumpstate", "android.os.IDumpstate", 4, {
 static const struct visitor status = {.threads = 3, .least = 20, .most = 70, .visits = {
 	{"dumpstate", "android.os.IDumpstate", 1, 40, 4, false},
 	{"dumpstate", "android.os.IDumpstate", 2, 40, 2, false}}};
-static const struct visitor bug_report_app = {.threads = 6, .least = 900, .most = 2600, .visits = {
-	{"dumpstate", "android.os.IDumpstate", 6, 100, 5, false},
-	{"dumpstate", "android.os.IDumpstate", 2, 40, 3, false}}};
+static const struct visitor bug_report_app = {.threads = 8, .least = 300, .most = 1300, .visits = {
+	{"dumpstate", "android.os.IDumpstate", 6, 100, 6, false},
+	{"dumpstate", "android.os.IDumpstate", 2, 40, 2, false}}};
 
 static void bug_report(void)
 {
@@ -306,8 +304,7 @@ static const struct herald touches = {.name = "input", .interface = "android.har
 	.listener = "android.hardware.input.ITouchListener", .threads = 4, .least = 4, .most = 14, .payload = 1400};
 static const struct hearer tracer = {.service = "input", .interface = "android.hardware.input.IInputManager",
 	.listener = "android.hardware.input.ITouchListener", .listeners = 1, .least = 30000, .most = 30001,
-	.work_most = 1,
-	.room = 256 << 10, .stall_in = 300, .stall = 1500};
+	.work_most = 1, .room = 256 << 10, .stall_in = 300, .stall = 1500};
 static const struct hearer pointer = {.service = "input", .interface = "android.hardware.input.IInputManager",
 	.listener = "android.hardware.input.ITouchListener", .listeners = 1, .least = 3000, .most = 6000,
 	.work_most = 1};
@@ -584,8 +581,7 @@ const struct session faulty[] = {
 	{"car-gateway", car_gateway}, {"window-focus", window_focus}, {"bug-report", bug_report},
 	{"print-spooler", print_spooler}, {"step-counter", step_counter}, {"voice-assistant", voice_assistant},
 	{"sms-store", sms_store}, {"touch-trace", touch_trace}, {"music-player", music_player},
-	{"satellites", satellites},
-	{"chat-push", chat_push}, {"file-share", file_share}, {"tile-map", tile_map},
+	{"satellites", satellites}, {"chat-push", chat_push}, {"file-share", file_share}, {"tile-map", tile_map},
 	{"bluetooth-scan", bluetooth_scan},
 	{"photo-decoder", photo_decoder}, {"usb-sessions", usb_sessions}, {"weather-widget", weather_widget},
 	{"scanner-pages", scanner_pages}, {"ticker", ticker}, {"smart-meter", smart_meter}, {0}};

@@ -204,8 +204,7 @@ static void log_bursts(void)
 
 static const struct hearer saver = {.service = "batteryproperties",
 	.interface = "android.os.IBatteryPropertiesRegistrar", .listener = "android.os.IBatteryListener",
-	.listeners = 3,
-	.least = 1500, .most = 6000, .work_most = 4};
+	.listeners = 3, .least = 1500, .most = 6000, .work_most = 4};
 
 static void late_home(void)
 {

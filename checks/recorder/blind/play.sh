@@ -1,4 +1,4 @@
-# shellcheck shell=bash
+# shellcheck shell=bash disable=SC2154,SC2034 # driver.sh has the variables
 # Records the sessions of the blind test set; checks/recorder/driver.sh sources it for --blind, and has the functions
 # that it calls. Of each kernel it leaves the folder blind-SERIES in the room of --room, with a folder for each session:
 # the captures, their side list, the driver's books, and `dmesg`. Nothing is judged, and nothing of it is stored.

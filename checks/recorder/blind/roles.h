@@ -169,7 +169,7 @@ struct single {
 	int work_least, work_most;	/* what a call takes */
 	bool calls_in_work;		/* calls the other one in the middle of its work too */
 	/* faults, as two or more can wait for each other */
-	int later, later_work;		/* after so many milliseconds its work takes so many more */
+	int later, tick;		/* after so many milliseconds it calls on a tick of the system's clock */
 };
 void single(void);
 

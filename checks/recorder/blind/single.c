@@ -12,10 +12,11 @@ static void call_other(const struct single *single)
 	else message_end(&message);
 }
 
-static void work(const struct single *single)
+/* How long it is until it calls the other one: of its own, or on a tick that others have too. */
+static int until_call(const struct single *single)
 {
-	nap(single->work_least, single->work_most);
-	if (single->later && now() > began + single->later) nap(single->later_work, single->later_work);
+	if (single->tick && now() > began + single->later) return single->tick - (int)(now() % single->tick);
+	return single->least + draw(single->most - single->least + 1);
 }
 
 static int32_t single_answer(struct object *object, uint32_t code, struct reader *request, struct message *reply)
@@ -23,7 +24,7 @@ static int32_t single_answer(struct object *object, uint32_t code, struct reader
 	const struct single *single = object->of;
 	(void)request;
 	if (code != 1 && code != 2) return UNKNOWN_CODE;
-	work(single);
+	nap(single->work_least, single->work_most);
 	if (code == 2 && single->calls_in_work) call_other(single);
 	add_number(reply, 0);
 	add_filler(reply, 8 + draw(60));
@@ -38,7 +39,7 @@ void single(void)
 	publish(single->name, make_object(single_answer, (void *)single));
 	command(self(), BC_ENTER_LOOPER, NULL);
 	for (;;) {
-		serve_for(single->least + draw(single->most - single->least + 1));
+		serve_for(until_call(single));
 		if (single->calls && running()) call_other(single);
 	}
 }
