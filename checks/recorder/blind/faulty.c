@@ -113,10 +113,10 @@ static void fingerprint(void)
 
 static const struct single modem = {.name = "modem", .interface = "android.hardware.radio.IRadio", .calls = "sim",
 	.calls_interface = "android.hardware.radio.sim.ISim", .least = 200, .most = 700, .work_least = 2,
-	.work_most = 8, .calls_in_work = true, .later = 6000, .tick = 300};
+	.work_most = 8, .calls_in_work = true, .later = 8000, .tick = 300};
 static const struct single sim = {.name = "sim", .interface = "android.hardware.radio.sim.ISim", .calls = "modem",
 	.calls_interface = "android.hardware.radio.IRadio", .least = 400, .most = 1100, .work_least = 1,
-	.work_most = 4, .later = 6000, .tick = 300};
+	.work_most = 4, .later = 8000, .tick = 300};
 static const struct visitor phone_app = {.threads = 2, .least = 90, .most = 240, .visits = {
 	{"modem", "android.hardware.radio.IRadio", 1, 40, 4, false},
 	{"modem", "android.hardware.radio.IRadio", 2, 40, 2, false},
@@ -135,15 +135,15 @@ static void modem_and_sim(void)
 /* ---- car-gateway: three processes of one thread call each other in a ring */
 
 static const struct single cluster = {.name = "cluster", .interface = "com.car.ICluster", .calls = "gateway",
-	.calls_interface = "com.car.IGateway", .least = 60, .most = 260, .work_least = 2, .work_most = 8,
-	.later = 5000, .tick = 200};
+	.calls_interface = "com.car.IGateway", .least = 300, .most = 1300, .work_least = 2, .work_most = 8,
+	.later = 8000, .tick = 200};
 static const struct single gateway = {.name = "gateway", .interface = "com.car.IGateway", .calls = "diagnosis",
-	.calls_interface = "com.car.IDiagnosis", .least = 60, .most = 260, .work_least = 2, .work_most = 8,
-	.later = 5000, .tick = 200};
+	.calls_interface = "com.car.IDiagnosis", .least = 300, .most = 1300, .work_least = 2, .work_most = 8,
+	.later = 8000, .tick = 200};
 static const struct single diagnosis = {.name = "diagnosis", .interface = "com.car.IDiagnosis", .calls = "cluster",
-	.calls_interface = "com.car.ICluster", .least = 60, .most = 260, .work_least = 2, .work_most = 8,
-	.later = 5000, .tick = 200};
-static const struct visitor driver_app = {.threads = 2, .least = 60, .most = 200, .visits = {
+	.calls_interface = "com.car.ICluster", .least = 300, .most = 1300, .work_least = 2, .work_most = 8,
+	.later = 8000, .tick = 200};
+static const struct visitor driver_app = {.threads = 2, .least = 40, .most = 160, .visits = {
 	{"cluster", "com.car.ICluster", 1, 40, 3, false}, {"gateway", "com.car.IGateway", 1, 40, 1, false},
 	{"settings", "android.content.IContentService", 1, 40, 3, false}}};
 

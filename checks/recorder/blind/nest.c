@@ -129,6 +129,7 @@ static void main_thread(void *of)
 		int until = asked;
 		pthread_mutex_unlock(&desk);
 		note(guest);
+		flush();	/* it may be long until its next call */
 		pthread_mutex_lock(&desk);
 		answered = until;
 		pthread_cond_broadcast(&desk_news);

@@ -38,6 +38,7 @@ void single(void)
 	join(0);
 	publish(single->name, make_object(single_answer, (void *)single));
 	command(self(), BC_ENTER_LOOPER, NULL);
+	if (single->calls) serve_for(400 * which);	/* not all of them call first at the same time */
 	for (;;) {
 		serve_for(until_call(single));
 		if (single->calls && running()) call_other(single);
