@@ -112,14 +112,14 @@ static void fingerprint(void)
 /* ---- modem-and-sim: two processes of one thread call each other at the same time */
 
 static const struct single modem = {.name = "modem", .interface = "android.hardware.radio.IRadio", .calls = "sim",
-	.calls_interface = "android.hardware.radio.sim.ISim", .least = 200, .most = 700, .work_least = 2,
+	.calls_interface = "android.hardware.radio.sim.ISim", .least = 500, .most = 1500, .work_least = 2,
 	.work_most = 8, .calls_in_work = true, .later = 8000, .tick = 300};
 static const struct single sim = {.name = "sim", .interface = "android.hardware.radio.sim.ISim", .calls = "modem",
-	.calls_interface = "android.hardware.radio.IRadio", .least = 400, .most = 1100, .work_least = 1,
+	.calls_interface = "android.hardware.radio.IRadio", .least = 2500, .most = 4500, .work_least = 1,
 	.work_most = 4, .later = 8000, .tick = 300};
-static const struct visitor phone_app = {.threads = 2, .least = 90, .most = 240, .visits = {
-	{"modem", "android.hardware.radio.IRadio", 1, 40, 4, false},
-	{"modem", "android.hardware.radio.IRadio", 2, 40, 2, false},
+static const struct visitor phone_app = {.threads = 2, .least = 60, .most = 240, .visits = {
+	{"modem", "android.hardware.radio.IRadio", 1, 40, 6, false},
+	{"modem", "android.hardware.radio.IRadio", 2, 40, 1, false},
 	{"settings", "android.content.IContentService", 1, 40, 3, false}}};
 
 static void modem_and_sim(void)
@@ -303,8 +303,8 @@ static void sms_store(void)
 static const struct herald touches = {.name = "input", .interface = "android.hardware.input.IInputManager",
 	.listener = "android.hardware.input.ITouchListener", .threads = 4, .least = 4, .most = 14, .payload = 1400};
 static const struct hearer tracer = {.service = "input", .interface = "android.hardware.input.IInputManager",
-	.listener = "android.hardware.input.ITouchListener", .listeners = 1, .least = 30000, .most = 30001,
-	.work_most = 1, .room = 256 << 10, .stall_in = 300, .stall = 1500};
+	.listener = "android.hardware.input.ITouchListener", .listeners = 1, .least = 60000, .most = 60001,
+	.work_most = 1, .room = 256 << 10, .stall_each = 300, .stall = 110};
 static const struct hearer pointer = {.service = "input", .interface = "android.hardware.input.IInputManager",
 	.listener = "android.hardware.input.ITouchListener", .listeners = 1, .least = 3000, .most = 6000,
 	.work_most = 1};
@@ -450,7 +450,7 @@ static void bluetooth_scan(void)
 
 static const struct plain decoder = {"decoder", "com.device.media.IDecoder", 4, {
 	{.code = 1, .most = 3, .reply = 100}, {.code = 2, .least = 1, .most = 8, .reply = 2000},
-	{.code = 5, .least = 2, .most = 10, .reply = 1500, .crash_in = 12}}};
+	{.code = 5, .least = 2, .most = 10, .reply = 1500, .crash_in = 7}}};
 static const struct visitor viewer_app = {.threads = 2, .least = 15, .most = 70, .visits = {
 	{"decoder", "com.device.media.IDecoder", 1, 40, 4, false},
 	{"decoder", "com.device.media.IDecoder", 2, 1500, 4, false},
@@ -537,8 +537,8 @@ static void scanner_pages(void)
 static const struct herald quotes = {.name = "quotes", .interface = "com.device.stocks.IQuotes",
 	.listener = "com.device.stocks.IQuoteListener", .threads = 3, .least = 18, .most = 34, .payload = 48};
 static const struct hearer chart = {.service = "quotes", .interface = "com.device.stocks.IQuotes",
-	.listener = "com.device.stocks.IQuoteListener", .listeners = 1, .least = 30000, .most = 30001, .work_least = 40,
-	.work_most = 70};
+	.listener = "com.device.stocks.IQuoteListener", .listeners = 1, .least = 60000, .most = 60001, .work_most = 5,
+	.slower = 2};
 static const struct hearer board = {.service = "quotes", .interface = "com.device.stocks.IQuotes",
 	.listener = "com.device.stocks.IQuoteListener", .listeners = 2, .least = 3000, .most = 6000, .work_most = 3};
 

@@ -108,6 +108,7 @@ static void tell_all(const struct herald *herald)
 	}
 	message_end(&event);
 	flush();
+	stage->counter[3]++;
 }
 
 static void events(void *of)
@@ -130,14 +131,24 @@ void herald(void)
 
 /* ---- listeners */
 
+/* Takes as long as the service takes for so many events: a machine's speed makes no difference. */
+static void wait_for_events(int count)
+{
+	int until = stage->counter[3] + count;
+	for (int64_t longest = now() + 8000; stage->counter[3] < until && now() < longest;) usleep(2000);
+}
+
 static int32_t listener_answer(struct object *object, uint32_t code, struct reader *request, struct message *reply)
 {
+	static int heard;
 	const struct hearer *hearer = object->of;
 	(void)request;
 	(void)reply;
 	if (code != EVENT) return UNKNOWN_CODE;
 	if (hearer->work_most) nap(hearer->work_least, hearer->work_most);
-	if (one_in(hearer->stall_in)) nap(hearer->stall, hearer->stall);
+	if (hearer->slower) wait_for_events(hearer->slower);
+	if (hearer->stall_each && ++heard % hearer->stall_each == hearer->stall_each / 2)
+		wait_for_events(hearer->stall);
 	return OK;
 }
 

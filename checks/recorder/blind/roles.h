@@ -90,7 +90,8 @@ struct hearer {
 	size_t room;			/* of its mapping, if it is not the usual one */
 	/* faults */
 	int forget_in;			/* one in so many is never unregistered */
-	int stall_in, stall;		/* one in so many events takes so many milliseconds */
+	int slower;			/* each event takes it as long as so many events take the service */
+	int stall_each, stall;		/* each of so many events takes it as long as so many events */
 };
 void herald(void);
 void hearer(void);
