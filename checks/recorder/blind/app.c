@@ -16,7 +16,7 @@ struct stage *stage;
 unsigned seed;
 int which;
 const void *given;
-const char *bus = "binder";
+const char *bus = "binder", *folder;
 int unconfirmed_in;
 
 static struct opening device;
@@ -528,14 +528,26 @@ void wind_up(int clients)
 	usleep(300000);		/* what is under way one way comes to its end */
 }
 
+/* A recorder may take minutes until it has begun: longer than wait_for_file has patience. */
+static void wait_long_for(const char *name)
+{
+	char path[300];
+	int64_t began = now();
+	snprintf(path, sizeof path, "%s/%s", folder, name);
+	while (access(path, F_OK)) {
+		if (now() > began + 900000) fail(path);
+		usleep(20000);
+	}
+}
+
 void to_be_recorded(void)
 {
 	make_file("ready");
-	wait_for_file("go");
+	wait_long_for("go");
 }
 
 void was_recorded(void)
 {
 	make_file("rested");
-	wait_for_file("stop");
+	wait_long_for("stop");
 }

@@ -18,6 +18,7 @@ extern unsigned seed;
 extern int which;		/* this process is the which-th of the session */
 extern const void *given;	/* what it was launched with */
 extern const char *bus;		/* the device: binder, hwbinder, vndbinder */
+extern const char *folder;	/* for files by which the recording is begun and ended */
 extern int unconfirmed_in;	/* a fault: one in so many strong references is not confirmed to the driver */
 
 /* ---- randomness and time */

@@ -43,7 +43,8 @@ int main(int count, char **words)
 	seed = (unsigned)strtoul(words[3], NULL, 10);
 	shared = shared_memory(SHARED_SIZE);
 	stage = shared_memory(sizeof *stage);
-	in_directory(words[2]);
+	folder = words[2];
+	in_directory(folder);
 	session->play();
 	end_all();
 	return 0;
