@@ -1,5 +1,8 @@
 /* Processes of a single thread: see roles.h. */
+#include <unistd.h>
 #include "roles.h"
+
+enum { GATHERING = 40 };	/* milliseconds */
 
 static struct proxy *other;
 static int64_t began;
@@ -12,11 +15,17 @@ static void call_other(const struct single *single)
 	else message_end(&message);
 }
 
-/* How long it is until it calls the other one: of its own, or on a tick that others have too. */
-static int until_call(const struct single *single)
+/* Until it calls the other one: a while of its own, or the next tick, which others have too. For the last part of that
+ * it gathers what it has to say, and serves nothing. */
+static void serve_until_call(const struct single *single)
 {
-	if (single->tick && now() > began + single->later) return single->tick - (int)(now() % single->tick);
-	return single->least + draw(single->most - single->least + 1);
+	if (!single->tick || now() < began + single->later) {
+		serve_for(single->least + draw(single->most - single->least + 1));
+		return;
+	}
+	int64_t due = (now() + GATHERING) / single->tick * single->tick + single->tick;
+	serve_for((int)(due - GATHERING - now()));
+	while (now() < due) usleep(500);
 }
 
 static int32_t single_answer(struct object *object, uint32_t code, struct reader *request, struct message *reply)
@@ -40,7 +49,7 @@ void single(void)
 	command(self(), BC_ENTER_LOOPER, NULL);
 	if (single->calls) serve_for(400 * which);	/* not all of them call first at the same time */
 	for (;;) {
-		serve_for(until_call(single));
+		serve_until_call(single);
 		if (single->calls && running()) call_other(single);
 	}
 }
