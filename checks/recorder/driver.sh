@@ -23,6 +23,7 @@
 #     --arm64            also plays a few scenarios on Debian's kernel for arm64, with a recorder built for it
 #     --sanitize         runs the recorder under the address and undefined-behaviour sanitizers; they must find nothing
 #     --store            also renews samples/driver from the results of the 6.1 kernel
+#     --blind            records the sessions of the blind test set instead, and judges nothing: blind/play.sh
 #
 # If a comparison fails, it says which one and ends with status 1.
 set -euo pipefail
@@ -30,7 +31,7 @@ set -euo pipefail
 here=$(readlink -f -- "${BASH_SOURCE[0]}")
 root=${here%/*/*/*}
 scenarios=$root/checks/recorder/scenarios
-limit=900 flight=20 room= recorder= auditor= built= append= cost= store= arm64= sanitize= words_of_recorder=
+limit=900 flight=20 room= recorder= auditor= built= append= cost= store= arm64= sanitize= words_of_recorder= blind=
 # One thread for all processors: with a thread for each, the kernel 6.12 died of a breakpoint that it had removed.
 acceleration='-accel tcg,thread=single -cpu max'
 series=(6.1 6.12 newest)
@@ -59,6 +60,7 @@ while (($#)); do
   --arm64) arm64=1 ;;
   --sanitize) sanitize=1 ;;
   --store) store=1 ;;
+  --blind) blind=1 ;;
   *) stop "$1 is not an option; the head of this script lists them" ;;
   esac
   shift
@@ -308,6 +310,12 @@ if [[ -n $sanitize ]]; then
 elif [[ -z $recorder ]]; then
   "$root/record" --help >/dev/null || stop 'the recorder was not built'
   recorder=$root/recorder/out/record
+fi
+# The sessions of the blind test set need no auditor.
+if [[ -n $blind ]]; then
+  # shellcheck source=checks/recorder/blind/play.sh
+  source "$root/checks/recorder/blind/play.sh"
+  exit "$status"
 fi
 if [[ -n $built ]]; then take_programs "$(readlink -f -- "$built")"; fi
 "$root/crates/run" checks/driver binder_audit binder_listing || stop './audit and ./listing were not built'

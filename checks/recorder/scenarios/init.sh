@@ -20,6 +20,8 @@
 #   stacks   by the recorder only, which takes stacks, with programs that keep frame pointers; `program` is that program
 #   frameless  the same with programs that do not
 #   hoard    by the recorder only, which keeps the newest 4 files of 8 MiB; `memory` is how much it had at most
+#   blind    by the recorder only, a session of ../blind
+#   blind-before  the same as `before`
 #   flight   by the recorder only, which keeps the newest 4 files of 128 KiB; `most-files` is how many there were at
 #            most
 /bin/busybox --install -s /bin
@@ -57,8 +59,8 @@ wait_for() { # COMMAND..: until it succeeds
 	while ! "$@" 2>/dev/null; do sleep 0.2; done
 }
 
-before() {
-	/scenarios.static $scenario $here $number & program=$!
+before() { # PROGRAM
+	$1 $scenario $here $number & program=$!
 	wait_for [ -e $here/ready ]
 	/record $more -o $here/capture 2>$here/record.txt & recorder=$!
 	wait_for grep -q ' begin ' $here/capture.side
@@ -155,7 +157,9 @@ play() {
 	hoard) newest_files 8388608 watch_memory;;
 	bare) /scenarios $scenario $here $number;;
 	late) background TERM;;
-	before) before;;
+	before) before /scenarios.static;;
+	blind) /record $more -o $here/capture -- /blind $scenario $here $number;;
+	blind-before) before /blind;;
 	hidden)
 		echo 2 >/proc/sys/kernel/kptr_restrict
 		background TERM

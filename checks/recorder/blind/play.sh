@@ -1,0 +1,61 @@
+# shellcheck shell=bash disable=SC2154,SC2034 # driver.sh has the variables
+# Records the sessions of the blind test set; checks/recorder/driver.sh sources it for --blind, and has the functions
+# that it calls. Of each kernel it leaves the folder blind-SERIES in the room of --room, with a folder for each session:
+# the captures, their side list, the driver's books, and `dmesg`. Nothing is judged, and nothing of it is stored.
+#
+# Its only complaints are of a recording that is none: a status other than 0, frames that were lost, events that were
+# missed. What the kernel had to say of a session is in its `dmesg`, and is part of some sessions.
+
+sessions=$root/checks/recorder/blind
+blind_series=()
+
+build_sessions() {
+  programs=$room/programs-blind
+  rm -rf -- "$programs" && mkdir -p -- "$programs" "$room/clients"
+  gcc -O2 -Wall -Wextra -Werror -static -o "$programs/blind" "$sessions"/*.c "$scenarios"/{raw,processes}.c -lpthread
+}
+
+# The lines of the plan that --only leaves.
+plan_sessions() {
+  local name how rest
+  while read -r name how rest; do
+    [[ -z $name || $name == '#'* ]] && continue
+    if ((${#only[@]})) && [[ " ${only[*]} " != *" $name "* ]]; then continue; fi
+    printf '%s %s %s\n' "$name" "$how" "$rest"
+  done <"$sessions/plan.txt"
+}
+
+# Says of each session how its recording ended, from the recorder's last line.
+tell_sessions() { # FOLDER
+  local folder name
+  while read -r name _; do
+    folder=$1/$name
+    printf '%s: %s\n' "$name" "$(grep -h '^record: ' "$folder/output" 2>/dev/null | tail -n 1)"
+    if [[ $(cut -d' ' -f1 "$folder/status" 2>/dev/null) != 0 ]]; then
+      printf 'checks/driver: %s: status %s\n' "$name" "$(cat "$folder/status" 2>/dev/null)"
+      status=1
+    fi
+    if ! tail -n 1 "$folder/capture.side" 2>/dev/null | grep -q ' end recording .* lost=0$' ||
+      grep -qE '^[0-9]+ missed ' "$folder/capture.side"; then
+      printf 'checks/driver: %s: frames were lost, or events missed\n' "$name"
+      status=1
+    fi
+  done <"$room/plan"
+}
+
+status=0
+build_sessions
+plan_sessions >"$room/plan"
+[[ -s $room/plan ]] || stop 'the plan has no such session'
+for one in "${series[@]}"; do
+  # Two kernels are enough, unless one is asked for.
+  if [[ $one == 6.12 ]] && ((${#series[@]} > 1)); then continue; fi
+  if ! fetch_kernel "$one"; then
+    printf 'checks/driver: the registry has no kernel %s\n' "$one"
+    continue
+  fi
+  boot "$kernel" "$room/plan" "$room/blind-$one" "$append"
+  tell_sessions "$room/blind-$one"
+  blind_series+=("$one")
+done
+((${#blind_series[@]})) || stop 'no kernel was found'
