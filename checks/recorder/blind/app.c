@@ -19,7 +19,7 @@ const void *given;
 const char *bus = "binder", *folder;
 int unconfirmed_in;
 
-static struct opening device;
+static struct opening *device;
 static struct object *root_object;
 static struct proxy *proxies;
 static pthread_mutex_t lock = PTHREAD_RECURSIVE_MUTEX_INITIALIZER_NP;
@@ -64,11 +64,7 @@ bool running(void)
 
 struct exchange *self(void)
 {
-	if (!mine) {
-		mine = malloc(sizeof *mine);
-		if (!mine) fail("malloc");
-		begin(mine, &device);
-	}
+	if (!mine) mine = thread_of(device);
 	return mine;
 }
 
@@ -78,7 +74,7 @@ void flush(void)
 }
 
 /* Reads more, unless there is something that was read and not yet taken: a handler may call before that. */
-static int receive(void)
+static int read_more(void)
 {
 	if (self()->at >= self()->got) return turn(self(), true);
 	flush();
@@ -342,7 +338,7 @@ static uint32_t wait_for_end(bool one_way, transaction *reply)
 	uint8_t payload[128];
 	uint32_t code;
 	for (;;) {
-		if (receive() < 0 && self()->got == 0) return BR_FAILED_REPLY;
+		if (read_more() < 0 && self()->got == 0) return BR_FAILED_REPLY;
 		while ((code = next_return(self(), payload)) != 0) {
 			if (!is_end(code, one_way)) {
 				take_return(code, payload);
@@ -403,7 +399,7 @@ void serve(uint32_t how)
 	uint32_t code;
 	command(self(), how, NULL);
 	for (;;) {
-		if (receive() < 0 && self()->got == 0) usleep(1000);
+		if (read_more() < 0 && self()->got == 0) usleep(1000);
 		while ((code = next_return(self(), payload)) != 0) take_return(code, payload);
 	}
 }
@@ -414,9 +410,9 @@ void serve_for(int milliseconds)
 	uint8_t payload[128];
 	uint32_t code;
 	for (int left; flush(), (left = (int)(until - now())) > 0;) {
-		struct pollfd asked = {.fd = device.descriptor, .events = POLLIN};
+		struct pollfd asked = {.fd = device->descriptor, .events = POLLIN};
 		if (self()->at >= self()->got && poll(&asked, 1, left) <= 0) continue;
-		if (receive() < 0 && self()->got == 0) usleep(1000);
+		if (read_more() < 0 && self()->got == 0) usleep(1000);
 		while ((code = next_return(self(), payload)) != 0) take_return(code, payload);
 	}
 }
@@ -424,14 +420,15 @@ void serve_for(int milliseconds)
 int freeze(pid_t process, bool frozen)
 {
 	struct binder_freeze_info freeze = {.pid = (uint32_t)process, .enable = frozen, .timeout_ms = 100};
-	return ioctl(device.descriptor, BINDER_FREEZE, &freeze) < 0 ? -errno : 0;
+	return ioctl(device->descriptor, BINDER_FREEZE, &freeze) < 0 ? -errno : 0;
 }
 
 void join(int threads)
 {
 	uint32_t more = threads > 0 ? threads - 1 : 0;
-	device = open_device(bus);
-	if (ioctl(device.descriptor, BINDER_SET_MAX_THREADS, &more) < 0) fail("BINDER_SET_MAX_THREADS");
+	mine = opened(bus);
+	device = mine->opening;
+	if (ioctl(device->descriptor, BINDER_SET_MAX_THREADS, &more) < 0) fail("BINDER_SET_MAX_THREADS");
 	if (threads > 0) new_thread(BC_ENTER_LOOPER);
 }
 
@@ -440,13 +437,13 @@ void join_as_manager(struct object *root)
 	struct flat_binder_object object = {.flags = FLAT_BINDER_FLAG_ACCEPTS_FDS};
 	root_object = root;
 	join(0);
-	if (ioctl(device.descriptor, BINDER_SET_CONTEXT_MGR_EXT, &object) < 0) fail("BINDER_SET_CONTEXT_MGR_EXT");
+	if (ioctl(device->descriptor, BINDER_SET_CONTEXT_MGR_EXT, &object) < 0) fail("BINDER_SET_CONTEXT_MGR_EXT");
 }
 
 void thread_leaves(void)
 {
 	flush();
-	ioctl(device.descriptor, BINDER_THREAD_EXIT, 0);
+	ioctl(device->descriptor, BINDER_THREAD_EXIT, 0);
 	free(mine);
 	mine = NULL;
 }

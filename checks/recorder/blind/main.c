@@ -18,11 +18,6 @@ static const struct session *session_of(const char *name)
 	return NULL;
 }
 
-static void nothing(int signal)
-{
-	(void)signal;
-}
-
 static void *shared_memory(size_t size)
 {
 	void *memory = mmap(NULL, size, PROT_READ | PROT_WRITE, MAP_SHARED | MAP_ANONYMOUS, -1, 0);
