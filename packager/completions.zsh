@@ -69,6 +69,7 @@ case $service in
       '--no-attachments[leave out the data]' \
       '--stacks[record stacks of calls]' \
       '--ring[size of the buffer]:a power of two:' \
+      '--check[only look whether a recording can be made]' \
       '(- *)--help[say what the options do]'
     ;;
   binder-view)

@@ -5,6 +5,7 @@
 #include "common.h"
 #include "frame.h"
 #include "kernel.h"
+#include "lack.h"
 #include "met.h"
 #include "missed.h"
 #include "names.h"
@@ -12,6 +13,7 @@
 #include "options.h"
 #include "parts.h"
 #include "program.h"
+#include "ready.h"
 #include "redact.h"
 #include "side.h"
 #include "stacks.h"
@@ -201,21 +203,50 @@ static int wait_for_program(void)
 	return program_has_ended() ? program_status() : 128 + signal_got;
 }
 
+/* What can be looked at before anything is loaded. */
+static void need_all(const struct options *options)
+{
+	const char *path = parts_in_the_way(options->out);
+	if (!path)
+		path = books_in_the_way(options->out);
+	if (path)
+		lack("%s exists already, and is not overwritten", path);
+	need_space(options->out, 2 * options->size * options->files);
+	need_capabilities();
+	need_kernel();
+	need_no_lockdown();
+	int has_driver = need_driver();
+	if (need_tracefs() && has_driver)
+		need_tracepoints();
+}
+
+/* Looks whether a recording can be made, as far as it goes without one: all is loaded, and the files are created.
+ * Returns the status. */
+static int check(const struct options *options, struct ring *ring)
+{
+	if (lack_count())
+		return 1;
+	kernel_load(options, ring);
+	create_files(options);
+	parts_remove();
+	kernel_detach();
+	kernel_unload();
+	if (lack_count())
+		return 1;
+	ready_tell();
+	return 0;
+}
+
 int main(int count, char **words)
 {
 	struct options options;
 	struct ring ring;
 	options_read(&options, count, words);
-	const char *path = parts_in_the_way(options.out);
-	if (!path)
-		path = books_in_the_way(options.out);
-	if (path)
-		fail("%s exists already, and is not overwritten", path);
-	need_capabilities();
-	need_kernel();
-	need_no_lockdown();
-	need_driver();
-	need_tracepoints();
+	if (options.check)
+		lack_list();
+	need_all(&options);
+	if (options.check)
+		return check(&options, &ring);
 	program_keep_signals();
 	catch_signals();
 	kernel_load(&options, &ring);

@@ -97,10 +97,12 @@ int __wrap_open(const char *path, int flags, ...)
 
 /* ---- what the recorder asks of the system */
 
+void need_space(const char *out, u64 most) { (void)out, (void)most; }
 void need_capabilities(void) {}
 void need_kernel(void) {}
 void need_no_lockdown(void) {}
-void need_driver(void) {}
+int need_driver(void) { return 1; }
+int need_tracefs(void) { return 1; }
 void need_tracepoints(void) {}
 
 void kernel_load(const struct options *options, struct ring *ring) { (void)options, (void)ring; }
