@@ -1,5 +1,6 @@
 # For the scripts here: what a machine that the recorder is built for is called, and its compiler. They source this file
 # with the name in `machine`.
+# shellcheck shell=bash disable=SC2034
 
 own=$(uname -m)
 machine=${machine:-$own}

@@ -20,6 +20,7 @@
 #include "window.h"
 #include <signal.h>
 #include <stdio.h>
+#include <stdlib.h>
 #include <string.h>
 #include <time.h>
 #include <unistd.h>
@@ -92,7 +93,8 @@ static void tell_progress(void)
 /* Records until the program ends or a signal comes. Returns 0, or the errno of a write that failed. */
 static int record(struct ring *ring)
 {
-	int is_terminal = isatty(STDERR_FILENO), error = 0;
+	/* A caller may show the progress on a terminal that the recorder does not see. */
+	int is_terminal = isatty(STDERR_FILENO) || getenv("RECORD_PROGRESS"), error = 0;
 	u64 flushed = now(), told = flushed;
 	while (!signal_got && !error) {
 		long count = take(ring);
