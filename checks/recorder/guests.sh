@@ -33,7 +33,7 @@ as_machine() { # x86_64 or aarch64: from here on everything is downloaded, built
 # ---- packages, unpacked in a folder of their own and not installed
 
 # Makes apt use Debian's own lists of a release for this machine.
-use_lists() { # bookworm or sid
+use_lists() { # bullseye, bookworm or sid
   local lists=$room/lists-$1-$architecture archives=$room/archives-$1-$architecture sources=$room/sources-$1
   from=(-o "Dir::Etc::SourceList=$sources" -o Dir::Etc::SourceParts=/dev/null -o "Dir::State::Lists=$lists"
     -o "Dir::Cache=$archives" -o APT::Sandbox::User=root
@@ -42,8 +42,9 @@ use_lists() { # bookworm or sid
   if [[ $1 == sid ]]; then
     printf 'deb http://deb.debian.org/debian sid main\n'
   else
-    printf 'deb http://deb.debian.org/debian bookworm%s main\n' '' -updates -backports
-    printf 'deb http://deb.debian.org/debian-security bookworm-security main\n'
+    printf 'deb http://deb.debian.org/debian %s main\n' "$1"{,-updates}
+    if [[ $1 == bookworm ]]; then printf 'deb http://deb.debian.org/debian bookworm-backports main\n'; fi
+    printf 'deb http://deb.debian.org/debian-security %s-security main\n' "$1"
   fi >"$sources"
   apt-get "${from[@]}" update >>"$room/packages.log" 2>&1
 }
@@ -61,11 +62,11 @@ fetch_kernel() { # SERIES, or newest
   local package parts begin=${1/./\\.}\\.
   kernel=$room/kernel-$1-$architecture
   [[ -e $kernel/opened ]] && return 0
-  if [[ $1 == newest ]]; then
-    use_lists sid && begin=
-  else
-    use_lists bookworm
-  fi || return 1
+  case $1 in
+  newest) use_lists sid && begin= ;;
+  5.10) use_lists bullseye ;;
+  *) use_lists bookworm ;;
+  esac || return 1
   package=$(apt-cache "${from[@]}" search --names-only "^linux-image-$begin[0-9.+deb-]*-$architecture\$" |
     awk '{ print $1 }' | sort -V | tail -n 1)
   [[ -n $package ]] || return 1

@@ -7,7 +7,8 @@
 #
 #     --room FOLDER      where packages and results are kept; by default a temporary folder that is removed
 #     --guest NAME       only this guest; may be given several times: x86_64-newest (Debian sid's kernel, with mksh and
-#                        toybox as commands), aarch64-6.1 and aarch64-newest (with busybox)
+#                        toybox as commands), aarch64-6.1 and aarch64-newest (with busybox), and x86_64-5.10, whose
+#                        kernel is too old
 #     --record FILE      the command; by default ./record, else for example /usr/bin/binder-record of a package
 #     --limit SECONDS    how long a guest may take to begin; by default 900
 #     --only NAME        only this scene of phone/play.py; may be given several times
@@ -20,7 +21,7 @@ root=${here%/*/*/*}
 scenarios=$root/checks/recorder/scenarios phone=$root/checks/recorder/phone check=phone
 room= record=$root/record limit=900
 acceleration='-accel tcg,thread=single -cpu max'
-guests=(x86_64-newest aarch64-6.1 aarch64-newest)
+guests=(x86_64-newest aarch64-6.1 aarch64-newest x86_64-5.10)
 chosen=() only=()
 # shellcheck source=checks/recorder/guests.sh
 source "$root/checks/recorder/guests.sh"
@@ -159,9 +160,10 @@ wait_for_guest() { # CONSOLE
 }
 
 play() { # GUEST
-  local series=${1#*-} shell=busybox console=$room/console-$1 out=$room/out-$1
+  local series=${1#*-} shell=busybox console=$room/console-$1 out=$room/out-$1 scenes=("${only[@]}")
   as_machine "${1%%-*}"
   if [[ $machine == x86_64 ]]; then shell=toybox; fi
+  if [[ $series == 5.10 ]]; then scenes=(--only old_kernel); fi
   fetch_kernel "$series" || stop "the registry has no kernel $series for $architecture"
   open_with_all sid "$room/adbd-$architecture" adbd busybox-static toybox mksh ||
     stop "the registry has no adbd for $architecture"
@@ -172,7 +174,7 @@ play() { # GUEST
   printf '%s: %s\n' "$1" "$(find "$kernel/" -name 'vmlinuz*' -printf '%f\n' | head -n 1)"
   PYTHONPATH=$root PYTHONDONTWRITEBYTECODE=1 HOME=$room python3 -m checks.recorder.phone.play --record "$record" \
     --ports "${ports[@]:0:4}" --server "${ports[4]}" --adb "$room/bin-sid" --older "$room/bin-bookworm" --out "$out" \
-    "${only[@]}" || status=1
+    "${scenes[@]}" || status=1
   kill "$qemu" && wait "$qemu" 2>/dev/null || true
   qemu=
 }

@@ -17,8 +17,9 @@ is_recording() {
 	[ "$(cat state)" = recording ] && [ "/proc/$(cat pid)/exe" -ef record ]
 }
 
-# As Ctrl-C does on a terminal: the recorder and the program get the signal.
+# As Ctrl-C does on a terminal: the recorder and the program get the signal. It waits for a recorder that just begins.
 interrupt() {
+	while [ ! -e pid ] && [ "$(cat state)" = recording ]; do sleep 0.1; done
 	is_recording && kill -INT "-$(cat pid)"
 }
 
@@ -42,17 +43,20 @@ ask_names() {
 	done
 } </dev/null >/dev/null 2>&1
 
+prepare() {
+	trap '' HUP
+	leave_adbd
+	echo recording >state
+	: >messages
+}
+
 # Runs the recorder in a session of its own, so that it and its program can be signalled as one.
 run() { # NAMES [OPTION..]
 	names=$1
 	shift
-	echo recording >state
-	: >messages
 	setsid ./record -o capture "$@" </dev/null 2>>messages & recorder=$!
-	for _ in 1 2 3 4 5 6 7 8 9 10; do	# until setsid has become the recorder
-		[ /proc/$recorder/exe -ef record ] && break
-		sleep 0.1
-	done
+	# Until setsid has become the recorder, or that has ended.
+	while [ -e /proc/$recorder/exe ] && ! [ /proc/$recorder/exe -ef record ]; do sleep 0.1; done
 	echo $recorder >pid
 	if [ "$names" = ask ]; then ask_names & fi
 	wait $recorder
@@ -73,10 +77,8 @@ listen() {
 
 case $1 in
 record)
-	trap '' HUP
+	prepare
 	shift
-	rm -f pid
-	leave_adbd
 	run "$@" & runner=$!
 	exec 3<&0
 	(exec <&3 >/dev/null 2>&1; listen) & listener=$!
@@ -91,10 +93,8 @@ record)
 	kill $listener
 	;;
 detach)
-	trap '' HUP
+	prepare
 	shift
-	rm -f pid
-	leave_adbd
 	# By exec: adb waits for all that hold the connection, and a shell keeps what it redirects for one command.
 	(exec </dev/null >/dev/null 2>&1; run "$@") & runner=$!
 	while kill -0 $runner 2>/dev/null && [ ! -e pid ]; do sleep 0.1; done

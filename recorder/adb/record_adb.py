@@ -99,7 +99,9 @@ def prepare(command: Command) -> None:
         folder.put("record", program)
         folder.put("on_device.sh", (device.HERE / "on_device.sh").read_bytes())
         check(command)
-    except Stopped:
+    except Lost:
+        raise
+    except BaseException:
         folder.remove()
         raise
 

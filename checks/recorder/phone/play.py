@@ -208,6 +208,14 @@ def no_btf(stage: Stage) -> None:
     stage.nothing_left()
 
 
+def old_kernel(stage: Stage) -> None:
+    """A kernel that is too old is said."""
+    came = stage.record(stage.serials[0])
+    stage.must(f"the kernel is not said to be old: {came.said}", came.status == 1 and re.search(
+        r"^record: the kernel is 5\.10\.\S+, and 5\.17 or a later one is needed$", came.said, re.MULTILINE) is not None)
+    stage.nothing_left()
+
+
 def services_named(stage: Stage, name: str) -> set[str]:
     database = stage.given.out / f"{name}.db"
     stage.view(name, "--database", str(database))
@@ -324,8 +332,10 @@ def fetched_wrong(stage: Stage) -> None:
     stage.nothing_left()
 
 
+# The order in which they are played; those of OTHERS only if they are named.
 SCENES = [no_device, two_devices, other_version, no_root, by_su, other_machine, no_btf, session, no_names, cable,
           detached, full, no_room, fetched_wrong, older_adb]
+OTHERS = [old_kernel]
 
 
 def main() -> int:
@@ -341,8 +351,8 @@ def main() -> int:
     stage = Stage(given)
     try:
         stage.connect(stage.serials[0])
-        for scene in SCENES:
-            if given.only and scene.__name__ not in given.only:
+        for scene in SCENES + OTHERS:
+            if scene.__name__ not in (given.only or [it.__name__ for it in SCENES]):
                 continue
             stage.scene = scene.__name__
             began = time.monotonic()

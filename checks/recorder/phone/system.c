@@ -152,7 +152,7 @@ static void app(void)
 	for (uint32_t round = 0;; round++) {
 		for (int i = 0; i < SERVICES; i++) ask(&exchange, handles[i], services + i, ECHO, 4);
 		if (round % 4 == 0) ask(&exchange, handles[NOTES], services + NOTES, KEEP, 16);
-		usleep(200000);
+		usleep(500000);
 	}
 }
 
