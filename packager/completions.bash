@@ -56,7 +56,10 @@ _binder_record() { # COMMAND WORD BEFORE
     -o) _binder_audit_files ;;
     --device) _binder_audit_words "$2" 'binder hwbinder vndbinder' ;;
     --size | --files | --pid | --ring) ;;
-    *) _binder_audit_words "$2" '-o --size --files --pid --device --redact --no-attachments --stacks --ring --help --' ;;
+    *)
+      _binder_audit_words "$2" '-o --size --files --pid --device --redact --no-attachments --stacks --ring --check
+        --adb --detach --fetch --no-names --help --'
+      ;;
   esac
 }
 

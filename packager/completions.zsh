@@ -69,6 +69,11 @@ case $service in
       '--no-attachments[leave out the data]' \
       '--stacks[record stacks of calls]' \
       '--ring[size of the buffer]:a power of two:' \
+      '--check[only look whether a recording can be made]' \
+      '--adb[record on a device that adb reaches]::serial of the device:' \
+      '--detach[go on without the connection]' \
+      '--fetch[end and fetch a recording]' \
+      '--no-names[do not ask for the names of services]' \
       '(- *)--help[say what the options do]'
     ;;
   binder-view)

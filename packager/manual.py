@@ -243,7 +243,7 @@ def help_of(program: pathlib.Path) -> str:
     said = subprocess.run([program, "--help"], capture_output=True, text=True, check=True).stdout
     if said.startswith("usage: "):
         said = said.partition("\n\n")[2].partition("\n\npositional arguments:")[0]
-    return re.sub(r"^record \[", "binder-record [", said)
+    return re.sub(r"^record (\[|--)", r"binder-record \1", said, flags=re.MULTILINE)
 
 
 def synopsis_of(block: list[str]) -> Iterator[str]:

@@ -1,5 +1,6 @@
 #define _GNU_SOURCE
 #include "books.h"
+#include "binderfs.h"
 #include "file.h"
 #include "kernel.h"
 #include "side.h"
@@ -49,19 +50,12 @@ const char *books_in_the_way(const char *out)
  * devices, as those of debugfs have. Writes the path of one of them, and returns whether it can be read. */
 static int is_in_binderfs(char *path, const char *name)
 {
-	char line[8192], folder[4096], sort[64];
+	char folder[BINDERFS_FOLDER_BYTES];
 	int is_found = 0;
-	FILE *mounts = fopen("/proc/self/mounts", "r");
-	while (mounts && !is_found && fgets(line, sizeof line, mounts)) {
-		if (sscanf(line, "%*s %4095s %63s", folder, sort) != 2)
-			continue;
-		if (strcmp(sort, "binder") || strchr(folder, '\\'))
-			continue;
+	for (u32 number = 0; !is_found && binderfs_folder(number, folder); number++) {
 		snprintf(path, LONGEST_PATH, "%s/binder_logs/%s", folder, name);
 		is_found = !access(path, R_OK);
 	}
-	if (mounts)
-		fclose(mounts);
 	return is_found;
 }
 

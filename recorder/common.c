@@ -1,11 +1,10 @@
 #include "common.h"
-#include <stdarg.h>
 #include <stdio.h>
 #include <stdlib.h>
 #include <string.h>
 #include <time.h>
 
-static void write_line(const char *format, va_list arguments)
+void complain_with(const char *format, va_list arguments)
 {
 	char line[1024];
 	vsnprintf(line, sizeof line, format, arguments);
@@ -16,7 +15,7 @@ void complain(const char *format, ...)
 {
 	va_list arguments;
 	va_start(arguments, format);
-	write_line(format, arguments);
+	complain_with(format, arguments);
 	va_end(arguments);
 }
 
@@ -24,7 +23,7 @@ void fail(const char *format, ...)
 {
 	va_list arguments;
 	va_start(arguments, format);
-	write_line(format, arguments);
+	complain_with(format, arguments);
 	va_end(arguments);
 	exit(1);
 }

@@ -1,6 +1,7 @@
 /* What all files of the loader use. */
 #ifndef RECORDER_COMMON_H
 #define RECORDER_COMMON_H
+#include <stdarg.h>
 #include <stddef.h>
 #include <stdint.h>
 
@@ -10,6 +11,7 @@ typedef uint64_t u64;
 
 /* Writes a line to standard error, after `record: `. */
 void complain(const char *format, ...) __attribute__((format(printf, 1, 2)));
+void complain_with(const char *format, va_list arguments);
 /* Does the same, and ends the program with status 1. */
 void fail(const char *format, ...) __attribute__((format(printf, 1, 2), noreturn));
 /* Return memory, or end the program with status 1. They never return NULL. */

@@ -1,5 +1,6 @@
 #define _GNU_SOURCE
 #include "devices.h"
+#include "binderfs.h"
 #include "side.h"
 #include <dirent.h>
 #include <fcntl.h>
@@ -121,6 +122,26 @@ void devices_made_by_driver(void (*hear)(u32 device))
 {
 	hear_words(driver_names[0], hear);
 	hear_words(driver_names[1], hear);
+}
+
+static void hear_folder(const char *folder, void (*hear)(u32 device))
+{
+	DIR *all = opendir(folder);
+	struct dirent *entry;
+	struct stat status;
+	while (all && (entry = readdir(all)))
+		if (strcmp(entry->d_name, "binder-control") &&	/* makes devices, and is none */
+		    !fstatat(dirfd(all), entry->d_name, &status, AT_SYMLINK_NOFOLLOW) && number_of(&status))
+			hear(number_of(&status));
+	if (all)
+		closedir(all);
+}
+
+void devices_of_binderfs(void (*hear)(u32 device))
+{
+	char folder[BINDERFS_FOLDER_BYTES];
+	for (u32 number = 0; binderfs_folder(number, folder); number++)
+		hear_folder(folder, hear);
 }
 
 static int is_made_by_driver(u32 device)

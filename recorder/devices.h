@@ -9,6 +9,8 @@ u32 device_minor(u32 device);
 u32 device_by_name(const char *name);
 /* Hears the number of each device that the driver made itself. Those of a binderfs are not among them. */
 void devices_made_by_driver(void (*hear)(u32 device));
+/* Hears the number of each device of each binderfs. */
+void devices_of_binderfs(void (*hear)(u32 device));
 /* Writes the device's name into `name`, which has CLEAN_NAME_BYTES; a question mark if it has none. */
 void device_name(u32 device, char *name);
 #endif

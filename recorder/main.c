@@ -5,6 +5,7 @@
 #include "common.h"
 #include "frame.h"
 #include "kernel.h"
+#include "lack.h"
 #include "met.h"
 #include "missed.h"
 #include "names.h"
@@ -12,12 +13,14 @@
 #include "options.h"
 #include "parts.h"
 #include "program.h"
+#include "ready.h"
 #include "redact.h"
 #include "side.h"
 #include "stacks.h"
 #include "window.h"
 #include <signal.h>
 #include <stdio.h>
+#include <stdlib.h>
 #include <string.h>
 #include <time.h>
 #include <unistd.h>
@@ -90,7 +93,8 @@ static void tell_progress(void)
 /* Records until the program ends or a signal comes. Returns 0, or the errno of a write that failed. */
 static int record(struct ring *ring)
 {
-	int is_terminal = isatty(STDERR_FILENO), error = 0;
+	/* A caller may show the progress on a terminal that the recorder does not see. */
+	int is_terminal = isatty(STDERR_FILENO) || getenv("RECORD_PROGRESS"), error = 0;
 	u64 flushed = now(), told = flushed;
 	while (!signal_got && !error) {
 		long count = take(ring);
@@ -205,21 +209,50 @@ static int wait_for_program(void)
 	return program_has_ended() ? program_status() : 128 + signal_got;
 }
 
+/* What can be looked at before anything is loaded. */
+static void need_all(const struct options *options)
+{
+	const char *path = parts_in_the_way(options->out);
+	if (!path)
+		path = books_in_the_way(options->out);
+	if (path)
+		lack("%s exists already, and is not overwritten", path);
+	need_space(options->out, 2 * options->size * options->files);
+	need_capabilities();
+	need_kernel();
+	need_no_lockdown();
+	int has_driver = need_driver();
+	if (need_tracefs() && has_driver)
+		need_tracepoints();
+}
+
+/* Looks whether a recording can be made, as far as it goes without one: all is loaded, and the files are created.
+ * Returns the status. */
+static int check(const struct options *options, struct ring *ring)
+{
+	if (lack_count())
+		return 1;
+	kernel_load(options, ring);
+	create_files(options);
+	parts_remove();
+	kernel_detach();
+	kernel_unload();
+	if (lack_count())
+		return 1;
+	ready_tell();
+	return 0;
+}
+
 int main(int count, char **words)
 {
 	struct options options;
 	struct ring ring;
 	options_read(&options, count, words);
-	const char *path = parts_in_the_way(options.out);
-	if (!path)
-		path = books_in_the_way(options.out);
-	if (path)
-		fail("%s exists already, and is not overwritten", path);
-	need_capabilities();
-	need_kernel();
-	need_no_lockdown();
-	need_driver();
-	need_tracepoints();
+	if (options.check)
+		lack_list();
+	need_all(&options);
+	if (options.check)
+		return check(&options, &ring);
 	program_keep_signals();
 	catch_signals();
 	kernel_load(&options, &ring);

@@ -1,14 +1,43 @@
 #include "needs.h"
 #include "devices.h"
+#include "lack.h"
 #include <errno.h>
 #include <linux/capability.h>
 #include <stdio.h>
 #include <string.h>
+#include <sys/statvfs.h>
 #include <sys/syscall.h>
 #include <sys/utsname.h>
 #include <unistd.h>
 
+#define LEAST_SPACE (1u << 20)		/* bytes */
+
 const char need_driver_words[] = "the kernel has no Binder driver; if it is a module: modprobe binder_linux";
+
+static void folder_of(const char *path, char *folder, size_t room)
+{
+	const char *slash = strrchr(path, '/');
+	if (slash)
+		snprintf(folder, room, "%.*s", slash == path ? 1 : (int)(slash - path), path);
+	else
+		snprintf(folder, room, ".");
+}
+
+void need_space(const char *out, u64 most)
+{
+	struct statvfs space;
+	char folder[4100];
+	folder_of(out, folder, sizeof folder);
+	if (statvfs(folder, &space) || !space.f_blocks)	/* a folder that is not there is told when files are created */
+		return;
+	u64 bytes = (u64)space.f_bavail * space.f_frsize;
+	if (bytes < LEAST_SPACE)
+		lack("%s has %llu bytes free, and a recording takes %u at least: the disk is full", folder,
+		     (unsigned long long)bytes, LEAST_SPACE);
+	else if (most > bytes)
+		complain("the files that are kept, with their side lists, can take %llu bytes, and %s has %llu free",
+			 (unsigned long long)most, folder, (unsigned long long)bytes);
+}
 
 static int has_capability(const struct __user_cap_data_struct *data, u32 capability)
 {
@@ -23,7 +52,7 @@ void need_capabilities(void)
 		fail("the capabilities of this process could not be read");
 	if (has_capability(data, CAP_SYS_ADMIN) || (has_capability(data, CAP_BPF) && has_capability(data, CAP_PERFMON)))
 		return;
-	fail("root is needed, or the capabilities CAP_BPF and CAP_PERFMON");
+	lack("root is needed, or the capabilities CAP_BPF and CAP_PERFMON");
 }
 
 static struct utsname read_version(u32 *major, u32 *minor)
@@ -45,9 +74,9 @@ void need_kernel(void)
 {
 	u32 major, minor;
 	if (kernel_is_before(5, 17))
-		fail("the kernel is %s, and 5.17 or a later one is needed", read_version(&major, &minor).release);
+		lack("the kernel is %s, and 5.17 or a later one is needed", read_version(&major, &minor).release);
 	if (access("/sys/kernel/btf/vmlinux", R_OK))
-		fail("/sys/kernel/btf/vmlinux is not there: a kernel with CONFIG_DEBUG_INFO_BTF is needed, and sysfs");
+		lack("/sys/kernel/btf/vmlinux is not there: a kernel with CONFIG_DEBUG_INFO_BTF is needed, and sysfs");
 }
 
 /* If securityfs is not mounted, a lockdown is not seen here; then loading the program fails instead. */
@@ -59,20 +88,21 @@ void need_no_lockdown(void)
 	if (file)
 		fclose(file);
 	if (is_read && strstr(line, "[confidentiality]"))
-		fail("the kernel is locked down for confidentiality: it lets no program read its memory");
+		lack("the kernel is locked down for confidentiality: it lets no program read its memory");
 }
 
-void need_driver(void)
+int need_driver(void)
 {
 	int is_in_c = !access("/sys/module/binder_linux", F_OK) || !access("/sys/module/binder", F_OK);
 	int is_in_rust = !access("/sys/module/rust_binder", F_OK);
 	if (!is_in_c && is_in_rust)
-		fail("the kernel's Binder driver is the one in Rust, and only the one in C is recorded");
-	if (!is_in_c)
-		fail("%s", need_driver_words);
-	if (is_in_rust)
+		lack("the kernel's Binder driver is the one in Rust, and only the one in C is recorded");
+	else if (!is_in_c)
+		lack("%s", need_driver_words);
+	else if (is_in_rust)
 		complain("the kernel has two Binder drivers: calls of the one in C are recorded,"
 			 " and those of the one in Rust are not");
+	return is_in_c;
 }
 
 /* What the programs in record.bpf.c read of each tracepoint, as its `format` file says where that is. */
@@ -99,22 +129,30 @@ static void need_tracepoint(const struct tracepoint *tracepoint)
 	char path[160], text[4096];
 	snprintf(path, sizeof path, "%s/events/%s/format", tracing_folder(), tracepoint->name);
 	FILE *file = fopen(path, "r");
-	if (!file)
-		fail("%s: %s; the driver in C has this tracepoint", path, strerror(errno));
+	if (!file) {
+		lack("%s: %s; the driver in C has this tracepoint", path, strerror(errno));
+		return;
+	}
 	text[fread(text, 1, sizeof text - 1, file)] = 0;
 	fclose(file);
 	for (int i = 0; i < 2; i++)
 		if (!strstr(text, tracepoint->fields[i]))
-			fail("%s has other fields than the recorder knows: this kernel is not recorded", path);
+			lack("%s has other fields than the recorder knows: this kernel is not recorded", path);
+}
+
+int need_tracefs(void)
+{
+	char path[80];
+	snprintf(path, sizeof path, "%s/events", tracing_folder());
+	if (!access(path, R_OK | X_OK))
+		return 1;
+	lack("%s cannot be read: it takes root, or a mount for this user; if it is not there:"
+	     " mount -t tracefs tracefs %s", path, tracing_folder());
+	return 0;
 }
 
 void need_tracepoints(void)
 {
-	char path[80];
-	snprintf(path, sizeof path, "%s/events", tracing_folder());
-	if (access(path, R_OK | X_OK))
-		fail("%s cannot be read: it takes root, or a mount for this user; if it is not there:"
-		     " mount -t tracefs tracefs %s", path, tracing_folder());
 	for (size_t i = 0; i < sizeof tracepoints / sizeof *tracepoints; i++)
 		need_tracepoint(tracepoints + i);
 }
@@ -141,9 +179,10 @@ void need_no_preemption(enum preemption preemption)
 	if (preemption == PREEMPTION_UNKNOWN && kernel_is_before(7, 3))	/* up to 7.2 tracepoints turn it off */
 		return;
 	if (preemption == PREEMPTION_NOT_SEEN)
-		fail("the kernel does not run the recorder's programs at its tracepoints: it is not recorded");
-	fail("this kernel %s its processor from the recorder's programs, which would mix the bytes of calls:"
-	     " it is not recorded", preemption == PREEMPTION_IS_ON ? "may take" : "does not tell whether it takes");
+		lack("the kernel does not run the recorder's programs at its tracepoints: it is not recorded");
+	else
+		lack("this kernel %s its processor from the recorder's programs, which would mix the bytes of calls:"
+		     " it is not recorded", preemption == PREEMPTION_IS_ON ? "may take" : "does not tell whether it takes");
 }
 
 void need_process(u32 process)
@@ -151,13 +190,13 @@ void need_process(u32 process)
 	char path[32];
 	snprintf(path, sizeof path, "/proc/%u", process);
 	if (access(path, F_OK))
-		fail("--pid %u: there is no such process", process);
+		lack("--pid %u: there is no such process", process);
 }
 
 u32 need_device(const char *name)
 {
 	u32 device = device_by_name(name);
 	if (!device)
-		fail("--device %s: there is no such Binder device", name);
+		lack("--device %s: there is no such Binder device", name);
 	return device;
 }

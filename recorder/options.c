@@ -14,7 +14,10 @@
 
 static const char usage[] =
 	"record [-o OUT] [--size BYTES] [--files N] [--pid PID].. [--device NAME].. [--redact]"
-	" [--no-attachments] [--ring BYTES] [--stacks] [-- PROGRAM ARGUMENT...]";
+	" [--no-attachments] [--ring BYTES] [--stacks] [--check | -- PROGRAM ARGUMENT...]";
+
+static const char usage_of_adb[] =
+	"record --adb [SERIAL] [--detach | --fetch] [--no-names] [OPTION].. [-- PROGRAM ARGUMENT...]";
 
 static const char help[] =
 	"Records the Binder traffic of the whole system until PROGRAM ends, or until SIGINT or SIGTERM, into\n"
@@ -31,8 +34,19 @@ static const char help[] =
 	"--no-attachments   leaves out the data of transactions and replies\n"
 	"--stacks           also records the stacks of calls that write, as far as programs keep frame pointers\n"
 	"--ring BYTES       the size of the buffer between kernel and recorder, a power of two; by default 67108864\n"
+	"--check            records nothing: says in a line each what a recording with these options lacks, or that the\n"
+	"                   system is ready for it, and with which kernel, driver and devices\n"
 	"\n"
-	"The exit status is that of PROGRAM, or 128 and the number of its signal; 1 if no recording was made.\n";
+	"--adb [SERIAL]     does all this on a device that adb reaches; SERIAL can be left out if it is the only one. It\n"
+	"                   puts the recorder there, becomes root, says what the device lacks, records until PROGRAM ends\n"
+	"                   or until Ctrl-C, fetches the files to OUT, and removes them there. It comes before all other\n"
+	"                   options. docs/ANDROID.md says more\n"
+	"--detach           begins a recording that goes on without adb, by default with --files 4 --size 67108864\n"
+	"--fetch            ends it, and fetches it; or fetches what was recorded until the connection was lost\n"
+	"--no-names         does not ask the device's managers for the names of services; without it the page has those of\n"
+	"                   all services, also of those that registered before the recording\n"
+	"\n"
+	"The exit status is that of PROGRAM, or 128 and the number of its signal; 1 if no recording was made, or could be.\n";
 
 static u64 number(const char *name, const char *text, u64 least, u64 most)
 {
@@ -71,7 +85,9 @@ static void take(struct options *options, int letter)
 	case 'a': options->no_attachments = 1; break;
 	case 't': options->stacks = 1; break;
 	case 'r': options->ring = number("--ring", optarg, SMALLEST_RING, LARGEST_RING); break;
-	case 'h': printf("%s\n\n%s", usage, help); exit(0);
+	case 'c': options->check = 1; break;
+	case 'b': fail("--adb comes first, and --detach, --fetch and --no-names after it: %s", usage_of_adb);
+	case 'h': printf("%s\n%s\n\n%s", usage, usage_of_adb, help); exit(0);
 	default: fail("usage: %s", usage);
 	}
 }
@@ -84,7 +100,9 @@ void options_read(struct options *options, int count, char **words)
 		{ "pid", required_argument, NULL, 'p' }, { "device", required_argument, NULL, 'd' },
 		{ "redact", no_argument, NULL, 'x' }, { "no-attachments", no_argument, NULL, 'a' },
 		{ "ring", required_argument, NULL, 'r' },
-		{ "stacks", no_argument, NULL, 't' },
+		{ "stacks", no_argument, NULL, 't' }, { "check", no_argument, NULL, 'c' },
+		{ "adb", no_argument, NULL, 'b' }, { "detach", no_argument, NULL, 'b' },
+		{ "fetch", no_argument, NULL, 'b' }, { "no-names", no_argument, NULL, 'b' },
 		{ "help", no_argument, NULL, 'h' }, { NULL, 0, NULL, 0 },
 	};
 	*options = (struct options){ .out = "capture", .size = 268435456, .ring = 67108864 };
@@ -95,6 +113,8 @@ void options_read(struct options *options, int count, char **words)
 		fail("usage: %s", usage);
 	if (optind < count)
 		options->program = words + optind;
+	if (options->check && options->program)
+		fail("--check takes no PROGRAM: nothing is recorded");
 	if (options->ring & (options->ring - 1))
 		fail("--ring takes a power of two, not %llu", (unsigned long long)options->ring);
 	if (options->stacks && options->redact)

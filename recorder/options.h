@@ -14,6 +14,7 @@ struct options {
 	const char *devices[MOST_NAMED];
 	u32 device_count;
 	int redact, no_attachments, stacks;
+	int check;			/* only looks whether a recording can be made */
 	char **program;			/* NULL if there is none */
 };
 

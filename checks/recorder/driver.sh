@@ -30,17 +30,14 @@ set -euo pipefail
 
 here=$(readlink -f -- "${BASH_SOURCE[0]}")
 root=${here%/*/*/*}
-scenarios=$root/checks/recorder/scenarios
+scenarios=$root/checks/recorder/scenarios check=driver
 limit=900 flight=20 room= recorder= auditor= built= append= cost= store= arm64= sanitize= words_of_recorder= blind=
 # One thread for all processors: with a thread for each, the kernel 6.12 died of a breakpoint that it had removed.
 acceleration='-accel tcg,thread=single -cpu max'
 series=(6.1 6.12 newest)
 only=()
-
-stop() {
-  printf 'checks/driver: %s\n' "$1" >&2
-  exit 1
-}
+# shellcheck source=checks/recorder/guests.sh
+source "$root/checks/recorder/guests.sh"
 
 while (($#)); do
   case $1 in
@@ -66,28 +63,6 @@ while (($#)); do
   shift
 done
 
-needs() { # COMMAND PACKAGE
-  command -v "$1" >/dev/null || stop "$1 is missing: apt-get install $2"
-}
-
-as_machine() { # x86_64 or aarch64: from here on everything is downloaded, built and booted for this machine
-  machine=$1
-  case $machine in
-  x86_64)
-    architecture=amd64 compiler=gcc
-    words='console=ttyS0 no_timer_check'	# a guest that gets little time fails the timer check
-    loader=/lib64/ld-linux-x86-64.so.2 loader_in_guest=/lib64 libc=/lib/x86_64-linux-gnu/libc.so.6
-    emulator="qemu-system-x86_64 $acceleration"
-    ;;
-  aarch64)
-    architecture=arm64 compiler=aarch64-linux-gnu-gcc words=console=ttyAMA0
-    loader=/usr/aarch64-linux-gnu/lib/ld-linux-aarch64.so.1 loader_in_guest=/lib
-    libc=/usr/aarch64-linux-gnu/lib/libc.so.6
-    emulator='qemu-system-aarch64 -machine virt -accel tcg,thread=single -cpu cortex-a72'
-    ;;
-  esac
-}
-
 needs qemu-system-x86_64 qemu-system-x86
 needs busybox busybox-static
 needs cpio cpio
@@ -107,51 +82,6 @@ if [[ -z $room ]]; then
 fi
 mkdir -p -- "$room"
 room=$(readlink -f -- "$room")
-
-# ---- packages, unpacked in a folder of their own and not installed
-
-# Makes apt use Debian's own lists of a release for this machine.
-use_lists() { # bookworm or sid
-  local lists=$room/lists-$1-$architecture archives=$room/archives-$1-$architecture sources=$room/sources-$1
-  from=(-o "Dir::Etc::SourceList=$sources" -o Dir::Etc::SourceParts=/dev/null -o "Dir::State::Lists=$lists"
-    -o "Dir::Cache=$archives" -o APT::Sandbox::User=root
-    -o "APT::Architecture=$architecture" -o "APT::Architectures=$architecture")
-  mkdir -p -- "$lists/partial" "$archives/partial"
-  if [[ $1 == sid ]]; then
-    printf 'deb http://deb.debian.org/debian sid main\n'
-  else
-    printf 'deb http://deb.debian.org/debian bookworm%s main\n' '' -updates -backports
-    printf 'deb http://deb.debian.org/debian-security bookworm-security main\n'
-  fi >"$sources"
-  apt-get "${from[@]}" update >>"$room/packages.log" 2>&1
-}
-
-open_packages() { # FOLDER PACKAGE..
-  local folder=$1 file
-  shift
-  rm -rf -- "$folder" && mkdir -p -- "$folder"
-  (cd -- "$folder" && apt-get "${from[@]}" download "$@" >>"$room/packages.log" 2>&1 &&
-    for file in *.deb; do dpkg-deb -x "$file" . && rm -- "$file" || exit 1; done && touch opened)
-}
-
-# The newest kernel of a series, or the newest of all. Newer packages leave the kernel and its modules to others.
-fetch_kernel() { # SERIES, or newest
-  local package parts begin=${1/./\\.}\\.
-  kernel=$room/kernel-$1-$architecture
-  [[ -e $kernel/opened ]] && return 0
-  if [[ $1 == newest ]]; then
-    use_lists sid && begin=
-  else
-    use_lists bookworm
-  fi || return 1
-  package=$(apt-cache "${from[@]}" search --names-only "^linux-image-$begin[0-9.+deb-]*-$architecture\$" |
-    awk '{ print $1 }' | sort -V | tail -n 1)
-  [[ -n $package ]] || return 1
-  parts=$(apt-cache "${from[@]}" depends "$package" |
-    awk '$1 == "Depends:" && $2 ~ /^linux-(binary|modules)-/ { print $2 }')
-  # shellcheck disable=SC2086
-  open_packages "$kernel" "$package" $parts
-}
 
 # ---- the programs
 
@@ -215,32 +145,6 @@ build_clients() {
   gcc -O2 -Wall -Wextra -Werror -isystem "$folder/usr/include/gbinder" -isystem "$folder/usr/include/gutil" \
     -isystem "$folder/usr/include/glib-2.0" -isystem "$library/glib-2.0/include" -L"$library" \
     -Wl,--allow-shlib-undefined -o "$room/clients/gbinder" "$scenarios/gbinder.c" -lgbinder -lglibutil -lglib-2.0
-}
-
-# The recorder for arm64, built with the cross compiler and Debian's libraries.
-build_recorder_for_arm64() {
-  local folder=$room/libraries-arm64
-  use_lists bookworm || return 1
-  [[ -e $folder/opened ]] || open_packages "$folder" busybox-static libbpf-dev libelf-dev zlib1g-dev || return 1
-  {
-    printf '#!/bin/sh\n'
-    printf 'exec %s -isystem %s -isystem %s -L%s "$@"\n' "$compiler" "$folder/usr/include" \
-      "$folder/usr/include/aarch64-linux-gnu" "$folder/usr/lib/aarch64-linux-gnu"
-  } >"$room/compiler-arm64"
-  chmod +x -- "$room/compiler-arm64"
-  CC=$room/compiler-arm64 "$root/recorder/build.sh" --machine aarch64 "$room/recorder-arm64" || return 1
-  recorder=$room/recorder-arm64/record
-  busybox=$folder/bin/busybox
-}
-
-module_files() { # KERNEL NAME..
-  local kernel=$1 name file
-  shift
-  for name; do
-    file=$(find "$kernel/lib/modules" "$kernel/usr/lib/modules" -name "$name.ko" -o -name "$name.ko.xz" 2>/dev/null |
-      head -n 1)
-    if [[ -n $file ]]; then printf '%s\n' "$file"; fi
-  done
 }
 
 # What the kernel needs to reach the disk, and the driver.

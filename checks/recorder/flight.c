@@ -1,6 +1,6 @@
-/* flight WORD..: the recorder on these words, with a driver that is made up, which ends the recording by a signal. It
- * is through with its only write after that: so nearly all frames are written after its books were copied. And it does
- * more then, which is not in the recording. See loader. */
+/* flight WORD..: the recorder on these words, with a driver that is made up, which ends the recording by a signal,
+ * unless GOES_ON is in the environment. It is through with its only write after that: so nearly all frames are written
+ * after its books were copied. And it does more then, which is not in the recording. See loader. */
 #define _GNU_SOURCE
 #include "kernel.h"
 #include "kit.h"
@@ -80,7 +80,7 @@ long ring_drain(struct ring *ring, void (*hear)(const void *message, u64 bytes))
 			hear_codes(hear, DIRECTION_READ, BR_NOOP, RETURNS);
 		hear_end(hear, 2001);
 		missed += 3;
-		raise(SIGINT);
+		if (!getenv("GOES_ON")) raise(SIGINT);
 	} else if (is_stopped && !is_written) {
 		hear_last(hear);
 		is_written = 1;
@@ -120,10 +120,12 @@ int __wrap_open(const char *path, int flags, ...)
 
 /* ---- what the recorder asks of the system */
 
+void need_space(const char *out, u64 most) { (void)out, (void)most; }
 void need_capabilities(void) {}
 void need_kernel(void) {}
 void need_no_lockdown(void) {}
-void need_driver(void) {}
+int need_driver(void) { return 1; }
+int need_tracefs(void) { return 1; }
 void need_tracepoints(void) {}
 
 void kernel_load(const struct options *options, struct ring *ring) { (void)options, (void)ring; }

@@ -1,0 +1,373 @@
+"""Plays `record --adb` with a guest of checks/phone: see there. Each scene says what must hold in its docstring."""
+
+import argparse
+import contextlib
+import os
+import pathlib
+import re
+import signal
+import socket
+import sqlite3
+import subprocess
+import sys
+import threading
+import time
+from typing import Callable, Iterator, NamedTuple
+
+SERVICES = {"clock", "notes", "audio.mixer", "org.example.IPower/default", "search"}
+FOLDER = "/data/local/tmp/binder-record"
+SLOW = 1200  # seconds for what a guest does that gets little time
+
+
+class Ended(NamedTuple):
+    """How a command ended: its status and what it said."""
+    status: int
+    said: str
+
+
+class Stage:
+    """The guest and the commands of this system."""
+
+    def __init__(self, given: argparse.Namespace):
+        self.given = given
+        self.serials = [f"127.0.0.1:{port}" for port in given.ports]
+        self.failed: list[str] = []
+        self.scene = ""
+        self.server: subprocess.Popen[bytes] | None = None
+        self.environment = {**os.environ, "ANDROID_ADB_SERVER_PORT": str(given.server)}
+        self.use(given.adb)
+
+    # ---- adb
+
+    def use(self, folder: pathlib.Path) -> None:
+        """From here on adb is the program in this folder, with a server of its own."""
+        self.end_server()
+        self.environment["PATH"] = f"{folder}:{os.environ['PATH']}"
+        self.server = subprocess.Popen([folder / "adb", "nodaemon", "server"], env=self.environment,
+                                       stdout=subprocess.DEVNULL, stderr=subprocess.DEVNULL)
+        self.wait_for("the server of adb", lambda: self.adb("devices").status == 0)
+
+    def end_server(self) -> None:
+        if self.server:
+            self.server.terminate()
+            self.server.wait()
+
+    def adb(self, *words: str) -> Ended:
+        ended = subprocess.run(["adb", *words], env=self.environment, stdin=subprocess.DEVNULL, text=True,
+                               stdout=subprocess.PIPE, stderr=subprocess.STDOUT, timeout=SLOW)
+        return Ended(ended.returncode, ended.stdout)
+
+    def connect(self, serial: str) -> None:
+        def is_there() -> bool:
+            self.adb("connect", serial)
+            return self.shell("echo there", serial).said.strip() == "there"
+        self.wait_for(f"the device {serial}", is_there)
+
+    def disconnect(self) -> None:
+        self.adb("disconnect")
+
+    def shell(self, script: str, serial: str | None = None) -> Ended:
+        return self.adb("-s", serial or self.serials[0], "shell", script)
+
+    # ---- record and view
+
+    def start(self, *words: str) -> subprocess.Popen[str]:
+        return subprocess.Popen([self.given.record, "--adb", *words], env=self.environment, cwd=self.given.out,
+                                stdin=subprocess.DEVNULL, stdout=subprocess.PIPE, stderr=subprocess.STDOUT, text=True)
+
+    def end(self, program: subprocess.Popen[str]) -> Ended:
+        said = program.communicate(timeout=SLOW)[0]
+        for line in said.splitlines():
+            print(f"    {line}", flush=True)
+        return Ended(program.returncode, said)
+
+    def record(self, *words: str) -> Ended:
+        return self.end(self.start(*words))
+
+    def view(self, name: str, *words: str) -> Ended:
+        view = re.sub(r"record\Z", "view", self.given.record)
+        ended = subprocess.run([view, f"{name}-1.cap", "--side", f"{name}.side", *words], cwd=self.given.out, text=True,
+                               stdin=subprocess.DEVNULL, stdout=subprocess.PIPE, stderr=subprocess.STDOUT)
+        return Ended(ended.returncode, ended.stdout)
+
+    # ---- what must hold
+
+    def wait_for(self, what: str, holds: Callable[[], bool]) -> None:
+        end = time.monotonic() + SLOW
+        while not holds():
+            if time.monotonic() > end:
+                raise TimeoutError(f"{what} did not come")
+            time.sleep(1)
+
+    def wait_until_recording(self) -> None:
+        begun = f"cat {FOLDER}/capture.side {FOLDER}/capture-1.side 2>/dev/null | grep -c ' begin realtime='"
+        self.wait_for("the recording", lambda: self.shell(begun).said.strip() == "1")
+
+    def fail(self, what: str) -> None:
+        self.failed.append(f"{self.scene}: {what}")
+
+    def must(self, what: str, holds: bool) -> None:
+        if not holds:
+            self.fail(what)
+
+    def line(self, came: Ended, status: int, *patterns: str) -> None:
+        """The status, and all lines of what was said."""
+        lines = came.said.strip("\n").split("\n")
+        if came.status != status or len(lines) != len(patterns) or not all(map(re.fullmatch, patterns, lines)):
+            self.fail(f"expected status {status} and {patterns}, came status {came.status} and {lines}")
+
+    def nothing_left(self) -> None:
+        self.must("the folder is left on the device", self.shell(f"ls {FOLDER}").status != 0)
+
+    def good_capture(self, name: str) -> None:
+        """The files are the owner's alone, and the capture is well-formed."""
+        files = [it for it in self.given.out.iterdir() if it.name.startswith((f"{name}-", f"{name}."))]
+        self.must(f"{name} has no files", len(files) > 1)
+        self.must(f"others can read {name}", all(it.stat().st_mode & 0o777 == 0o600 for it in files))
+        audit = re.sub(r"record\Z", "audit", self.given.record)
+        captures = sorted(str(it) for it in files if it.suffix == ".cap")
+        said = subprocess.run([audit, "first-fault", *captures], capture_output=True, text=True).stdout
+        self.must(f"first-fault of {name} says {said}", said == "no malformed record\n")
+
+
+# ---- scenes
+
+READY = r"record: 127\.0\.0\.1:\d+: ready: kernel \S+, driver in C, devices binder hwbinder vndbinder"
+COUNTS = r"record: \d+ frames, 0 lost; 1 file, \d+ bytes"
+FETCHED = r"record: \d+ files, \d+ bytes fetched from 127\.0\.0\.1:\d+; next: \S+view {0}-1\.cap --side {0}\.side"
+LOST = (r"record: the connection is lost \(.*\); what was recorded stays in /data/local/tmp/binder-record of 127\.\S+;"
+        r" to fetch it: \S+record --adb 127\.\S+ --fetch -o {0}")
+
+
+def no_device(stage: Stage) -> None:
+    """No device, and no device of that serial, are said."""
+    stage.disconnect()
+    stage.line(stage.record(), 1, "record: adb has no device; adb devices lists them")
+    stage.connect(stage.serials[0])
+    stage.line(stage.record("another"), 1, r"record: adb has no device another; it has 127\.0\.0\.1:\d+")
+
+
+def two_devices(stage: Stage) -> None:
+    """With two devices, one must be named."""
+    stage.connect(stage.serials[1])
+    stage.line(stage.record(), 1, r"record: adb has 2 devices: 127\.\S+, 127\.\S+; name one: --adb 127\.\S+")
+
+
+def other_version(stage: Stage) -> None:
+    """A server of another version is not ended."""
+    with socket.create_server(("127.0.0.1", 0)) as server:
+        def answer() -> None:
+            connection, _ = server.accept()
+            connection.recv(16)
+            connection.sendall(b"OKAY00040027")
+            connection.close()
+        threading.Thread(target=answer, daemon=True).start()
+        before, stage.environment["ANDROID_ADB_SERVER_PORT"] = stage.given.server, str(server.getsockname()[1])
+        came = stage.record()
+        stage.environment["ANDROID_ADB_SERVER_PORT"] = str(before)
+    stage.line(came, 1, "record: the server of adb that runs is of version 39, and adb is of version 41: it would end"
+               " that server, and what others do with it; if nobody does: adb kill-server")
+
+
+def no_root(stage: Stage) -> None:
+    """Where nobody can be root, that is said."""
+    stage.connect(stage.serials[1])
+    stage.line(stage.record(stage.serials[1]), 1, r"record: 127\.\S+ lets nobody be root: adb root is refused, as by"
+               " builds for users, and no su makes this user root")
+
+
+def by_su(stage: Stage) -> None:
+    """Another user records by su, and PROGRAM is root's."""
+    stage.connect(stage.serials[2])
+    came = stage.record(stage.serials[2], "-o", "su", "--", "sh", "-c", "sleep 3; id -u; exit 7")
+    stage.line(came, 7, READY, "0", COUNTS, FETCHED.format("su"))
+    stage.good_capture("su")
+
+
+def other_machine(stage: Stage) -> None:
+    """A machine without a recorder is said."""
+    stage.connect(stage.serials[3])
+    stage.line(stage.record(stage.serials[3]), 1, r"record: 127\.\S+ is a armv7l, and the recorder is for x86_64 and"
+               " aarch64 alone: kernels of 32 bits are not recorded")
+
+
+@contextlib.contextmanager
+def mounted(stage: Stage, folder: str, size: str) -> Iterator[None]:
+    stage.shell(f"mount -t tmpfs -o size={size} none {folder}")
+    try:
+        yield
+    finally:
+        stage.shell(f"umount {folder}")
+
+
+def no_btf(stage: Stage) -> None:
+    """The lines of --check are passed on: here that the kernel has no BTF."""
+    with mounted(stage, "/sys/kernel/btf", "4k"):
+        stage.line(stage.record(stage.serials[0]), 1, "record: /sys/kernel/btf/vmlinux is not there: a kernel with"
+                   " CONFIG_DEBUG_INFO_BTF is needed, and sysfs", r"record: 127\.\S+ can't be recorded")
+    stage.nothing_left()
+
+
+def old_kernel(stage: Stage) -> None:
+    """A kernel that is too old is said."""
+    came = stage.record(stage.serials[0])
+    stage.must(f"the kernel is not said to be old: {came.said}", came.status == 1 and re.search(
+        r"^record: the kernel is 5\.10\.\S+, and 5\.17 or a later one is needed$", came.said, re.MULTILINE) is not None)
+    stage.nothing_left()
+
+
+def services_named(stage: Stage, name: str) -> set[str]:
+    database = stage.given.out / f"{name}.db"
+    stage.view(name, "--database", str(database))
+    with contextlib.closing(sqlite3.connect(database)) as opened:
+        return {row[0] for row in opened.execute("SELECT service FROM node_service WHERE service NOTNULL")}
+
+
+def interrupted(stage: Stage, name: str, *words: str) -> None:
+    """Records for some seconds in the middle of the life of the system, and ends it as Ctrl-C does."""
+    recording = stage.start(stage.serials[0], "-o", name, *words)
+    stage.wait_until_recording()
+    time.sleep(15)
+    recording.send_signal(signal.SIGINT)
+    stage.line(stage.end(recording), 0, READY, COUNTS, FETCHED.format(name))
+    stage.good_capture(name)
+    stage.nothing_left()
+
+
+def session(stage: Stage) -> None:
+    """A page of a session that began in mid-life has the names of all services, and the leak."""
+    interrupted(stage, "session")
+    stage.must("not all services have names", services_named(stage, "session") == SERVICES)
+    groups = stage.view("session", "--groups").said
+    stage.must(f"the leak has no group: {groups}", re.search(r"never freed.*\bcode 2\b.*\bnotes\b", groups) is not None)
+
+
+def no_names(stage: Stage) -> None:
+    """With --no-names nothing is asked, and no service has a name."""
+    interrupted(stage, "unnamed", "--no-names")
+    stage.must("services have names", services_named(stage, "unnamed") == set())
+
+
+def older_adb(stage: Stage) -> None:
+    """The same session with the adb of Debian 12."""
+    stage.use(stage.given.older)
+    try:
+        stage.connect(stage.serials[0])
+        interrupted(stage, "older")
+        stage.must("not all services have names", services_named(stage, "older") == SERVICES)
+    finally:
+        stage.use(stage.given.adb)
+
+
+def end_adbd(stage: Stage) -> None:
+    """As when the cable comes off: what holds the connection ends."""
+    stage.shell("kill -9 $(cat /run/adbd-5555)")
+
+
+def cable(stage: Stage) -> None:
+    """When the connection is lost, the recording ends, stays on the device, and can be fetched."""
+    recording = stage.start(stage.serials[0], "-o", "cable")
+    stage.wait_until_recording()
+    time.sleep(5)
+    end_adbd(stage)
+    stage.line(stage.end(recording), 1, READY, LOST.format("cable"))
+    stage.connect(stage.serials[0])
+    again = stage.record(stage.serials[0], "-o", "again")
+    stage.line(again, 1, r"record: 127\.\S+ has a recording in /data/local/tmp/binder-record already; to fetch it:"
+               r" \S+record --adb 127\.\S+ --fetch -o again")
+    stage.line(stage.record(stage.serials[0], "--fetch", "-o", "cable"), 0, COUNTS, FETCHED.format("cable"))
+    stage.good_capture("cable")
+    stage.nothing_left()
+
+
+def detached(stage: Stage) -> None:
+    """A flight recording goes on when adbd ends, until it is fetched."""
+    stage.line(stage.record(stage.serials[0], "--detach", "--size", "65536", "-o", "flight"), 0, READY,
+               r"record: 127\.\S+ records, also without the connection; to end that, and fetch it: \S+record --adb"
+               r" 127\.\S+ --fetch -o flight")
+    time.sleep(5)
+    end_adbd(stage)
+    stage.connect(stage.serials[0])
+    before = stage.shell(f"cat {FOLDER}/capture-*.side | grep -c ' frame '").said
+    time.sleep(10)
+    after = stage.shell(f"cat {FOLDER}/capture-*.side | grep -c ' frame '").said
+    stage.must(f"it does not go on: {before} and {after}", before != after)
+    came = stage.record(stage.serials[0], "--fetch", "-o", "flight")
+    stage.line(came, 0, r"record: \d+ frames, 0 lost; .*", r"record: \d+ files, .*; next: \S+view flight-\d+\.cap .*")
+    command = came.said.rpartition("next: ")[2].split()
+    said = subprocess.run([*command, "--groups"], cwd=stage.given.out, capture_output=True, text=True)
+    stage.must(f"the command that is next: {said.stderr}", said.returncode == 0 and "never freed" in said.stdout)
+    stage.nothing_left()
+
+
+def full(stage: Stage) -> None:
+    """On a full device the recording ends with the last whole frame, and is fetched."""
+    with mounted(stage, "/data/local/tmp", "12m"):
+        came = stage.record(stage.serials[0], "-o", "full", "--", "/system-programs/system", "fill")
+        stage.must("the status is not 1", came.status == 1)
+        stage.must("it is not said that the device is full", re.search(
+            r"^record: 127\.\S+ is full, with \d+ bytes free in \S+: the recording ends early$", came.said,
+            re.MULTILINE) is not None)
+        stage.good_capture("full")
+
+
+def no_room(stage: Stage) -> None:
+    """On a device without room for the recorder that is said."""
+    with mounted(stage, "/data/local/tmp", "600k"):
+        stage.line(stage.record(stage.serials[0]), 1, r"record: record can't be put into \S+ of 127\.\S+, which has"
+                   r" \d+ bytes free: .*")
+        stage.nothing_left()
+
+
+def fetched_wrong(stage: Stage) -> None:
+    """What can't be written here stays on the device."""
+    stage.record(stage.serials[0], "--detach", "-o", "wrong")
+    came = stage.record(stage.serials[0], "--fetch", "-o", "/dev/full/wrong")
+    stage.line(came, 1, "record: /dev/full is not a folder in which files can be made")
+    (stage.given.out / "wrong-1.cap").touch()
+    stage.line(stage.record(stage.serials[0], "--fetch", "-o", "wrong"), 1,
+               "record: wrong-1.cap exists already, and is not overwritten")
+    stage.line(stage.record(stage.serials[0], "--fetch", "-o", "right"), 0, r"record: \d+ frames, 0 lost; .*",
+               r"record: \d+ files, .*")
+    stage.nothing_left()
+
+
+# The order in which they are played; those of OTHERS only if they are named.
+SCENES = [no_device, two_devices, other_version, no_root, by_su, other_machine, no_btf, session, no_names, cable,
+          detached, full, no_room, fetched_wrong, older_adb]
+OTHERS = [old_kernel]
+
+
+def main() -> int:
+    line = argparse.ArgumentParser()
+    line.add_argument("--record", required=True)
+    line.add_argument("--ports", nargs=4, required=True)
+    line.add_argument("--server", required=True)
+    line.add_argument("--adb", type=pathlib.Path, required=True)
+    line.add_argument("--older", type=pathlib.Path, required=True)
+    line.add_argument("--out", type=pathlib.Path, required=True)
+    line.add_argument("--only", action="append")
+    given = line.parse_args()
+    stage = Stage(given)
+    try:
+        stage.connect(stage.serials[0])
+        for scene in SCENES + OTHERS:
+            if scene.__name__ not in (given.only or [it.__name__ for it in SCENES]):
+                continue
+            stage.scene = scene.__name__
+            began = time.monotonic()
+            print(f"  {stage.scene}", flush=True)
+            try:
+                scene(stage)
+            except (TimeoutError, subprocess.TimeoutExpired, OSError, sqlite3.Error) as error:
+                stage.fail(f"{type(error).__name__}: {error}")
+            print(f"  {stage.scene}: {time.monotonic() - began:.0f} s", flush=True)
+    finally:
+        stage.end_server()
+    for what in stage.failed:
+        print(f"checks/phone: {what}", file=sys.stderr)
+    return 1 if stage.failed else 0
+
+
+if __name__ == "__main__":
+    sys.exit(main())

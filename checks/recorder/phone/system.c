@@ -1,0 +1,192 @@
+/* system: a small Android for a guest: a manager of names, services that register with it, and an app that calls them.
+ * All are there long before a recording. The service `notes` never frees what comes with code 2. `system fill` calls it
+ * with as much data as it can, for a disk that is to be full. */
+#include <stdio.h>
+#include <string.h>
+#include <sys/ioctl.h>
+#include <sys/mman.h>
+#include <unistd.h>
+#include "names.h"
+
+enum { ECHO = 1, KEEP };
+
+static const struct service {
+	const char *process, *name, *interface;
+} services[] = {
+	{"clockd", "clock", "org.example.IClock"},
+	{"notesd", "notes", "org.example.INotes"},
+	{"mixer", "audio.mixer", "org.example.audio.IMixer"},
+	{"powerd", "org.example.IPower/default", "org.example.IPower"},
+	{"searchd", "search", "org.example.ISearch"},
+};
+enum { SERVICES = sizeof services / sizeof *services, NOTES = 1 };
+
+static void answer(struct exchange *exchange, transaction *delivered, const struct parcel *parcel)
+{
+	if (!(delivered->flags & TF_ONE_WAY)) {
+		queue_reply(exchange, parcel->data, parcel->size, parcel->offsets, parcel->count, 0);
+		turn(exchange, false);		/* the parcel is on a stack */
+	}
+}
+
+/* ---- the manager */
+
+static struct { char name[MOST_NAME_BYTES]; uint32_t handle; } kept[SERVICES];
+static uint32_t count;
+
+static uint32_t handle_of(const char *name)
+{
+	for (uint32_t i = 0; i < count; i++)
+		if (!strcmp(kept[i].name, name)) return kept[i].handle;
+	return 0;
+}
+
+static void keep(struct exchange *exchange, const char *name, uint32_t handle)
+{
+	if (count == SERVICES) fail("too many services");
+	strcpy(kept[count].name, name);
+	kept[count++].handle = handle;
+	number_command(exchange, BC_ACQUIRE, handle);
+	shared->ready++;
+}
+
+static void manage(struct exchange *exchange, transaction *delivered)
+{
+	struct parcel parcel = {0};
+	char name[MOST_NAME_BYTES];
+	string_at(delivered, TOKEN_BYTES, name);
+	put_number(&parcel, 0);			/* no exception */
+	switch (delivered->code) {
+	case ADD_SERVICE:
+		keep(exchange, name, handle_in(delivered));
+		break;
+	case LIST_SERVICES:
+		put_number(&parcel, count);
+		for (uint32_t i = 0; i < count; i++) put_string(&parcel, kept[i].name);
+		break;
+	default:
+		put_flat(&parcel, handle_of(name) ? BINDER_TYPE_HANDLE : BINDER_TYPE_BINDER, handle_of(name), 0, 0x7f);
+		put_number(&parcel, 0xc);	/* how stable it is */
+	}
+	answer(exchange, delivered, &parcel);
+	free_buffer(exchange, delivered);
+}
+
+static void serve_with(struct exchange *exchange)
+{
+	command(exchange, BC_ENTER_LOOPER, NULL);
+	turn(exchange, false);
+	shared->ready++;
+	serve_forever(exchange);
+}
+
+static void manager(void)
+{
+	struct exchange exchange;
+	struct opening opening = open_device("binder");
+	if (ioctl(opening.descriptor, BINDER_SET_CONTEXT_MGR, 0) < 0) fail("context manager");
+	opening.serve = manage;
+	begin(&exchange, &opening);
+	serve_with(&exchange);
+}
+
+/* ---- the services */
+
+static const struct service *own;
+
+static void serve(struct exchange *exchange, transaction *delivered)
+{
+	struct parcel parcel = {0};
+	if (delivered->code == INTERFACE_TRANSACTION) put_string(&parcel, own->interface);
+	answer(exchange, delivered, &parcel);
+	if (delivered->code != KEEP || own != &services[NOTES]) free_buffer(exchange, delivered);
+}
+
+static void service(void)
+{
+	struct exchange exchange;
+	struct opening opening = open_device("binder");
+	struct parcel parcel = parcel_of_manager();
+	opening.serve = serve;
+	begin(&exchange, &opening);
+	put_string(&parcel, own->name);
+	put_flat(&parcel, BINDER_TYPE_BINDER, 0x1000, 0x2000, 0x7f | FLAT_BINDER_FLAG_ACCEPTS_FDS);
+	put_number(&parcel, 0xc);
+	put_number(&parcel, 0);			/* not for isolated processes */
+	put_number(&parcel, 8);			/* when it is dumped */
+	if (send_parcel(&exchange, MANAGER, ADD_SERVICE, 0, &parcel, NULL) != BR_REPLY) fail("register");
+	serve_with(&exchange);
+}
+
+/* ---- the app */
+
+static uint32_t look_up(struct exchange *exchange, const char *name)
+{
+	transaction reply;
+	struct parcel parcel = parcel_of_manager();
+	put_string(&parcel, name);
+	if (send_parcel(exchange, MANAGER, CHECK_SERVICE, 0, &parcel, &reply) != BR_REPLY) fail("look up");
+	uint32_t handle = handle_in(&reply);
+	number_command(exchange, BC_ACQUIRE, handle);
+	free_buffer(exchange, &reply);
+	turn(exchange, false);
+	return handle;
+}
+
+static void ask(struct exchange *exchange, uint32_t handle, const struct service *it, uint32_t code, size_t extra)
+{
+	static const uint8_t bytes[512];
+	struct parcel parcel = parcel_of(it->interface);
+	put_bytes(&parcel, bytes, extra);
+	send_parcel(exchange, handle, code, 0, &parcel, NULL);
+}
+
+static void app(void)
+{
+	struct exchange exchange;
+	struct opening opening = open_device("binder");
+	uint32_t handles[SERVICES];
+	begin(&exchange, &opening);
+	for (int i = 0; i < SERVICES; i++) handles[i] = look_up(&exchange, services[i].name);
+	shared->ready++;
+	for (uint32_t round = 0;; round++) {
+		for (int i = 0; i < SERVICES; i++) ask(&exchange, handles[i], services + i, ECHO, 4);
+		if (round % 4 == 0) ask(&exchange, handles[NOTES], services + NOTES, KEEP, 16);
+		usleep(500000);
+	}
+}
+
+static void begin_system(void)
+{
+	start("servicemanager", manager);
+	wait_until(&shared->ready, 1);
+	for (int i = 0; i < SERVICES; i++) {
+		own = services + i;
+		start(own->process, service);
+		wait_until(&shared->ready, 3 + 2 * i);
+	}
+	start("org.example.app", app);
+	wait_until(&shared->ready, 2 + 2 * SERVICES);
+	printf("system: %u services\n", SERVICES);
+	fflush(stdout);
+	rest();
+}
+
+/* ---- a disk that is to be full */
+
+static void fill(void)
+{
+	struct exchange exchange;
+	struct opening opening = open_device("binder");
+	begin(&exchange, &opening);
+	uint32_t handle = look_up(&exchange, services[0].name);
+	for (;;) ask(&exchange, handle, services, ECHO, 512);
+}
+
+int main(int words, char **word)
+{
+	shared = mmap(NULL, SHARED_SIZE, PROT_READ | PROT_WRITE, MAP_SHARED | MAP_ANONYMOUS, -1, 0);
+	if (shared == MAP_FAILED) fail("mmap");
+	if (words > 1 && !strcmp(word[1], "fill")) fill();
+	begin_system();
+}

@@ -1,0 +1,112 @@
+# What `record --adb` has done on the device, by its sh, as root, in the folder of the recording.
+#
+#     sh on_device.sh record NAMES [OPTION..] [-- PROGRAM ARGUMENT..]
+#         records, and passes on what the recorder says, until PROGRAM ends. Each line of standard input, and its end,
+#         is passed on as SIGINT. If NAMES is `ask`, the managers are asked for the names of all services.
+#     sh on_device.sh detach NAMES [OPTION..] [-- PROGRAM ARGUMENT..]
+#         begins the same, and returns when the recording has begun, or has failed.
+#     sh on_device.sh end
+#         ends what was begun so, waits for that, and passes on what was said.
+#
+# The folder has `state`: `recording`, and then the status of the recorder, or nothing if the device is full; `pid`; and
+# `messages`, what the recorder says. The recorder does not write to the connection itself: that one may stall.
+# It uses what toybox, mksh and busybox have.
+umask 077
+
+is_recording() {
+	[ "$(cat state)" = recording ] && [ "/proc/$(cat pid)/exe" -ef record ]
+}
+
+# As Ctrl-C does on a terminal: the recorder and the program get the signal. It waits for a recorder that just begins.
+interrupt() {
+	while [ ! -e pid ] && [ "$(cat state)" = recording ]; do sleep 0.1; done
+	is_recording && kill -INT "-$(cat pid)"
+}
+
+has_begun() {
+	cat capture.side capture-1.side 2>/dev/null | grep -q ' begin realtime='
+}
+
+# Android ends all processes of the service adbd when it stops it, for example when the cable comes off: those in its
+# control group. Outside it a recording ends in order, or goes on.
+leave_adbd() {
+	for group in /sys/fs/cgroup /acct; do
+		[ -w $group/cgroup.procs ] && echo 0 >$group/cgroup.procs
+	done 2>/dev/null
+}
+
+# Each manager answers for its device, if the system has it: so the names of all services are in the capture.
+ask_names() {
+	while is_recording && ! has_begun; do sleep 0.2; done
+	for command in 'service list' 'vndservice list' lshal; do
+		command -v "${command%% *}" && timeout 20 sh -c "$command"
+	done
+} </dev/null >/dev/null 2>&1
+
+prepare() {
+	trap '' HUP
+	leave_adbd
+	echo recording >state
+	: >messages
+}
+
+# Runs the recorder in a session of its own, so that it and its program can be signalled as one.
+run() { # NAMES [OPTION..]
+	names=$1
+	shift
+	setsid ./record -o capture "$@" </dev/null 2>>messages & recorder=$!
+	# Until setsid has become the recorder, or that has ended.
+	while [ -e /proc/$recorder/exe ] && ! [ /proc/$recorder/exe -ef record ]; do sleep 0.1; done
+	echo $recorder >pid
+	if [ "$names" = ask ]; then ask_names & fi
+	wait $recorder
+	echo $? >state
+}
+
+# Passes on what was said since the last time.
+tell() {
+	size=$(stat -c %s messages)
+	if [ "$size" -gt "${told:-0}" ]; then tail -c +$((${told:-0} + 1)) messages | head -c $((size - ${told:-0})) >&2; fi
+	told=$size
+}
+
+listen() {
+	while read -r _; do interrupt; done
+	interrupt
+}
+
+case $1 in
+record)
+	prepare
+	shift
+	run "$@" & runner=$!
+	exec 3<&0
+	(exec <&3 >/dev/null 2>&1; listen) & listener=$!
+	exec 3<&- </dev/null
+	while kill -0 $runner 2>/dev/null && [ ! -e pid ]; do sleep 0.1; done
+	while is_recording; do
+		sleep 0.5
+		tell
+	done
+	wait $runner
+	tell
+	kill $listener
+	;;
+detach)
+	prepare
+	shift
+	# By exec: adb waits for all that hold the connection, and a shell keeps what it redirects for one command.
+	(exec </dev/null >/dev/null 2>&1; run "$@") & runner=$!
+	while kill -0 $runner 2>/dev/null && [ ! -e pid ]; do sleep 0.1; done
+	while is_recording && ! has_begun; do sleep 0.2; done
+	tell
+	;;
+end)
+	while is_recording; do		# a second signal ends the wait for a program that does not end
+		interrupt
+		for _ in 1 2 3 4 5 6 7 8 9 10; do is_recording && sleep 1; done
+	done
+	tell
+	;;
+esac
+exit 0
