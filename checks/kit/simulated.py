@@ -172,7 +172,7 @@ class World:
         reference = thread.process.handles.get(handle)
         node = self.manager if handle == 0 else reference.node if reference else None
         if node is None or node.owner.dead or node.owner is thread.process:
-            thread.todo.append(("records", [record(BR_FAILED_REPLY)]))
+            thread.todo.append(("records", [record(BR_DEAD_REPLY)]))
             return
         delivery = self.deliver(sent, node.owner)
         if delivery is None:
@@ -208,7 +208,7 @@ class World:
         _, call = thread.stack.pop(at)
         thread.todo.append(("records", [record(BR_TRANSACTION_COMPLETE)]))
         sent.caller = call
-        delivery = self.deliver(sent, call.thread.process)
+        delivery = None if call.thread.process.dead else self.deliver(sent, call.thread.process)
         if delivery is None:
             thread.todo.append(("records", [record(BR_FAILED_REPLY)]))
             call.thread.todo.append(("failed", call))
@@ -229,6 +229,18 @@ class World:
             else:
                 node.busy = False
 
+    def end(self, process):
+        """A process ends: no call to it is answered any more, and nothing that waits for it comes."""
+        process.dead = True
+        waits = [*process.todo, *(it for thread in process.threads for it in thread.todo)]
+        fails = [it.sent for it in waits if isinstance(it, Delivery) and it.sent.caller is None]
+        fails += [sent for thread in process.threads for side, sent in thread.stack[-1:] if side == "served"]
+        for sent in fails:
+            if not sent.oneway:
+                sent.thread.todo.append(("failed", sent))
+        for reference in process.handles.values():
+            reference.node.references -= 1
+
     def change(self, process, handle, by):
         reference = process.handles.get(handle)
         if reference is not None and reference.taken + by >= 0:
@@ -246,9 +258,12 @@ class World:
         self.frames.append(made)
         return made
 
-    def play(self, frames):
-        """Goes on until there are this many frames, or nothing happens any more."""
+    def play(self, frames, now_and_then):
+        """Goes on until there are this many frames, or nothing happens any more. At some steps, about one in 500, it
+        also calls a function."""
         while len(self.frames) < frames:
+            if self.often(0.2):
+                now_and_then()
             ready = [it for it in self.threads
                      if not it.process.dead and it.wake <= self.time and (not it.blocked or it.has_work())]
             if not ready:
@@ -320,14 +335,15 @@ class Actor:
                 got = work
             elif work[0] == "failed":
                 got = work
-                records.append(record(BR_FAILED_REPLY))
+                records += [*self.thread.given, record(BR_DEAD_REPLY)]
+                self.thread.given = []
             else:
                 records += work[1]
         if isinstance(got, Delivery):
             yield from self.taken(got, records)
         else:
             if got is not None:
-                self.thread.stack.pop()
+                self.thread.stack.remove(("made", got[1]))
             yield self.pause(0, 1)
             self.world.note(2, self.thread, records)
             self.answer_nodes(records)

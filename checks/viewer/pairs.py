@@ -27,7 +27,10 @@ from checks.kit.simulated import Habits, Truth, World, began, capture_of
 from viewer.database.programs import build_programs
 from viewer.database.raw_tables import rows_of
 
-FRAMES, SESSIONS = 900, 2
+FRAMES, SESSIONS = 900, 16
+
+# Of the deliveries of whole sessions so many hundredths must be in a pair that is certain.
+CERTAIN = 90
 
 # The weights are those of simulated.ACTS.
 SCENES = {
@@ -52,11 +55,18 @@ class Kind(NamedTuple):
 def played(kind: Kind, seed: int) -> Truth:
     """The capture of a session: whole, begun in mid-life, or with frames lost."""
     world = World(f"{kind.scene} {seed}")
-    manager = began(world, 1, 0, MANAGER)
-    world.manager = manager.new_node()
-    for _ in range(world.random.randint(3, 6)):
+    world.manager = began(world, 1, 0, MANAGER).new_node()
+
+    def begin() -> None:
         began(world, world.random.randint(1, 3), world.random.randint(1, 3), SCENES[kind.scene])
-    world.play(FRAMES)
+
+    def restart() -> None:
+        """One process ends, and another one begins."""
+        world.end(world.random.choice([it for it in world.processes[1:] if not it.dead]))
+        begin()
+    for _ in range(world.random.randint(3, 6)):
+        begin()
+    world.play(FRAMES, restart)
     draw = random.Random(f"{kind} {seed}")
     first = draw.randint(100, len(world.frames) // 2) if kind.way == "cut" else 0
     lost = set()
@@ -129,6 +139,8 @@ def judge(given: argparse.Namespace, room: pathlib.Path, fail: Fail) -> None:
                     fail(f"{kind} {seed}: {what}")
             if given.sessions:
                 row(kind, *(total[what] for what in OUTCOMES))
+            if kind.way == "whole" and total["certain"] * 100 < CERTAIN * total.total():
+                fail(f"{kind}: only {total['certain']} of {total.total()} are certain")
 
 
 if __name__ == "__main__":
