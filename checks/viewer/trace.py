@@ -400,7 +400,7 @@ def check_small(folder: pathlib.Path, room: pathlib.Path, fail: Fail) -> None:
     database = loaded(folder, room / "small.db", [room / "small.cap"], None)
     read = check_all("the small capture", database, traced(database, room / "small.gz"), fail)
     compare("the small capture, pairs that are not certain",
-            database.execute("SELECT count(*) FROM send WHERE delivery NOTNULL AND NOT certain").fetchone(), (1,), fail)
+            database.execute("SELECT count(*) FROM send WHERE delivery NOTNULL AND NOT certain").fetchone(), (2,), fail)
     came = [(s.name, s.begin // 1000, s.end // 1000, s.args.get("end")) for s in read.slices if s.track[1] == 21]
     compare("the small capture, slices", came,
             [("serve oneway code 5", 5, 6, None), ("serve oneway code 5", 6, 11, None), ("call code 7", 8, 11, None),

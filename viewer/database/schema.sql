@@ -164,8 +164,9 @@ CREATE TABLE raw_generation(id INTEGER PRIMARY KEY, upid INTEGER NOT NULL, handl
 --   confirmed    the place of the confirmation of it that the thread read; NULL without one
 --   refused      the place of the error reply by which the driver refused it; NULL without one
 --   delivery     the place of its delivery; NULL if none was found
---   certain      1 if it is certain that this process and this handle sent what was delivered, else 0
---   fits         how many sends fit that delivery; if 1, it was this one. Both are NULL without a delivery
+--   certain      1 if it is certain that this process and this handle sent what was delivered, else 0; NULL without a
+--                delivery
+--   fits         how many sends the delivery may have come from; if 1, it was this one. NULL without a delivery
 -- confirmed, refused: each thread has a queue of sends that wait to be confirmed, empty at first. A send joins its end.
 -- A confirmation (BR_TRANSACTION_COMPLETE, BR_ONEWAY_SPAM_SUSPECT, BR_TRANSACTION_PENDING_FROZEN) takes out the first
 -- one and is its `confirmed`. An error reply (BR_DEAD_REPLY, BR_FAILED_REPLY, BR_FROZEN_REPLY) takes out the first one
@@ -177,27 +178,64 @@ CREATE TABLE raw_generation(id INTEGER PRIMARY KEY, upid INTEGER NOT NULL, handl
 -- exclusive or, then times 0x100000001b3 modulo 2^64. It covers the body bytes that lie in no good object, in order,
 -- and if there is a bad object, everything after the last good one. If both sizes are 0 it is the sum of no bytes, with
 -- or without an entry; otherwise a record without an entry has the sum 0.
--- The capture is walked twice, in the order of places. On each walk:
--- 1. A send that is not refused joins the end of the waiting ones of its key. The closer of a call that a thread makes
---    takes that call out of them, if it is still there.
--- 2. For a delivery, the first 64 waiting ones of its key are looked at. The second walk passes over those whose
---    generation has a known node other than the delivery's. Each of the others has a rank, which is a sum: 1 if the
---    calls do not lie as they should, and 2 if the sender_pid is not as it should be. Those of the least rank fit. A
---    oneway delivery takes the first one that fits. Any other takes the one whose closer has the least place, an open
---    one last; among equals, the first. What is taken leaves the waiting ones.
--- 3. fits is how many fit. certain is 1 if the least rank is 0 and all that fit have one generation.
--- 4. After the first walk, a generation has a known node if at least one delivery taken from it was certain, and all of
---    these have the same upid, ptr and cookie. What the second walk finds is written.
+-- Candidates of a delivery are the sends of its key that come before it; of calls only those that are not closed before
+-- it. One that is refused is a candidate only if a frame is missing before it, since the error may then be that of
+-- another send. The send of the delivery is none of these:
+-- 1. one that is sure to be that of another delivery
+-- 2. one whose generation is known to mean another node; one of the process of the delivery, as no process has a handle
+--    of its own node; and one whose process has at that time another generation that is known to mean the node, as no
+--    process has two handles of a node. Two generations of a process are there at a time if each begins before the
+--    other one ends
+-- 3. a call that ranks behind another one. The rank of a call is 1 if it and the served call do not lie as they should,
+--    and 2 more if sender_pid is not as it should be
+-- 4. a oneway one that was sent after another candidate of its generation that is not refused, and from which no
+--    delivery before may have come. The driver delivers what is sent to a node in the order in which it took it. It
+--    took one send after another one if one thread made both, or if the earlier one was confirmed before the later one.
+--    With TF_UPDATE_TXN nothing is said, as the driver drops an earlier send for a later one. This rule is for
+--    deliveries by 'All sends are there' alone
+-- What is left are those that it may have come from. They are looked for among the first 64 candidates, in this order:
+-- those that are known to go to the node and that no guess has taken, those of which no node is known, and then the two
+-- kinds that a guess has taken.
+-- When a pair is certain:
+--    All sends are there: the send must be in the capture, all candidates were looked at, the least rank is 0, and all
+--    that the delivery may have come from are of one generation. If it is only one, the pair is sure.
+--    It must have come: a call that is answered was delivered. If no frame is missing between them, if at each delivery
+--    all candidates of its key were looked at, and if only one delivery may have come from it, with rank 0, and from no
+--    other one that must have come so, the pair is sure.
+-- Any other pair is a guess: certain is 0. fits is how many it may have come from; 1 more if its send need not be in
+-- the capture, if not all were looked at, or if the least rank is not 0. It takes the best one that no other one has
+-- taken: those first that were known to go to the node before a frame was missing; none that is refused, or was known
+-- to go to another node; then the first of oneway sends, and of calls the one whose closer has the least place, an open
+-- one last. If all are of one generation, the choice is the same, and certain is 1.
+-- A send that was taken by guess stays a candidate of later deliveries, and so do all that might have been taken in its
+-- place. Only when as many deliveries came from them as there are such sends of the key, and a closed call counts as
+-- one that came, none of them is a candidate any more. Deliveries that must have another send, or whose send need not
+-- be in the capture, do not count here.
+-- The send of a delivery must be in the capture if one of these holds:
+--    No frame is missing before the delivery, and nothing shows that its process is older than the capture. It is older
+--    if a read is the first frame of one of its threads, or if a thread that wrote neither BC_ENTER_LOOPER nor
+--    BC_REGISTER_LOOPER gets a oneway transaction, or a call while it is in no other one.
+--    Before the delivery, and after the last frame that is missing, its process was told by BR_INCREFS or BR_ACQUIRE
+--    that there are references to the node now, and that thread has a frame before this one since. Then the first
+--    handle of the node was made since, and no send from before is a candidate.
+-- A generation is known to mean a node if all that was learnt of it says so. It is learnt only while no frame is
+-- missing since its begin: by a certain pair, that its target means the node of the delivery; and by a sure pair, or
+-- the sure pair of a reply, of each object that it hands over. If that is a BINDER for one side and a HANDLE for the
+-- other, the generation of the handle means the node of the BINDER; if it is a HANDLE for both, their generations mean
+-- the same. So for WEAK_BINDER and WEAK_HANDLE.
+-- The capture is walked up to five times, the first time without oneway transactions, until a walk brings nothing new.
+-- Sure pairs are kept; what is learnt on a walk is known on the next one, and guesses are those of the last one.
 -- How the calls should lie matters for calls alone, not for oneway transactions. Let c be the row of raw_call of the
 -- call that is sent, and d the row of the served one:
 --    d is replied and c is answered: the two replies have the same key, and the BC_REPLY comes before the BR_REPLY.
 --    d is replied and c is not answered: c is open, or its closer comes after the BC_REPLY.
 --    d is not replied: c is not answered.
+-- If a frame is missing in c or d, or after one that is open, what closes it is not known, and they do.
 -- sender_pid matters for calls alone too. It is as it should be if it is 0 or the sender's process number, or if that
 -- number is 4,194,304 or more: `./record` gives such a number to a process whose id is taken.
 -- delivery of a reply: if a BC_REPLY closes a served call as replied, if that served call is the delivery of a call,
 -- and if a BR_REPLY of the same key answers that call, then this BR_REPLY is the delivery. certain and fits are those
--- of the call.
+-- of the call; but if a frame is missing from its send to the BR_REPLY, certain is 0, and fits is 1 more.
 CREATE TABLE raw_send(place INTEGER PRIMARY KEY, seq INTEGER NOT NULL, utid INTEGER NOT NULL, generation INTEGER,
   confirmed INTEGER, refused INTEGER, delivery INTEGER, certain INTEGER, fits INTEGER);
 

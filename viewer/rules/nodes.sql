@@ -1,9 +1,8 @@
 -- Which node each generation of a handle leads to: who talks to whom.
 -- needs: database/schema.sql: book_handle, raw_call, raw_delivery, raw_generation, raw_object, raw_process, raw_record,
 --   raw_send, raw_thread, side_device; database/views.sql: device, process
--- makes: tables: who, peer, node_of; temporary tables: handed, passed_on, misled, alike, between_two, sent_again,
---   got_again, paired, manager; indexes: call_of_thread, object_of_record, send_refused, generation_of_handle,
---   passed_on_from, paired_delivery
+-- makes: tables: who, peer, node_of; temporary tables: handed, passed_on, manager; indexes: call_of_thread,
+--   object_of_record, send_refused, generation_of_handle, passed_on_from
 
 -- ---- indexes: a query below, or one of the page, was slow without them
 
@@ -41,10 +40,11 @@ INSERT INTO node_of
 SELECT g.id, b.node_upid, b.ptr, b.cookie, 1 FROM book_handle b JOIN raw_generation g USING (upid, handle)
 WHERE b.moment = 'begin' AND b.node_upid NOTNULL AND g.n = 1 AND coalesce(g.begin < g.given_by, 1)
   AND g.id NOT IN (SELECT generation FROM node_of);
--- Or else the object that was handed over: one of the sender's own, or one that the sender has a handle of, which may
--- have been handed over to the sender in its turn.
+-- Or else the object that was handed over, if it is certain by which send: one of the sender's own, or one that the
+-- sender has a handle of, which may have been handed over to the sender in its turn.
 CREATE TEMP TABLE handed AS
-SELECT g.id AS generation, o.sort, t.upid, o.binder AS ptr, o.cookie, o.handle, s.place, s.certain
+SELECT g.id AS generation, o.sort, t.upid, o.binder AS ptr, o.cookie, o.handle, s.place,
+  s.certain AND s.fits = 1 AS certain
 FROM raw_generation g JOIN raw_delivery d ON d.place = g.given_by JOIN raw_send s ON s.place = d.send
   JOIN raw_object a ON a.place = g.given_by AND a.handle = g.handle AND a.sort IN (:HANDLE, :WEAK_HANDLE)
   JOIN raw_object o ON o.place = s.place AND o.idx = a.idx JOIN raw_thread t ON t.utid = s.utid
@@ -63,54 +63,6 @@ WITH RECURSIVE way(generation, upid, ptr, cookie, steps) AS (
   WHERE w.steps < :STEPS)
 SELECT generation, w.upid, w.ptr, w.cookie, 1 FROM way w JOIN handed h USING (generation)
 WHERE h.certain AND generation NOT IN (SELECT generation FROM node_of) GROUP BY generation;
-
--- ---- oneway sends again
-
--- A oneway send has no answer, so what is sent to two nodes alike is easily taken for one another. Where a generation's
--- node is known and a delivery is at another one, all oneway sends of that code, flags and sizes to either node are
--- matched again. The driver delivers those of a node in the order in which they were sent.
-CREATE TEMP TABLE misled AS
-SELECT p.generation, n.upid, n.ptr, n.cookie, p.node_upid, p.ptr AS node_ptr, p.cookie AS node_cookie
-FROM peer p JOIN node_of n USING (generation)
-WHERE (p.node_upid, p.ptr, p.cookie) <> (n.upid, n.ptr, n.cookie);
-CREATE TEMP TABLE alike AS
-SELECT DISTINCT r.code, r.flags, r.data_size, r.offsets_size
-FROM (SELECT 1 FROM misled LIMIT 1) CROSS JOIN raw_send s JOIN misled m USING (generation)
-  JOIN raw_record r ON r.place = s.place JOIN raw_record e ON e.place = s.delivery
-  JOIN raw_thread t ON t.utid = e.utid
-WHERE r.flags & :TF_ONE_WAY AND (t.upid, e.ptr, e.cookie) = (m.node_upid, m.node_ptr, m.node_cookie);
-CREATE TEMP TABLE between_two AS
-SELECT upid, ptr, cookie FROM misled UNION SELECT node_upid, node_ptr, node_cookie FROM misled;
-CREATE TEMP TABLE sent_again AS
-SELECT s.place, s.generation, s.delivery, n.upid, n.ptr, n.cookie, r.code, r.flags, r.data_size, r.offsets_size
-FROM alike a CROSS JOIN raw_record r USING (code, flags, data_size, offsets_size)
-  JOIN raw_send s ON s.place = r.place
-  JOIN node_of n ON n.generation = s.generation
-  JOIN between_two b ON (b.upid, b.ptr, b.cookie) = (n.upid, n.ptr, n.cookie)
-WHERE s.refused IS NULL;
-CREATE TEMP TABLE got_again AS
-SELECT s.delivery AS place, t.upid, r.ptr, r.cookie, r.code, r.flags, r.data_size, r.offsets_size
-FROM sent_again s JOIN raw_record r ON r.place = s.delivery JOIN raw_thread t ON t.utid = r.utid;
-CREATE TEMP TABLE paired AS
-SELECT s.place, d.place AS delivery, s.n, s.generations FROM (SELECT *, row_number() OVER node AS nth, count(*) OVER
-    (PARTITION BY upid, ptr, cookie, code, flags, data_size, offsets_size) AS n, min(generation) OVER
-    (PARTITION BY upid, ptr, cookie, code, flags, data_size, offsets_size) = max(generation) OVER
-    (PARTITION BY upid, ptr, cookie, code, flags, data_size, offsets_size) AS generations FROM sent_again
-  WINDOW node AS (PARTITION BY upid, ptr, cookie, code, flags, data_size, offsets_size ORDER BY place)) s
-  LEFT JOIN (SELECT *, row_number() OVER node AS nth FROM got_again
-    WINDOW node AS (PARTITION BY upid, ptr, cookie, code, flags, data_size, offsets_size ORDER BY place)) d
-  USING (upid, ptr, cookie, code, flags, data_size, offsets_size, nth);
-UPDATE paired SET delivery = NULL WHERE delivery < place;
-CREATE INDEX temp.paired_delivery ON paired(delivery);
-UPDATE raw_delivery SET send = NULL WHERE place IN (SELECT place FROM got_again);
-UPDATE raw_delivery SET send = p.place FROM paired p WHERE p.delivery = raw_delivery.place;
-UPDATE raw_send SET delivery = p.delivery, certain = iif(p.delivery IS NULL, NULL, p.generations),
-  fits = iif(p.delivery IS NULL, NULL, p.n) FROM paired p WHERE p.place = raw_send.place;
-DELETE FROM peer WHERE generation IN (SELECT generation FROM sent_again);
-INSERT INTO peer
-SELECT s.generation, t.upid, r.ptr, r.cookie, count(*), sum(s.certain)
-FROM raw_send s JOIN raw_record r ON r.place = s.delivery JOIN raw_thread t ON t.utid = r.utid
-WHERE s.generation IN (SELECT generation FROM sent_again) GROUP BY 1, 2, 3, 4;
 
 -- ---- the nodes that are only likely
 

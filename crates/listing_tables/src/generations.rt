@@ -80,22 +80,6 @@ impl Taken {
     }
 }
 
-/// A node, as its process knows it.
-#[derive(Clone, Copy, PartialEq, Eq)]
-pub(crate) struct Node {
-    pub upid: u32,
-    pub ptr: u64,
-    pub cookie: u64,
-}
-
-/// What is known of the node that a generation means.
-#[derive(Clone, Copy)]
-pub(crate) enum Known {
-    Nothing,
-    One(Node),
-    Several,
-}
-
 /// A generation of a handle.
 #[derive(Clone, Copy)]
 pub(crate) struct Generation {
@@ -110,7 +94,6 @@ pub(crate) struct Generation {
     pub weak: Taken,
     pub held_strong: u32,
     pub held_weak: u32,
-    pub node: Known,
 }
 
 impl Generation {
@@ -136,7 +119,6 @@ impl Generation {
             weak: none,
             held_strong: 0,
             held_weak: 0,
-            node: Known::Nothing,
         }
     }
 

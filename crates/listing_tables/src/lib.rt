@@ -3,21 +3,26 @@
 
 mod buffers;
 mod calls;
+mod fitting;
 mod generations;
+mod handed;
 mod held;
 mod judge;
 mod keys;
 pub mod laws;
 mod levels;
 mod lists;
+mod meanings;
 mod messages;
 mod names;
 mod numbered;
 mod pairs;
 mod records;
 mod rows;
+mod seen;
 mod spans;
 mod tables;
+mod waiting;
 mod walk;
 
 pub use judge::Ending;

@@ -7,15 +7,18 @@ ghost use Rattle.listing_tables.specs.Calls.{AreColumns};
 use crate::buffers::{Buffer, Buffers, Reference, References};
 use crate::calls::{Call, CallStep, all_calls, verdict_number};
 use crate::generations::{Effect, Generations};
+use crate::handed::{Handed, HandedOver, Node, Object};
 use crate::held::HeldCounts;
 use crate::keys::key_of;
 use crate::levels::{Levels, Resource};
 use crate::messages::{Detail, Message, Messages, Path, Sent, Settled, unknown_path};
 use crate::numbered::Numbered;
 use crate::rows::{RowWriter, column};
-use crate::spans::Spans;
+use crate::seen::Seen;
+use crate::spans::{Owner, Spans};
 use binder_code::Kind;
 use call_stacks::Verdict;
+use capture_frame::Frame;
 use event_core::{Strength, mark_of};
 use listing_fields::{EachObject, Item, ListingError, Named, Outcome, is_oneway, is_reply};
 use object_view::Sort;
@@ -23,6 +26,9 @@ use std::alloc::Global;
 use std::collections::VecDeque;
 use std::io::Write;
 use transaction_view::{Entry, Transaction};
+
+/// TF_UPDATE_TXN.
+const UPDATES: u32 = 0x40;
 
 /// What has come of the records so far.
 #[derive(Drop)]
@@ -35,6 +41,8 @@ pub(crate) struct Lists {
     pub buffers: Buffers,
     pub generations: Generations,
     pub levels: Levels,
+    pub handed: HandedOver,
+    pub seen: Seen,
     /// In the order of their openers. They are found when all records are there.
     pub calls: Numbered<Call>,
     alloc: Global,
@@ -62,15 +70,18 @@ impl Lists {
             buffers: Buffers::new(alloc),
             generations: Generations::new(alloc),
             levels: Levels::new(alloc),
+            handed: HandedOver::new(alloc),
+            seen: Seen::new(alloc),
             calls: Numbered::new(alloc),
             alloc,
         }
     }
 
     /// Takes a frame, before its records.
-    pub(crate) fn add_frame(&mut self, sequence: u64, utid: u32) -> Outcome {
-        self.levels.go_to(sequence);
-        if self.steps.len() as u64 == u64::from(utid.saturating_sub(1)) {
+    pub(crate) fn add_frame(&mut self, frame: Frame<'_>, owner: Owner) -> Outcome {
+        self.levels.go_to(frame.sequence);
+        self.seen.add_frame(frame, owner)?;
+        if self.steps.len() as u64 == u64::from(owner.utid.saturating_sub(1)) {
             self.steps.push(Vec::new(self.alloc))?;
             self.waiting.push(VecDeque::new(self.alloc))?;
         }
@@ -84,7 +95,7 @@ impl Lists {
         let generation = self.name_handle(origin, kind, named.handle)?;
         self.add_step(origin, kind, oneway)?;
         let Some(transaction) = Transaction::of(item.record) else {
-            return self.settle(origin, kind, named.address);
+            return self.settle(origin, kind, named);
         };
         let detail = match kind {
             Kind::BrTransaction | Kind::BrTransactionSecCtx | Kind::BrReply => {
@@ -127,6 +138,7 @@ impl Lists {
             key,
             place: origin.place,
             utid: origin.utid,
+            gaps: self.seen.gaps(),
             kind,
             oneway,
             call: None,
@@ -159,10 +171,20 @@ impl Lists {
 
     /// Names the handles of the objects of an attachment. A delivery holds a reference by each.
     fn name_objects(&mut self, origin: Origin, entry: Entry<'_>, delivered: bool) -> Outcome {
+        let message = self.messages.list.next()?;
+        let mut next = 0u32;
         for attached in EachObject::of(entry) {
-            if let Ok(object) = attached.found
-                && let Some(handle) = object.handle()
+            let number = next;
+            next = next.saturating_add(1);
+            let Ok(object) = attached.found else {
+                break;
+            };
+            if let Some(ptr) = object.binder()
+                && let Some(cookie) = object.cookie()
             {
+                self.hand_over_own(origin.upid, message, number, (ptr, cookie))?;
+            }
+            if let Some(handle) = object.handle() {
                 let strength = match object.sort {
                     Sort::WeakHandle => Strength::Weak,
                     _ => Strength::Strong,
@@ -175,6 +197,11 @@ impl Lists {
                 let (generation, _, _) = self
                     .generations
                     .name(origin.upid, handle, effect, origin.place)?;
+                self.handed.push(Handed {
+                    message,
+                    number,
+                    object: Object::Of(generation),
+                })?;
                 if delivered {
                     let reference = Reference {
                         generation,
@@ -185,6 +212,17 @@ impl Lists {
             }
         }
         Ok(())
+    }
+
+    /// Takes an object of a message that is a node of its process.
+    fn hand_over_own(&mut self, upid: u32, message: u32, number: u32, node: (u64, u64)) -> Outcome {
+        let (ptr, cookie) = node;
+        let node = self.handed.index_of(Node { upid, ptr, cookie })?;
+        self.handed.push(Handed {
+            message,
+            number,
+            object: Object::Own(node),
+        })
     }
 
     /// What is known of a send, which waits to be confirmed.
@@ -209,6 +247,7 @@ impl Lists {
             handle: transaction.target_handle(),
             settled: Settled::Waiting,
             generation,
+            updates: transaction.flags() & UPDATES != 0,
             fits: 0,
             certain: false,
         }))
@@ -256,8 +295,9 @@ impl Lists {
         Ok(Detail::Delivered(self.buffers.deliver(key, buffer)?))
     }
 
-    /// Takes a record that confirms a send, refuses one, or frees a buffer.
-    fn settle(&mut self, origin: Origin, kind: Kind, address: Option<u64>) -> Outcome {
+    /// Takes a record that confirms a send, refuses one, or frees a buffer, or that shows whether
+    /// sends may be missing.
+    fn settle(&mut self, origin: Origin, kind: Kind, named: Named) -> Outcome {
         match kind {
             Kind::BrDeadReply | Kind::BrFailedReply | Kind::BrFrozenReply => {
                 self.settle_first(origin.utid, Settled::Refused(origin.place));
@@ -269,12 +309,27 @@ impl Lists {
                 self.settle_first(origin.utid, Settled::Confirmed(origin.place));
                 Ok(())
             }
-            Kind::BcFreeBuffer => match address {
+            Kind::BcFreeBuffer => match named.address {
                 Some(address) => self.free(origin, address),
                 None => Ok(()),
             },
+            Kind::BrIncrefs | Kind::BrAcquire => self.refer(origin, named),
+            Kind::BcEnterLooper | Kind::BcRegisterLooper => {
+                self.seen.take_calls(origin.utid);
+                Ok(())
+            }
             _ => Ok(()),
         }
+    }
+
+    /// Takes a record by which the driver tells of references to a node.
+    fn refer(&mut self, origin: Origin, named: Named) -> Outcome {
+        let (Some(ptr), Some(cookie)) = (named.ptr, named.cookie) else {
+            return Ok(());
+        };
+        let upid = origin.upid;
+        let node = self.handed.index_of(Node { upid, ptr, cookie })?;
+        self.seen.refer(origin.utid, node, origin.place)
     }
 
     /// Settles the first send of a thread that waits for it.

@@ -4,7 +4,7 @@ ghost use Rattle.listing_tables.specs.Buffers.{AreBufferColumns};
 
 use crate::buffers::{Buffer, Buffers};
 use crate::calls::Call;
-use crate::generations::Node;
+use crate::handed::Node;
 use crate::numbered::{Numbered, narrow};
 use crate::rows::{RowWriter, column};
 use crate::spans::number_at;
@@ -23,6 +23,8 @@ pub(crate) struct Message {
     pub key: u64,
     pub place: u32,
     pub utid: u32,
+    /// How many gaps in the sequences come before it.
+    pub gaps: u32,
     pub kind: Kind,
     /// Whether it is a transaction with TF_ONE_WAY.
     pub oneway: bool,
@@ -53,6 +55,8 @@ pub(crate) struct Sent {
     pub settled: Settled,
     /// The index of the generation of its target.
     pub generation: Option<u32>,
+    /// Whether it may take the place of one before it: TF_UPDATE_TXN.
+    pub updates: bool,
     /// How many sends fit its delivery, and whether this one is certain.
     pub fits: u8,
     pub certain: bool,
@@ -141,17 +145,20 @@ impl Messages {
         }
     }
 
+    /// Notes how many sends fit the delivery of a send, and whether this one is certain.
+    pub(crate) fn rate(&mut self, index: u32, fits: u8, certain: bool) {
+        if let Some(sent) = self.sent(index) {
+            let sent = Sent {
+                fits,
+                certain,
+                ..sent
+            };
+            self.set(index, Detail::Sent(sent));
+        }
+    }
+
     /// Makes a send and a delivery partners.
-    pub(crate) fn couple(&mut self, send: u32, delivery: u32, fits: u8, certain: bool) {
-        let Some(sent) = self.sent(send) else {
-            return;
-        };
-        let sent = Sent {
-            fits,
-            certain,
-            ..sent
-        };
-        self.set(send, Detail::Sent(sent));
+    pub(crate) fn couple(&mut self, send: u32, delivery: u32) {
         self.set_partner(send, delivery);
         self.set_partner(delivery, send);
     }

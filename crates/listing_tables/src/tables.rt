@@ -91,7 +91,7 @@ impl Tables {
     /// Takes a frame, before its records.
     pub(crate) fn add_frame(&mut self, frame: Frame<'_>) -> Result<Owner, ListingError> {
         let owner = self.spans.add(frame)?;
-        self.lists.add_frame(frame.sequence, owner.utid)?;
+        self.lists.add_frame(frame, owner)?;
         Ok(owner)
     }
 

@@ -1,0 +1,591 @@
+"""A made-up Binder driver and processes that use it at random: the capture of a session, and the truth about it.
+
+A process has threads, objects of its own (nodes) and handles. A number of a handle is the lowest free one; it is taken
+when an object is sent, and free once the process has neither taken a reference nor holds a buffer with the object. The
+oneway transactions of a node come in order, the next one once the buffer of the last one is freed. A call goes to an
+idle thread, or to the one that waits further down. Texts, codes and sizes are few, so that much is alike.
+
+A write gets its sequence before the driver works on it, a read when it returns; meanwhile others go on. So the order of
+the sequences is not that of the driver.
+"""
+
+import random
+from collections import Counter, deque
+from typing import Iterator, NamedTuple
+
+from checks.kit.captures import *
+
+ONE_WAY = 1
+TEXTS = b"", b"tick", b"ping"
+ACTS = "find", "call", "listen", "make", "oneway", "give", "drop", "tick"
+
+
+class Sent:
+    """A transaction or reply that was sent. `frame` and `offset` say where its record is."""
+
+    def __init__(self, thread, code, flags, text, objects, caller=None):
+        self.thread, self.code, self.flags, self.text, self.objects = thread, code, flags, text, objects
+        self.caller, self.target, self.within = caller, None, None
+
+    @property
+    def oneway(self):
+        return bool(self.flags & ONE_WAY)
+
+
+class Node:
+    """An object of a process."""
+
+    def __init__(self, owner, ptr):
+        self.owner, self.ptr = owner, ptr
+        self.references, self.announced, self.busy, self.waiting = 0, False, False, deque()
+
+
+class Reference:
+    """What a process has of a node by a handle: how often it took it, and how many buffers have it."""
+
+    def __init__(self, node):
+        self.node, self.taken, self.held = node, 0, 0
+
+
+class Buffer:
+    def __init__(self, sent, handles):
+        self.sent, self.handles = sent, handles
+
+
+class Process:
+    def __init__(self, world, number):
+        self.world, self.number = world, number
+        self.handles, self.buffers, self.todo, self.threads, self.nodes = {}, {}, deque(), [], []
+        self.listeners, self.in_use, self.leaving, self.dead = [], Counter(), set(), False
+
+    def thread(self, looper):
+        made = Thread(self, self.number + len(self.threads), looper)
+        self.threads.append(made)
+        self.world.threads.append(made)
+        return made
+
+    def new_node(self):
+        self.nodes.append(Node(self, 0x1000 * (len(self.nodes) + 1)))
+        return self.nodes[-1]
+
+    def handle_of(self, node):
+        """The handle by which it has this node: the lowest free number, if it has none yet."""
+        for handle, reference in self.handles.items():
+            if reference.node is node:
+                return handle
+        handle = 0 if node is self.world.manager else next(n for n in range(1, 1000) if n not in self.handles)
+        self.handles[handle] = Reference(node)
+        node.references += 1
+        return handle
+
+    def drop_if_empty(self, handle):
+        reference = self.handles[handle]
+        if handle and not reference.taken and not reference.held:
+            del self.handles[handle]
+            reference.node.references -= 1
+
+    def take_buffer(self, sent, handles):
+        address = next(a for a in range(0x7000, 0x7000_0000, 0x1000) if a not in self.buffers)
+        self.buffers[address] = Buffer(sent, handles)
+        return address
+
+
+class Delivery(NamedTuple):
+    sent: Sent
+    address: int
+    body: bytes
+    listed: bytes
+
+
+class Thread:
+    """A thread: what it waits for, and its calls, the innermost last. `made` and `served` are its open calls."""
+
+    def __init__(self, process, number, looper):
+        self.process, self.number, self.looper = process, number, looper
+        self.todo, self.stack, self.wake, self.blocked, self.given = deque(), [], 0, False, []
+        self.life: Iterator | None = None
+
+    @property
+    def world(self):
+        return self.process.world
+
+    def is_idle(self):
+        return self.looper and not self.stack
+
+    def has_work(self):
+        return bool(self.todo) or self.is_idle() and bool(self.process.todo)
+
+
+class World:
+    """All processes, and the frames so far. What happens next is drawn from a seed."""
+
+    def __init__(self, seed):
+        self.random = random.Random(seed)
+        self.time, self.threads, self.processes, self.frames = 0, [], [], []
+        self.manager = None
+
+    def process(self):
+        made = Process(self, 100 * (len(self.processes) + 1))
+        self.processes.append(made)
+        return made
+
+    def often(self, hundredths):
+        return self.random.random() * 100 < hundredths
+
+    # -- the driver
+
+    def translated(self, objects, sender, receiver):
+        """The objects as the receiver gets them, and the handles that its buffer holds."""
+        body, handles = [], []
+        for kind, what in objects:
+            node = what if kind == "own" else sender.handles[what].node if what in sender.handles else None
+            if node is None:
+                return None
+            if node.owner is receiver:
+                body.append(node_of(node))
+                continue
+            if not node.announced and kind == "own":
+                node.announced = True
+                self.announce(node)
+            handle = receiver.handle_of(node)
+            receiver.handles[handle].held += 1
+            handles.append(handle)
+            body.append(of_handle(2, handle))
+        return b"".join(body), handles
+
+    def announce(self, node):
+        self.acting.todo.append(("records", [node_record(BR_INCREFS, node), node_record(BR_ACQUIRE, node)]))
+
+    def deliver(self, sent, receiver):
+        """Puts what was sent into a buffer of the receiver."""
+        came = self.translated(sent.objects, sent.thread.process, receiver)
+        if came is None:
+            return None
+        objects, handles = came
+        body = sent.text + objects
+        listed = offsets(*range(len(sent.text), len(body), 24))
+        return Delivery(sent, receiver.take_buffer(sent, handles), body, listed)
+
+    def transact(self, thread, handle, sent):
+        """The driver takes a transaction."""
+        self.acting = thread
+        reference = thread.process.handles.get(handle)
+        node = self.manager if handle == 0 else reference.node if reference else None
+        if node is None or node.owner.dead or node.owner is thread.process:
+            thread.todo.append(("records", [record(BR_DEAD_REPLY)]))
+            return
+        delivery = self.deliver(sent, node.owner)
+        if delivery is None:
+            thread.todo.append(("records", [record(BR_FAILED_REPLY)]))
+            return
+        sent.target = node
+        if sent.oneway:
+            thread.todo.append(("records", [record(BR_TRANSACTION_COMPLETE)]))
+            if node.busy:
+                node.waiting.append(delivery)
+            else:
+                node.busy = True
+                node.owner.todo.append(delivery)
+            return
+        sent.within = thread.stack[-1][1] if thread.stack else None
+        thread.stack.append(("made", sent))
+        thread.given.append(record(BR_TRANSACTION_COMPLETE))
+        waits = self.waiting_below(sent, node.owner)
+        (waits or node.owner).todo.append(delivery)
+
+    def waiting_below(self, sent, process):
+        """The thread of this process that waits for the sender of a call, if there is one."""
+        while sent.within is not None:
+            sent = sent.within
+            if sent.thread.process is process:
+                return sent.thread
+        return None
+
+    def reply(self, thread, sent):
+        """The driver takes a reply to the innermost call that the thread serves."""
+        self.acting = thread
+        at = max(n for n, (side, _) in enumerate(thread.stack) if side == "served")
+        _, call = thread.stack.pop(at)
+        thread.todo.append(("records", [record(BR_TRANSACTION_COMPLETE)]))
+        sent.caller = call
+        delivery = None if call.thread.process.dead else self.deliver(sent, call.thread.process)
+        if delivery is None:
+            thread.todo.append(("records", [record(BR_FAILED_REPLY)]))
+            call.thread.todo.append(("failed", call))
+        else:
+            call.thread.todo.append(delivery)
+
+    def free(self, process, address):
+        buffer = process.buffers.pop(address, None)
+        if buffer is None:
+            return
+        for handle in buffer.handles:
+            process.handles[handle].held -= 1
+            process.drop_if_empty(handle)
+        node = buffer.sent.target
+        if buffer.sent.oneway and node is not None:
+            if node.waiting:
+                process.todo.append(node.waiting.popleft())
+            else:
+                node.busy = False
+
+    def end(self, process):
+        """A process ends: no call to it is answered any more, and nothing that waits for it comes."""
+        process.dead = True
+        waits = [*process.todo, *(it for thread in process.threads for it in thread.todo)]
+        fails = [it.sent for it in waits if isinstance(it, Delivery) and it.sent.caller is None]
+        fails += [sent for thread in process.threads for side, sent in thread.stack[-1:] if side == "served"]
+        for sent in fails:
+            if not sent.oneway:
+                sent.thread.todo.append(("failed", sent))
+        for reference in process.handles.values():
+            reference.node.references -= 1
+
+    def change(self, process, handle, by):
+        reference = process.handles.get(handle)
+        if reference is not None and reference.taken + by >= 0:
+            reference.taken += by
+            process.drop_if_empty(handle)
+
+    # -- frames
+
+    def note(self, direction, thread, records, marks=(), entries=()):
+        """A frame. `marks` are the records of it that are sent or delivered, by their number."""
+        places = places_of(records)
+        made = Frame(direction, thread, records, [
+            entry(places[at], body, listed) for at, body, listed in entries if body or listed], [
+            (places[at], what, sent) for at, what, sent in marks])
+        self.frames.append(made)
+        return made
+
+    def play(self, frames, now_and_then):
+        """Goes on until there are this many frames, or nothing happens any more. At some steps, about one in 500, it
+        also calls a function."""
+        while len(self.frames) < frames:
+            if self.often(0.2):
+                now_and_then()
+            ready = [it for it in self.threads
+                     if not it.process.dead and it.wake <= self.time and (not it.blocked or it.has_work())]
+            if not ready:
+                later = [it.wake for it in self.threads
+                         if not it.process.dead and it.wake > self.time and (not it.blocked or it.has_work())]
+                if not later:
+                    return
+                self.time = min(later)
+                continue
+            self.time += 1
+            thread = self.random.choice(ready)
+            thread.wake = self.time + next(thread.life, 10**9)
+
+
+class Frame(NamedTuple):
+    direction: int
+    thread: Thread
+    records: list
+    entries: list
+    marks: list
+
+
+def node_of(node):
+    return changed(SORTS[0], (8, u64(node.ptr)))
+
+
+def node_record(code, node):
+    return record(code, u64(node.ptr), u64(0))
+
+
+# ---- what threads do. Each yields how long it waits until the next step
+
+
+class Actor:
+    """The steps of a thread: one call into the driver after another."""
+
+    def __init__(self, thread, habits):
+        self.thread, self.habits, self.owed, self.late = thread, habits, [], []
+        self.process, self.world = thread.process, thread.world
+
+    def pause(self, least, most):
+        return self.world.random.randint(least, most)
+
+    def call(self, commands, wait):
+        """One call into the driver: what it writes, and whether it then waits for work. Returns what it read."""
+        if commands:
+            records, marks, entries = [], [], []
+            for at, (text, sent, _) in enumerate(commands):
+                records.append(text)
+                if sent is not None:
+                    marks.append((at, "sent", sent))
+                    body = sent.text + b"".join(node_of(what) if kind == "own" else of_handle(2, what)
+                                                for kind, what in sent.objects)
+                    entries.append((at, body, offsets(*range(len(sent.text), len(body), 24))))
+            self.world.note(1, self.thread, records, marks, entries)
+            yield self.pause(0, 2 if self.world.often(90) else 20)
+            for _, _, act in commands:
+                act()
+        if not wait and not self.thread.todo:
+            return None
+        self.thread.blocked = True
+        while not self.thread.has_work():
+            yield 0
+        self.thread.blocked = False
+        got, records = None, [record(BR_NOOP)]
+        while got is None and (self.thread.todo or wait and len(records) == 1 and self.thread.has_work()):
+            work = (self.thread.todo or self.process.todo).popleft()
+            if isinstance(work, Delivery):
+                got = work
+            elif work[0] == "failed":
+                got = work
+                records += [*self.thread.given, record(BR_DEAD_REPLY)]
+                self.thread.given = []
+            else:
+                records += work[1]
+        if isinstance(got, Delivery):
+            yield from self.taken(got, records)
+        else:
+            if got is not None:
+                self.thread.stack.remove(("made", got[1]))
+            yield self.pause(0, 1)
+            self.world.note(2, self.thread, records)
+            self.answer_nodes(records)
+        return got
+
+    def answer_nodes(self, records):
+        for text in records:
+            if text[:4] == u32(BR_INCREFS):
+                self.owed.append((u32(BC_INCREFS_DONE) + text[4:], None, lambda: None))
+            elif text[:4] == u32(BR_ACQUIRE):
+                self.owed.append((u32(BC_ACQUIRE_DONE) + text[4:], None, lambda: None))
+
+    def taken(self, got, records):
+        """A delivery is taken out of the driver, and some time later the call returns."""
+        sent = got.sent
+        if sent.caller is not None:
+            side, call = self.thread.stack.pop()
+            assert side == "made" and call is sent.caller
+            records += self.thread.given
+            self.thread.given = []
+            made = transaction(BR_REPLY, 0, 0, sent.flags, 0, (len(got.body), len(got.listed)), got.address)
+        else:
+            if not sent.oneway:
+                self.thread.stack.append(("served", sent))
+            told = 0 if sent.oneway else sent.thread.process.number
+            made = transaction(BR_TRANSACTION, sent.target.ptr, sent.code, sent.flags, told,
+                               (len(got.body), len(got.listed)), got.address)
+        records.append(made)
+        yield self.pause(0, 1) if self.world.often(95) else self.pause(2, 12)
+        self.world.note(2, self.thread, records, [(len(records) - 1, "came", sent)],
+                        [(len(records) - 1, got.body, got.listed)])
+        self.answer_nodes(records)
+
+    # -- commands
+
+    def send(self, handle, code, flags, text, objects=()):
+        return self.command(BC_TRANSACTION, handle, Sent(self.thread, code, flags, text, list(objects)),
+                            lambda sent: self.world.transact(self.thread, handle, sent))
+
+    def reply(self, text, objects=()):
+        return self.command(BC_REPLY, 0, Sent(self.thread, 0, 0, text, list(objects)),
+                            lambda sent: self.world.reply(self.thread, sent))
+
+    def command(self, kind, handle, sent, act):
+        """A send. Until the driver has taken it, its handles are in use."""
+        handles = [handle, *(what for kind, what in sent.objects if kind == "of")]
+        self.process.in_use.update(handles)
+
+        def taken():
+            act(sent)
+            self.process.in_use.subtract(handles)
+        size = len(sent.text) + 24 * len(sent.objects), 8 * len(sent.objects)
+        return transaction(kind, handle, sent.code, sent.flags, 0, size), sent, taken
+
+    def free(self, address):
+        return (record(BC_FREE_BUFFER, u64(address)), None, lambda: self.world.free(self.process, address))
+
+    def take(self, handle):
+        return record(BC_ACQUIRE, u32(handle)), None, lambda: self.world.change(self.process, handle, 1)
+
+    def let_go(self, handle):
+        self.process.leaving.add(handle)
+
+        def taken():
+            self.world.change(self.process, handle, -1)
+            self.process.leaving.discard(handle)
+        return record(BC_RELEASE, u32(handle)), None, taken
+
+    # -- a delivery
+
+    def handles_in(self, got):
+        return self.process.buffers[got.address].handles
+
+    def use(self, got):
+        """What a thread does with a delivery before it frees it: it takes the handles in it."""
+        for handle in self.handles_in(got):
+            if self.process.handles[handle].taken == 0 or self.world.often(20):
+                yield self.take(handle)
+
+    def serve(self, got):
+        """Works on a delivery, and replies."""
+        sent = got.sent
+        takes = list(self.use(got))
+        if self.habits.listens and sent.code == 3:
+            self.process.listeners += self.handles_in(got)
+        if sent.oneway:
+            if takes or self.world.often(30):
+                yield from self.call(takes + self.due(), False)
+            yield self.pause(*self.habits.works)
+            self.owed.append(self.free(got.address))
+            return
+        if takes:
+            yield from self.call(takes, False)
+        if sent.code != 1 and self.world.often(self.habits.nests) and len(self.thread.stack) < 3:
+            yield from self.act()
+        yield self.pause(*self.habits.works)
+        text, objects = self.world.random.choice(TEXTS[:2]), []
+        if sent.code == 1:
+            known = self.known()
+            objects = [("of", self.world.random.choice(known))] if known else []
+        elif sent.code == 4:
+            objects = [("own", self.some_node())]
+        early = self.world.often(50)
+        freed = self.free(got.address)
+        replied = self.reply(text, objects)
+        yield from self.call([freed, replied] if early else [replied, freed], False)
+        yield from self.drained()
+
+    def some_node(self):
+        if self.process.nodes and self.world.often(30):
+            return self.world.random.choice(self.process.nodes)
+        return self.process.new_node()
+
+    def due(self):
+        owed, self.owed = self.owed, []
+        return owed
+
+    def drained(self):
+        """Reads what the driver has for the thread alone."""
+        while self.thread.todo and not isinstance(self.thread.todo[0], Delivery):
+            yield from self.call([], False)
+
+    # -- what it does by itself
+
+    def full_call(self, handle, code, text, objects=()):
+        """A call up to its answer. What comes meanwhile is served."""
+        yield from self.drained()
+        depth = len(self.thread.stack)
+        got = yield from self.call(self.due() + [self.send(handle, code, 0, text, objects)], True)
+        while len(self.thread.stack) > depth or isinstance(got, Delivery) and got.sent.caller is None:
+            if isinstance(got, Delivery) and got.sent.caller is None:
+                yield from self.serve(got)
+                if len(self.thread.stack) <= depth:
+                    return
+            got = yield from self.call(self.due(), True)
+        if isinstance(got, Delivery):
+            takes = list(self.use(got))
+            yield from self.call(takes + [self.free(got.address)], False)
+
+    def known(self):
+        """The handles that it may use: those that it has taken, and that no thread lets go of."""
+        return [h for h, it in self.process.handles.items() if it.taken and h not in self.process.leaving]
+
+    def act(self):
+        """One thing that a thread does by itself."""
+        yield from self.drained()
+        draw, text = self.world.random, self.world.random.choice(TEXTS)
+        what = draw.choices(ACTS, self.habits.weights)[0]
+        known = self.known()
+        if what == "find" or not known:
+            yield from self.full_call(0, 1, text)
+        elif what == "call":
+            yield from self.full_call(draw.choice(known), 2, text)
+        elif what == "listen":
+            yield from self.full_call(draw.choice(known), 3, text, [("own", self.some_node())])
+        elif what == "make":
+            yield from self.full_call(draw.choice(known), 4, text)
+        elif what == "oneway":
+            yield from self.oneways([draw.choice(known)], 5, text)
+        elif what == "give":
+            given = ("of", draw.choice(known)) if self.world.often(50) else ("own", self.some_node())
+            if self.world.often(50):
+                yield from self.oneways([draw.choice(known)], 6, text, [given])
+            else:
+                yield from self.full_call(draw.choice(known), 6, text, [given])
+        elif what == "drop":
+            unused = [handle for handle in known if not self.process.in_use[handle]]
+            if unused:
+                yield from self.call(self.due() + [self.let_go(draw.choice(unused))], False)
+        else:
+            listeners = [h for h in dict.fromkeys(self.process.listeners) if h in known]
+            for _ in range(draw.randint(1, 3)):
+                yield from self.oneways(listeners or known, 5, text)
+
+    def oneways(self, handles, code, text, objects=()):
+        """The same text to each of these handles, in one write or in several."""
+        sends = [self.send(handle, code, ONE_WAY, text, objects) for handle in handles]
+        for some in ([sends] if self.world.often(30) else [[it] for it in sends]):
+            yield from self.call(self.due() + some, False)
+            yield from self.drained()
+
+    def register(self):
+        """A service names an object of its own to the manager."""
+        yield from self.full_call(0, 7, TEXTS[0], [("own", self.some_node())])
+
+    def live(self):
+        yield self.pause(0, 30)
+        if self.thread.looper:
+            yield from self.call([(ENTER, None, lambda: None)], False)
+        if self.habits.registers and self.thread is self.process.threads[0]:
+            yield from self.register()
+        while True:
+            if self.thread.looper:
+                got = yield from self.call(self.due(), True)
+                if isinstance(got, Delivery):
+                    yield from self.serve(got)
+            else:
+                yield self.pause(*self.habits.rests)
+                yield from self.act()
+
+
+class Habits(NamedTuple):
+    """What a process does: how often each of ACTS, how long it rests and works, how often it calls while it serves."""
+    weights: tuple
+    rests: tuple = (5, 60)
+    works: tuple = (0, 8)
+    nests: int = 15
+    registers: bool = True
+    listens: bool = True
+
+
+def began(world, loopers, others, habits):
+    process = world.process()
+    for at in range(loopers + others):
+        thread = process.thread(at < loopers)
+        thread.life = Actor(thread, habits).live()
+    return process
+
+
+# ---- the capture, and the truth about it
+
+
+class Truth(NamedTuple):
+    """Of each delivery, by its place, the place of the send that it came from; None if that is not in the capture."""
+    capture: bytes
+    sent_at: dict
+
+
+def capture_of(frames, left_out=frozenset(), first=0):
+    """The capture of these frames from the first one on, without those that are left out. Sequences go on over them."""
+    text, places, came = [HEADER_2], {}, {}
+    at = len(HEADER_2)
+    for sequence, it in enumerate(frames[first:], 1):
+        if sequence in left_out:
+            continue
+        made = frame(it.direction, sequence, it.thread.process.number, it.thread.number, it.records, it.entries)
+        for offset, what, sent in it.marks:
+            place = at + 32 + offset
+            if what == "sent":
+                places[sent] = place
+            else:
+                came[place] = sent
+        text.append(made)
+        at += len(made)
+    return Truth(b"".join(text), {place: places.get(sent) for place, sent in came.items()})

@@ -1,0 +1,167 @@
+//! The sends that a delivery may have come from, and which of them it may be.
+
+use crate::messages::{Sent, Settled};
+use crate::waiting::Listed;
+use listing_fields::Outcome;
+use std::alloc::Global;
+
+/// To which node a send went: to that of a delivery, or to another one or none.
+#[derive(Clone, Copy, PartialEq, Eq)]
+pub(crate) enum Meant {
+    This,
+    Unknown,
+    Other,
+}
+
+/// A send that a delivery may have come from.
+#[derive(Clone, Copy)]
+pub(crate) struct Fit {
+    pub listed: Listed,
+    /// Whether another delivery took it by guess.
+    pub guessed: bool,
+    /// Whether it certainly has not come before.
+    pub fresh: bool,
+    /// To which node it went, as far as that is known, were no frame missing.
+    pub meant: Meant,
+    pub sent: Sent,
+    pub place: u32,
+    pub gaps: u32,
+    pub utid: u32,
+    /// The place of the closer of its call.
+    pub closer: Option<u32>,
+}
+
+/// The sends that fit a delivery best.
+#[derive(Drop)]
+pub(crate) struct Fitting {
+    pub list: Vec<Fit>,
+    /// The rank of each of them.
+    pub rank: u8,
+    /// Whether all that wait were looked at.
+    pub is_whole: bool,
+}
+
+impl Fitting {
+    pub(crate) fn new(alloc: Global) -> Fitting {
+        Fitting {
+            list: Vec::new(alloc),
+            rank: u8::MAX,
+            is_whole: true,
+        }
+    }
+
+    /// Begins with none.
+    pub(crate) fn begin(&mut self) {
+        self.list.clear();
+        self.rank = u8::MAX;
+        self.is_whole = true;
+    }
+
+    pub(crate) fn add(&mut self, rank: u8, fit: Fit) -> Outcome {
+        if rank > self.rank {
+            return Ok(());
+        }
+        if rank < self.rank {
+            self.list.clear();
+            self.rank = rank;
+        }
+        self.list.push(fit)?;
+        Ok(())
+    }
+
+    pub(crate) fn first(&self) -> Option<Fit> {
+        self.list.as_slice().first().copied()
+    }
+
+    /// The only one, if there is one only.
+    pub(crate) fn only(&self) -> Option<Fit> {
+        if self.list.len() == 1 {
+            return self.first();
+        }
+        None
+    }
+
+    /// Whether all of them were sent by one generation.
+    pub(crate) fn are_alike(&self) -> bool {
+        let Some(first) = self.first() else {
+            return false;
+        };
+        for fit in &self.list {
+            if fit.sent.generation != first.sent.generation {
+                return false;
+            }
+        }
+        true
+    }
+
+    /// Of oneway sends of one generation leaves those that may be the next of them to come: the
+    /// driver delivers what is sent to a node in the order in which it took it.
+    pub(crate) fn keep_next(&mut self) {
+        if let Some(first) = self.first_fresh() {
+            self.list.retain(|fit| !is_after(fit, &first));
+        }
+    }
+
+    fn first_fresh(&self) -> Option<Fit> {
+        let mut first: Option<Fit> = None;
+        for fit in &self.list {
+            if fit.fresh && first.is_none_or(|it| fit.listed.index < it.listed.index) {
+                first = Some(*fit);
+            }
+        }
+        first
+    }
+
+    /// The one that is taken by guess, if there is one. Those come first that are known to go to the
+    /// node; then the first of oneway sends, and of calls the one that is closed first.
+    pub(crate) fn best(&self, oneway: bool) -> Option<Fit> {
+        let mut best: Option<Fit> = None;
+        for fit in &self.list {
+            if !fit.guessed
+                && fit.meant != Meant::Other
+                && best.is_none_or(|it| is_better(fit, &it, oneway))
+            {
+                best = Some(*fit);
+            }
+        }
+        best
+    }
+
+    /// How many they are, or 255 if they are more.
+    pub(crate) fn count(&self) -> u8 {
+        match u8::try_from(self.list.len()) {
+            Ok(count) => count,
+            Err(_) => u8::MAX,
+        }
+    }
+}
+
+/// Whether the driver certainly took a send after another one, and that one comes before it.
+fn is_after(fit: &Fit, first: &Fit) -> bool {
+    if fit.sent.updates || fit.listed.index <= first.listed.index {
+        return false;
+    }
+    match first.sent.settled {
+        Settled::Confirmed(place) if place < fit.place => true,
+        _ => fit.utid == first.utid,
+    }
+}
+
+fn is_better(fit: &Fit, other: &Fit, oneway: bool) -> bool {
+    if fit.meant != other.meant {
+        return fit.meant == Meant::This;
+    }
+    if !oneway && fit.closer != other.closer {
+        return is_before(fit.closer, other.closer);
+    }
+    fit.listed.index < other.listed.index
+}
+
+/// Whether a call with this closer is closed before one with the other. An open call comes last.
+fn is_before(closer: Option<u32>, other: Option<u32>) -> bool {
+    match (closer, other) {
+        (Some(place), Some(later)) => place < later,
+        (Some(_), None) => true,
+        (None, _) => false,
+    }
+}
