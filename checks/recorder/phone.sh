@@ -174,7 +174,7 @@ play() { # GUEST
   printf '%s: %s\n' "$1" "$(find "$kernel/" -name 'vmlinuz*' -printf '%f\n' | head -n 1)"
   PYTHONPATH=$root PYTHONDONTWRITEBYTECODE=1 HOME=$room python3 -m checks.recorder.phone.play --record "$record" \
     --ports "${ports[@]:0:4}" --server "${ports[4]}" --adb "$room/bin-sid" --older "$room/bin-bookworm" --out "$out" \
-    "${scenes[@]}" || status=1
+    --commands "$shell" "${scenes[@]}" || status=1
   kill "$qemu" && wait "$qemu" 2>/dev/null || true
   qemu=
 }

@@ -336,6 +336,8 @@ def fetched_wrong(stage: Stage) -> None:
 SCENES = [no_device, two_devices, other_version, no_root, by_su, other_machine, no_btf, session, no_names, cable,
           detached, full, no_room, fetched_wrong, older_adb]
 OTHERS = [old_kernel]
+# These need commands of a folder of their own, in place of which the shell of busybox takes those that it has itself.
+NOT_OF_BUSYBOX = [by_su, other_machine]
 
 
 def main() -> int:
@@ -346,6 +348,7 @@ def main() -> int:
     line.add_argument("--adb", type=pathlib.Path, required=True)
     line.add_argument("--older", type=pathlib.Path, required=True)
     line.add_argument("--out", type=pathlib.Path, required=True)
+    line.add_argument("--commands", choices=("toybox", "busybox"), required=True)
     line.add_argument("--only", action="append")
     given = line.parse_args()
     stage = Stage(given)
@@ -353,6 +356,8 @@ def main() -> int:
         stage.connect(stage.serials[0])
         for scene in SCENES + OTHERS:
             if scene.__name__ not in (given.only or [it.__name__ for it in SCENES]):
+                continue
+            if given.commands == "busybox" and scene in NOT_OF_BUSYBOX:
                 continue
             stage.scene = scene.__name__
             began = time.monotonic()
