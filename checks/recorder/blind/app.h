@@ -10,8 +10,10 @@ struct stage {
 	_Atomic int finished;	/* clients that have done so */
 	_Atomic int up;		/* services that have registered */
 	_Atomic int sent;	/* calls and oneway sends */
-	_Atomic int counter[8];	/* of the session's own */
-	_Atomic pid_t process[16];	/* the same */
+	_Atomic int events;	/* of which a service has told all its listeners */
+	_Atomic int told, heard;	/* events that were sent to a listener, and those that it is through with */
+	_Atomic int frozen;	/* a bit for each app that is frozen, or about to be */
+	_Atomic pid_t process[16];	/* the apps */
 };
 extern struct stage *stage;
 extern unsigned seed;

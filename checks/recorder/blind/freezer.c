@@ -4,11 +4,10 @@
 #include <unistd.h>
 #include "roles.h"
 
-/* counter[2] of the stage has a bit for each app that is frozen or about to be. */
 static void mark(int app, bool frozen)
 {
-	if (frozen) stage->counter[2] |= 1 << app;
-	else stage->counter[2] &= ~(1 << app);
+	if (frozen) stage->frozen |= 1 << app;
+	else stage->frozen &= ~(1 << app);
 }
 
 static bool put_to_sleep(int app)
@@ -117,7 +116,7 @@ static void pushes(void *of)
 		struct proxy *to = subscriber_of(app);
 		if (!to && app) continue;
 		nap(pusher->least, pusher->most);
-		bool frozen = stage->counter[2] >> app & 1;
+		bool frozen = stage->frozen >> app & 1;
 		if (!to) continue;
 		if (!frozen || pusher->heedless || one_in(12)) push(pusher, to, frozen);
 		drop_proxy(to);

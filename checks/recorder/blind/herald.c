@@ -5,7 +5,7 @@
 #include "roles.h"
 
 static pthread_mutex_t lock = PTHREAD_MUTEX_INITIALIZER;
-static struct { struct proxy *proxy; int dead; } listeners[256];
+static struct { struct proxy *proxy; } listeners[256];
 
 static int place_of(const struct proxy *proxy)
 {
@@ -103,12 +103,18 @@ static void tell_all(const struct herald *herald)
 	for (int i = 0; i < count; i++) {
 		struct message copy = {0};
 		add_bytes(&copy, event.data, event.size);
-		tell(to[i], EVENT, &copy);
+		if (!tell(to[i], EVENT, &copy)) stage->told++;
 		drop_proxy(to[i]);
 	}
 	message_end(&event);
 	flush();
-	stage->counter[3]++;
+	stage->events++;
+}
+
+/* There is no new burst before the listeners are through with the last one, however slow the machine is. */
+static void wait_until_heard(void)
+{
+	for (int64_t longest = now() + 10000; stage->heard < stage->told && now() < longest;) usleep(5000);
 }
 
 static void events(void *of)
@@ -116,7 +122,8 @@ static void events(void *of)
 	const struct herald *herald = of;
 	for (;;) {
 		nap(herald->least, herald->most);
-		for (int i = 0; i < (herald->burst > 1 ? herald->burst : 1); i++) tell_all(herald);
+		for (int i = 0; i < (herald->burst > 1 ? herald->burst : 1) && running(); i++) tell_all(herald);
+		if (herald->burst > 1) wait_until_heard();
 	}
 }
 
@@ -134,8 +141,8 @@ void herald(void)
 /* Takes as long as the service takes for so many events: a machine's speed makes no difference. */
 static void wait_for_events(int count)
 {
-	int until = stage->counter[3] + count;
-	for (int64_t longest = now() + 8000; stage->counter[3] < until && now() < longest;) usleep(2000);
+	int until = stage->events + count;
+	for (int64_t longest = now() + 20000; stage->events < until && now() < longest;) usleep(2000);
 }
 
 static int32_t listener_answer(struct object *object, uint32_t code, struct reader *request, struct message *reply)
@@ -149,6 +156,7 @@ static int32_t listener_answer(struct object *object, uint32_t code, struct read
 	if (hearer->slower) wait_for_events(hearer->slower);
 	if (hearer->stall_each && ++heard % hearer->stall_each == hearer->stall_each / 2)
 		wait_for_events(hearer->stall);
+	stage->heard++;
 	return OK;
 }
 

@@ -80,8 +80,7 @@ static int32_t make_visit(struct proxy *proxy, const struct visit *visit)
 
 static bool service_gone(struct proxy *proxy)
 {
-	(void)proxy;
-	stage->counter[1]++;
+	(void)proxy;	/* the next call finds that it is dead */
 	return true;
 }
 
