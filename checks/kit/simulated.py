@@ -206,14 +206,10 @@ class World:
         self.acting = thread
         at = max(n for n, (side, _) in enumerate(thread.stack) if side == "served")
         _, call = thread.stack.pop(at)
-        thread.todo.append(("records", [record(BR_TRANSACTION_COMPLETE)]))
         sent.caller = call
         delivery = None if call.thread.process.dead else self.deliver(sent, call.thread.process)
-        if delivery is None:
-            thread.todo.append(("records", [record(BR_FAILED_REPLY)]))
-            call.thread.todo.append(("failed", call))
-        else:
-            call.thread.todo.append(delivery)
+        thread.todo.append(("records", [record(BR_TRANSACTION_COMPLETE if delivery else BR_DEAD_REPLY)]))
+        call.thread.todo.append(delivery or ("failed", call))
 
     def free(self, process, address):
         buffer = process.buffers.pop(address, None)
@@ -328,15 +324,15 @@ class Actor:
         while not self.thread.has_work():
             yield 0
         self.thread.blocked = False
-        got, records = None, [record(BR_NOOP)]
+        got, records = None, [record(BR_NOOP), *self.thread.given]
+        self.thread.given = []
         while got is None and (self.thread.todo or wait and len(records) == 1 and self.thread.has_work()):
             work = (self.thread.todo or self.process.todo).popleft()
             if isinstance(work, Delivery):
                 got = work
             elif work[0] == "failed":
                 got = work
-                records += [*self.thread.given, record(BR_DEAD_REPLY)]
-                self.thread.given = []
+                records.append(record(BR_DEAD_REPLY))
             else:
                 records += work[1]
         if isinstance(got, Delivery):
@@ -362,8 +358,6 @@ class Actor:
         if sent.caller is not None:
             side, call = self.thread.stack.pop()
             assert side == "made" and call is sent.caller
-            records += self.thread.given
-            self.thread.given = []
             made = transaction(BR_REPLY, 0, 0, sent.flags, 0, (len(got.body), len(got.listed)), got.address)
         else:
             if not sent.oneway:
@@ -514,8 +508,9 @@ class Actor:
             if unused:
                 yield from self.call(self.due() + [self.let_go(draw.choice(unused))], False)
         else:
-            listeners = [h for h in dict.fromkeys(self.process.listeners) if h in known]
             for _ in range(draw.randint(1, 3)):
+                known = self.known()
+                listeners = [h for h in dict.fromkeys(self.process.listeners) if h in known]
                 yield from self.oneways(listeners or known, 5, text)
 
     def oneways(self, handles, code, text, objects=()):
