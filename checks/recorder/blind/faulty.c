@@ -301,10 +301,10 @@ static void sms_store(void)
 /* ---- touch-trace: oneway sends fill the room of a listener that stalls now and then */
 
 static const struct herald touches = {.name = "input", .interface = "android.hardware.input.IInputManager",
-	.listener = "android.hardware.input.ITouchListener", .threads = 4, .least = 4, .most = 14, .payload = 1400};
+	.listener = "android.hardware.input.ITouchListener", .threads = 4, .least = 4, .most = 14, .payload = 2400};
 static const struct hearer tracer = {.service = "input", .interface = "android.hardware.input.IInputManager",
 	.listener = "android.hardware.input.ITouchListener", .listeners = 1, .least = 60000, .most = 60001,
-	.work_most = 1, .room = 256 << 10, .stall_each = 300, .stall = 110};
+	.work_most = 1, .room = 128 << 10, .stall_each = 100, .stall = 35};
 static const struct hearer pointer = {.service = "input", .interface = "android.hardware.input.IInputManager",
 	.listener = "android.hardware.input.ITouchListener", .listeners = 1, .least = 3000, .most = 6000,
 	.work_most = 1};
