@@ -12,6 +12,8 @@ What must hold:
 - An indented line that begins with `$ ` is a command, and the indented lines below it are what it prints, both streams
   together. The commands of a page are run one after another in one folder, which has the repository's files and the
   program as `audit`.
+- Each crate's page begins with a caller: lines of code that stand in a file of a crate above, or in a file of the crate
+  itself if no other crate uses it.
 - The wrong bodies in a crate's page are those in its must-fail/, each of which names the goal at which it is refused.
   Those that docs/PROMISES.md names after ✗ exist.
 - docs/DEFINITIONS.md is the page that checks/run definitions makes.
@@ -25,7 +27,7 @@ import subprocess
 from checks.kit.checking import check
 from checks.kit.programs import ROOT, SMALL, folder_of, linked
 from checks.kit.runs import answer
-from checks.pages import definitions
+from checks.pages import callers, definitions
 
 TITLE = "BINDER AUDIT "
 
@@ -218,7 +220,7 @@ def judge(given, room, _):
     for page in pages():
         for number, what in (*wrong_links(page), *wrong_reports(page, reports), *wrong_answers(page, program, room),
                              *wrong_changes(page, program), *wrong_bodies(page), *wrong_promises(page),
-                             *stale_lines(page)):
+                             *callers.wrong(page), *stale_lines(page)):
             yield f"{page.relative_to(ROOT)}:{number}: {what}"
 
 
