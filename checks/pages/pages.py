@@ -15,7 +15,8 @@ What must hold:
 - Each crate's page begins with a caller: lines of code that stand in a file of a crate above, or in a file of the crate
   itself if no other crate uses it.
 - The wrong bodies in a crate's page are those in its must-fail/, each of which names the goal at which it is refused.
-  Those that docs/PROMISES.md names after ✗ exist.
+- docs/PROMISES.md names each wrong body of each crate and no others, in its tables only names that are in the sources,
+  and the sizes of what is trusted, up to a tenth.
 - docs/DEFINITIONS.md is the page that checks/run definitions makes.
 """
 
@@ -27,7 +28,7 @@ import subprocess
 from checks.kit.checking import check
 from checks.kit.programs import ROOT, SMALL, folder_of, linked
 from checks.kit.runs import answer
-from checks.pages import callers, definitions
+from checks.pages import callers, definitions, promises
 
 TITLE = "BINDER AUDIT "
 
@@ -194,16 +195,6 @@ def wrong_bodies(page):
             yield 1, f"{name}.edit does not name one goal: `checks/run wrong -- --fill` writes it"
 
 
-def wrong_promises(page):
-    """The wrong bodies that docs/PROMISES.md names after ✗ and no crate has, each with its line."""
-    if page == ROOT / "docs/PROMISES.md":
-        there, text = {it.stem for it in ROOT.glob("crates/*/must-fail/*.edit")}, page.read_text()
-        for told in re.finditer(r"✗(?:\s+`[a-z0-9-]+`[,;]?)+", text):
-            for name in re.findall(r"`([a-z0-9-]+)`", told[0]):
-                if name not in there:
-                    yield text.count("\n", 0, told.start()) + 1, f"no {name}.edit"
-
-
 def stale_lines(page):
     """The first line of docs/DEFINITIONS.md that is not as it is made, if there is one."""
     if page == definitions.PAGE:
@@ -219,8 +210,8 @@ def judge(given, room, _):
     reports = {name: text for name, text in answers.items() if text.startswith(TITLE)}
     for page in pages():
         for number, what in (*wrong_links(page), *wrong_reports(page, reports), *wrong_answers(page, program, room),
-                             *wrong_changes(page, program), *wrong_bodies(page), *wrong_promises(page),
-                             *callers.wrong(page), *stale_lines(page)):
+                             *wrong_changes(page, program), *wrong_bodies(page), *callers.wrong(page),
+                             *promises.wrong(page), *stale_lines(page)):
             yield f"{page.relative_to(ROOT)}:{number}: {what}"
 
 
