@@ -1,0 +1,31 @@
+"""The files of sources that pages name are there."""
+
+import functools
+import os
+import pathlib
+import re
+from typing import Iterator
+
+from checks.kit.programs import ROOT
+
+# A file of sources by its name or path. `NAME.antt` and `name.rt` stand for any name.
+SOURCE = re.compile(r"`((?:[\w.-]+/)*(?!(?:NAME|name)\.)[\w-]+\.(?:rt|antt|py|sql|sh|c|edit))`")
+
+
+@functools.cache
+def paths() -> list[str]:
+    """The paths of all files, each after a slash, but for what is built."""
+    found: list[str] = []
+    for top in ("checks", "crates", "packager", "recorder", "viewer"):
+        for folder, inner, names in os.walk(ROOT / top):
+            inner[:] = [name for name in inner if name != "out"]
+            found += [f"/{pathlib.Path(folder, name).relative_to(ROOT)}" for name in names]
+    return found
+
+
+def wrong(page: pathlib.Path) -> Iterator[tuple[int, str]]:
+    """The files of sources that a page names and the repository does not have, each with its line."""
+    text = page.read_text()
+    for name in SOURCE.finditer(text):
+        if not any(path.endswith("/" + name[1]) for path in paths()):
+            yield text.count("\n", 0, name.start()) + 1, f"no file {name[1]}"
