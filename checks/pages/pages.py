@@ -12,6 +12,7 @@ What must hold:
 - An indented line that begins with `$ ` is a command, and the indented lines below it are what it prints, both streams
   together. The commands of a page are run one after another in one folder, which has the repository's files and the
   program as `audit`.
+- docs/DATABASE.md names the tables of `./listing --tables`.
 - The files of sources that a page names are there.
 - The options that a page names are those of `--help` of the programs, and of the checks.
 - Each crate's page begins with a caller: lines of code that stand in a file of a crate above, or in a file of the crate
@@ -30,7 +31,7 @@ import subprocess
 from checks.kit.checking import check
 from checks.kit.programs import ROOT, SMALL, folder_of, linked
 from checks.kit.runs import answer
-from checks.pages import callers, definitions, named_options, promises, sources
+from checks.pages import callers, definitions, named_options, promises, sources, tables
 
 TITLE = "BINDER AUDIT "
 
@@ -215,7 +216,7 @@ def judge(given, room, _):
         for number, what in (*wrong_links(page), *wrong_reports(page, reports), *wrong_answers(page, program, room),
                              *wrong_changes(page, program), *wrong_bodies(page), *callers.wrong(page),
                              *promises.wrong(page), *named_options.wrong(page, options), *sources.wrong(page),
-                             *stale_lines(page)):
+                             *tables.wrong(page), *stale_lines(page)):
             yield f"{page.relative_to(ROOT)}:{number}: {what}"
 
 
