@@ -99,7 +99,9 @@ def sizes(text: str) -> Iterator[tuple[str, int]]:
         yield f"{what} of `./audit`", lines_of(CRATES / name / folder for name in auditor)
     yield "definitions of the headline", len((ROOT / "docs/DEFINITIONS.md").read_text().splitlines())
     if kit := toolchain():
-        yield "toolchain's prover and compiler", (kit / "bin/rattle").stat().st_size
+        yield "toolchain's prover", (kit / "bin/rattle").stat().st_size
+        yield "toolchain's compilers", sum((kit / f"toolchain/bin/{name}").stat().st_size
+                                           for name in ("clang", "rattle-x64"))
         yield "toolchain's standard library", lines_of([kit / "rattle/std"])
         libraries = next(cells[0] for _, cells in rows(text) if cells[0].startswith("toolchain's crates "))
         yield libraries, lines_of(kit / "rattle" / name / folder for name in NAMED.findall(libraries)
