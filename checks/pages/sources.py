@@ -17,10 +17,9 @@ SOURCE = re.compile(r"`((?:[\w.-]+/)*(?!(?:NAME|name)\.)[\w-]+\.(?:rt|antt|py|sq
 def paths() -> list[str]:
     """The paths of all files, each after a slash, but for what is built."""
     found: list[str] = []
-    for top in ("checks", "crates", "packager", "recorder", "viewer"):
-        for folder, inner, names in os.walk(ROOT / top):
-            inner[:] = [name for name in inner if name != "out"]
-            found += [f"/{pathlib.Path(folder, name).relative_to(ROOT)}" for name in names]
+    for folder, inner, names in os.walk(ROOT):
+        inner[:] = [name for name in inner if name != "out" and not name.startswith(".")]
+        found += [f"/{pathlib.Path(folder, name).relative_to(ROOT)}" for name in names]
     return found
 
 
