@@ -46,7 +46,7 @@ def wrong(page: pathlib.Path, options: Options) -> Iterator[tuple[int, str]]:
         code, number = found[1] or found[2], text.count("\n", 0, found.start()) + 1
         if of_check := OF_CHECK.fullmatch(code):
             source = sources_of_checks().get(of_check[1])
-            for option in options_in(of_check[2]) if source is not None else ():
+            for option in options_in(of_check[2]) - {"--help"} if source is not None else ():
                 if not re.search(rf"\b{option.removeprefix('--').replace('-', '[-_]')}\b", source):
                     yield number, f"checks/run {of_check[1]} has no {option}"
         elif command := COMMAND.match(code):

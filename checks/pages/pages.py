@@ -1,4 +1,4 @@
-"""Checks the pages: README.md, docs/, samples/ and the READMEs of the crates.
+"""Checks the pages: README.md, docs/, samples/, checks/README.md and the READMEs of the crates.
 
     checks/run pages [-- PROGRAM]
 
@@ -38,8 +38,8 @@ TITLE = "BINDER AUDIT "
 
 def pages():
     """The pages, README.md first."""
-    return [ROOT / "README.md", *sorted(ROOT.glob("docs/*.md")), *sorted(ROOT.glob("samples/*.md")),
-            *sorted(ROOT.glob("crates/*/README.md"))]
+    return [ROOT / "README.md", *sorted(ROOT.glob("docs/*.md")), *sorted(ROOT.glob("samples/**/*.md")),
+            ROOT / "checks/README.md", *sorted(ROOT.glob("crates/*/README.md"))]
 
 
 def anchors(page):
