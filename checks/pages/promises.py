@@ -10,6 +10,7 @@ from checks.kit.programs import ROOT
 
 PAGE = ROOT / "docs/PROMISES.md"
 CRATES = ROOT / "crates"
+EDITS = "*/must-fail/*.edit"
 NAMED = re.compile(r"`([^`]+)`")
 # What is called on this page and is no name of the sources: a column of a table, a lifetime, a file.
 OTHER = re.compile(r"'\w+|must-fail/.*")
@@ -27,7 +28,7 @@ def rows(text: str) -> Iterator[tuple[int, list[str]]]:
 
 def wrong_bodies(text: str) -> Iterator[tuple[int, str]]:
     """The wrong bodies in the last column that no crate has, and those of crates that no row names."""
-    there, told = {it.stem: it.parent.parent.name for it in CRATES.glob("*/must-fail/*.edit")}, set()
+    there, told = {it.stem: it.parent.parent.name for it in CRATES.glob(EDITS)}, set()
     for number, cells in rows(text):
         for name in NAMED.findall(cells[-1]) if len(cells) == 3 else ():
             if re.fullmatch(r"[a-z0-9]+(-[a-z0-9]+)+", name):
@@ -119,11 +120,11 @@ def wrong_sizes(text: str) -> Iterator[tuple[int, str]]:
 
 def wrong_counts(text: str) -> Iterator[tuple[int, str]]:
     """The numbers of crates and of wrong bodies that are not so."""
-    for pattern, count in ((r"in (\d+) crates", len(below("binder_audit"))),
-                           (r"(\d+) changes of the code", len(list(CRATES.glob("*/must-fail/*.edit"))))):
+    for what, pattern, count in (("crates of `./audit`", r"in (\d+) crates", len(below("binder_audit"))),
+                                 ("wrong bodies", r"(\d+) changes of the code", len(list(CRATES.glob(EDITS))))):
         found = re.search(pattern, text)
         if not found or int(found[1]) != count:
-            yield 1, f"there are {count}, as in {pattern}"
+            yield text.count("\n", 0, found.start()) + 1 if found else 1, f"there are {count} {what}"
 
 
 def wrong(page: pathlib.Path) -> Iterator[tuple[int, str]]:
