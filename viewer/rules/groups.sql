@@ -24,6 +24,7 @@ INSERT INTO title VALUES
   ('H2', 'nodes', NULL, 'references given back too often'),
   ('H3', 'handles', NULL, 'references to an object told dead'),
   ('H4', 'handles', NULL, 'references taken more than once'), ('H5', 'handles', NULL, 'references kept'),
+  ('H8', 'handles', NULL, 'references kept'),
   ('U4', 'nodes', NULL, 'references never acknowledged'), ('U6', 'nodes', NULL, 'references not acknowledged yet'),
   ('T1', 'nodes', NULL, 'references not acknowledged yet'), ('F1', 'frees', NULL, 'buffers freed twice'),
   ('C6', NULL, NULL, 'calls that keep a pool busy'), ('S1', NULL, NULL, 'sends that were refused'),

@@ -1,6 +1,6 @@
 """More sessions as in cases.py: handles, nodes, deaths, clears, frees, objects, and oneway sends that never came."""
 
-from checks.viewer.sessions.cases import case, with_server
+from checks.viewer.sessions.cases import case
 from checks.viewer.sessions.session import *
 
 
@@ -107,52 +107,6 @@ def handles_and_nodes(s):
         service.main.reads(node(BR_ACQUIRE, ptr, 0))
         service.main.writes(node(BC_ACQUIRE_DONE, ptr, 0))
     service.main.reads(node(BR_RELEASE, 0x200, 0))
-
-
-@case("H5:4", "given by replies to code 5 of server 300 node 0x9000", kept=4, let_go=0)
-@case("", kept=3, let_go=0)
-@case("H5:4", kept=4, let_go=1)
-@case("H5:4", "other 400 keeps 1 of 3", kept=4, let_go=1, others=3)
-@case("", kept=4, let_go=2)
-def sessions_kept(s, kept, let_go, others=0):
-    """A client keeps what replies gave it, or some of it; another one lets go of all but one."""
-    manager, client, server = with_server(s)
-    for handle in range(2, 2 + kept + let_go):
-        client.main.is_given(server.main, handle, via=1, ptr=0x9000)
-    client.main.writes(*each(BC_RELEASE, *range(2, 2 + let_go)))
-    if others:
-        other = s.process(400, "other")
-        other.main.is_given(manager.main, 1, server_handle=3)
-        for handle in range(2, 2 + others):
-            other.main.is_given(server.main, handle, via=1, ptr=0x9000, node=0xA00 + 0x100 * handle)
-        other.main.writes(*each(BC_RELEASE, *range(2, 1 + others)))
-    s.wait(300)
-
-
-@case("H5:4", "given by calls of code 4 from client 200", senders=1, each_gives=4)
-@case("", senders=4, each_gives=1)
-@case("", senders=2, each_gives=2)
-@case("", senders=1, each_gives=3)
-@case("", senders=1, each_gives=4, to_manager=True)
-def callbacks_kept(s, senders, each_gives, to_manager=False):
-    """Handles that calls brought: many from one client, or one from each of many. The context manager keeps all."""
-    manager, client, server = with_server(s)
-    others = [client] + [s.process(400 + at, "other") for at in range(1, senders)]
-    handle = 10
-    for other in others:
-        for _ in range(each_gives):
-            if to_manager:
-                other.main.gives(manager.main, handle)
-            else:
-                if other is not client and handle % each_gives == 10 % each_gives:
-                    other.main.is_given(manager.main, 1, server_handle=3)
-                body, listed = node_object(0x9000 + 0x100 * handle), offsets(0)
-                address = server.main.gets(other.main.sends(1, 4, body=body, listed=listed), 0x9000,
-                                           of_handle(2, handle))
-                server.main.writes(*each(BC_ACQUIRE, handle))
-                other.main.answered(server.main.replies(address))
-            handle += 1
-    s.wait(300)
 
 
 @case("U4:1", then=2, ends=0)
