@@ -2,8 +2,8 @@
 -- needs: database/schema.sql: finding, raw_generation, raw_record, raw_thread, side_time; nodes.sql: who; facts.sql:
 --   given, given_way, told_death; ages.sql: ended, last, leaving, process_life; rule.sql: lossy; handles.sql:
 --   handle_row; ways.sql: kept_handle, kept_way, let_go; judging.py: counted, duration
--- makes: temporary tables: mourned, taken_again, most_held, cache, kept_elsewhere, overdue; indexes: taken_again_of,
---   most_held_of
+-- makes: temporary tables: mourned, dead_way, taken_again, most_held, cache, kept_elsewhere, overdue; indexes:
+--   taken_again_of, most_held_of
 
 -- The proxies of the dead go with the next collection of garbage: one is held for long after :VERY_LONG, and several
 -- after :LONG.
@@ -15,6 +15,13 @@ FROM (SELECT f.id, f.upid, min(t.place) AS place, coalesce(p.ended, last.ts) - x
   WHERE f.section = 'handles' AND f.what = 'held' GROUP BY f.id);
 UPDATE finding SET rule = 'H3', note = 'told at ' || m.place FROM mourned m
 WHERE rule IS NULL AND m.id = finding.id AND m.long;
+-- By which calls or replies they came, and how many of those that its process got so are such.
+CREATE TEMP TABLE dead_way AS
+SELECT v.upid, v.way, count(*) AS n FROM finding f JOIN given v USING (generation)
+WHERE f.rule = 'H3' AND v.way NOTNULL GROUP BY 1, 2;
+UPDATE finding SET note = note || '; ' || d.way || ': ' || d.n || ' of '
+  || (SELECT sum(w.n) FROM given_way w WHERE (w.upid, w.way) = (d.upid, d.way)) || ' that came so'
+FROM given v JOIN dead_way d USING (upid, way) WHERE rule = 'H3' AND v.generation = finding.generation;
 -- The most that a generation that is held had at once, if one thread took and let go of all. Records of several threads
 -- say nothing of that: one may write late that it let go, when another has taken it again. By these a generation has
 -- more only if it has three now. A handle may have very many generations, of which at most one is held.

@@ -22,18 +22,25 @@ def handle_from_nowhere(s, met, lost=False, unseen=False):
     client.main.writes(*each(BC_ACQUIRE, 7))
 
 
-@case("H2:1", met="from-start")
+@case("H2:1", "(1 time too often; given by replies to code 5 of service 100 node 0x0: 1 of 1 that came so)")
+@case("H2:1", "(3 times too often; given by replies to code 5 of service 100 node 0x0: 3 of 3 that came so)", again=3)
+@case("H2:1", "(2 times too often; given by replies to code 5 of service 100 node 0x0: 2 of 5 that came so)", again=2,
+      well=3)
+@case("H2:1", "(2 times too often; given by replies to code 5 of service 100 node 0x0: 2 of 2 that came so)", again=2,
+      weakly=True)
 @case("P1:1", met="in-mid-life")
-@case("M1:1", met="from-start", lost=True)
-def let_go_too_often(s, met, lost=False):
+@case("M1:1", lost=True)
+def let_go_too_often(s, again=1, well=0, weakly=False, met="from-start", lost=False):
+    """One handle after another of the same number is taken, and let go of twice; then others once."""
     service, client = s.two(met)
-    client.main.is_given(service.main, 1)
-    if lost:
-        s.loses(client)
-    client.main.writes(*each(BC_RELEASE, 1, 1))
+    for at in range(again + well):
+        client.main.is_given(service.main, 1, node=0x100 * (at + 1), weakly=weakly)
+        if lost:
+            s.loses(client)
+        client.main.writes(*each(BC_DECREFS if weakly else BC_RELEASE, *[1] * (2 if at < again else 1)))
 
 
-def told_dead(s, count, wait, lost=False):
+def told_dead(s, count, wait):
     """The client holds handles of processes of whose death it is told."""
     service, client = s.two()
     others = [s.process(300 + at, "short-lived") for at in range(count)]
@@ -49,7 +56,7 @@ def told_dead(s, count, wait, lost=False):
     s.wait(wait)
 
 
-@case("H3:1", "told at", count=1, wait=1100)
+@case("H3:1", "; given by replies to code 41 of service 100 node 0x0: 1 of 1 that came so)", count=1, wait=1100)
 @case("", count=1, wait=900)
 @case("", count=2, wait=900)
 @case("H3:3", count=3, wait=200)
