@@ -26,7 +26,7 @@ def judge(database: sqlite3.Connection, folder: pathlib.Path = FOLDER) -> None:
     `without_methods(path)` takes methods and packages out."""
     database.create_function("duration", 1, duration_of, deterministic=True)
     database.create_function("counted", -1, counted, deterministic=True)
-    database.create_function("likeness", 5, likeness, deterministic=True)
+    database.create_function("likeness", -1, likeness, deterministic=True)
     database.create_function("number_in", 3, number_of, deterministic=True)
     database.create_function("status_name", 1, status_name, deterministic=True)
     numbers = {**named_numbers(database), **THRESHOLDS}

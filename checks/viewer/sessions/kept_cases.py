@@ -190,3 +190,31 @@ def one_in_ten_callbacks(s, one):
     for handle in range(30, 33):
         calls_back(client.main, server.main, handle)
     s.wait(300)
+
+
+# ---- processes of one name
+
+
+@case("H5:24", "maybe references kept: 12 of 12 given by calls of code 4 from broker (3 processes) H5",
+      "maybe references kept: 12 of 12 given by replies to code 5 of maker 350 node 0xa000 in 3 processes H5",
+      "groups that are maybe: 2", names=("broker", "broker", "broker"))
+@case("H5:24", "maybe references kept: 8 of 8 given by calls of code 4 from broker (2 processes) H5",
+      "maybe references kept: 4 of 4 given by calls of code 4 from agent 402 H5",
+      "groups that are maybe: 3", names=("broker", "broker", "agent"))
+def kept_of_one_name(s, names):
+    """Three processes get objects from a maker, keep them, and hand them over to a server, which keeps them too."""
+    manager, _, server = with_server(s)
+    maker = s.process(350, "maker")
+    maker.main.gives(manager.main, 4, node=0xA000)
+    for number, name in enumerate(names):
+        broker = s.process(400 + number, name)
+        broker.main.is_given(manager.main, 1, server_handle=3)
+        broker.main.is_given(manager.main, 2, server_handle=4)
+        for handle in range(10, 14):
+            node_of = 0xB000 + 0x1000 * number + 0x100 * handle
+            broker.main.is_given(maker.main, handle, via=2, ptr=0xA000, node=node_of)
+            sent = broker.main.sends(1, 4, body=of_handle(2, handle), listed=offsets(0))
+            address = server.main.gets(sent, 0x9000, of_handle(2, 10 * number + handle))
+            server.main.writes(*each(BC_ACQUIRE, 10 * number + handle))
+            broker.main.answered(server.main.replies(address))
+    s.wait(300)
