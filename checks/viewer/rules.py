@@ -75,14 +75,14 @@ def due_of(one: Case) -> Counter:
 
 
 def texts_of(database: sqlite3.Connection) -> str:
-    """Paths and notes of the findings, groups, how many there are of each verdict, and who sent how many of which code to
-    whom, and how many of these came."""
+    """Paths and notes of the findings; the groups, and how many each verdict has; and who sent how many of which code
+    to whom, and how many of these came."""
     return "\n".join(text for text, in database.execute(
         "SELECT coalesce(path, '') || ' (' || coalesce(note, '') || ')' FROM finding"
         " UNION ALL SELECT a.who || ' to ' || b.who || ' code ' || code || ': ' || delivered || ' of ' || sends"
         " FROM traffic t JOIN who a USING (upid) JOIN who b ON b.upid = t.node_upid"
         " UNION ALL SELECT verdict || ' ' || title || ': ' || n || ' of ' || coalesce(n_all, '-') || ' ' || path || ' '"
-        " || rules FROM finding_group"
+        " || rules || ' (' || coalesce(note, '') || ')' FROM finding_group"
         " UNION ALL SELECT 'groups that are ' || v.verdict || ': ' || count(g.grp) FROM (SELECT DISTINCT verdict"
         " FROM rule) v LEFT JOIN finding_group g USING (verdict) GROUP BY v.verdict"
         " UNION ALL SELECT 'finding_stack ' || n || ': ' || stack || ', ' || whose FROM finding_stack"

@@ -1,6 +1,6 @@
 -- One cause is one finding: what a process does about the death of another one, or leaves undone, is told once.
--- needs: database/schema.sql: finding; judging.py: counted
--- makes: temporary tables: of_death, led_by; indexes: led_by_first
+-- needs: database/schema.sql: finding
+-- makes: temporary tables: of_death, led_by
 
 -- What tells of a death, the strongest first: sends to the dead, references to it, the death that is not acknowledged,
 -- and the clears that wait for that.
@@ -17,11 +17,4 @@ CREATE TEMP TABLE led_by AS
 SELECT id, rank, first FROM (SELECT id, rank, first_value(id) OVER of_one AS first, min(rank) OVER of_one AS first_rank
   FROM of_death WHERE dead NOTNULL WINDOW of_one AS (PARTITION BY upid, dead ORDER BY rank, place))
 WHERE rank > first_rank;
-CREATE INDEX temp.led_by_first ON led_by(first);
 UPDATE finding SET lead = l.first FROM led_by l WHERE l.id = finding.id;
-UPDATE finding SET note = coalesce(note || '; ', '') || (SELECT 'with ' || group_concat(CASE rank
-    WHEN 2 THEN counted(n, 'reference to the dead', 'references to the dead')
-    WHEN 3 THEN counted(n, 'death not acknowledged', 'deaths not acknowledged')
-    ELSE counted(n, 'clear not confirmed', 'clears not confirmed') END, ' and ')
-  FROM (SELECT rank, count(*) AS n FROM led_by l WHERE l.first = finding.id GROUP BY 1 ORDER BY 1))
-WHERE id IN (SELECT first FROM led_by);

@@ -1,7 +1,7 @@
 -- Findings in groups, and who talks to whom: what the page shows first.
 -- needs: database/schema.sql: finding, raw_call, raw_delivery, raw_generation, raw_record, raw_send, side_time;
---   database/views.sql: process; nodes.sql: node_of, who; facts.sql: given; rule.sql: rule; judging.py: likeness,
---   without_methods
+--   database/views.sql: process; nodes.sql: node_of, who; facts.sql: given; rule.sql: rule; causes.sql: led_by;
+--   judging.py: counted, likeness, without_methods
 -- makes: tables: title, finding_head, finding_group, traffic; temporary tables: named, ranked, common, paths; indexes:
 --   head_of_group, ranked_group, common_of, paths_of
 
@@ -92,6 +92,14 @@ FROM finding_head h JOIN finding f USING (id) JOIN named n ON n.id = h.grp JOIN 
 GROUP BY h.grp;
 UPDATE finding_group SET note = (SELECT f.note FROM finding_head h JOIN finding f USING (id)
   WHERE h.grp = finding_group.grp AND f.lead IS NULL AND f.note <> '' ORDER BY f.place LIMIT 1);
+-- And what else came of the deaths that its findings tell of.
+UPDATE finding_group SET note = coalesce(note || '; ', '') || l.told
+FROM (SELECT grp, 'with ' || group_concat(CASE rank
+    WHEN 2 THEN counted(n, 'reference to the dead', 'references to the dead')
+    WHEN 3 THEN counted(n, 'death not acknowledged', 'deaths not acknowledged')
+    ELSE counted(n, 'clear not confirmed', 'clears not confirmed') END, ' and ') AS told
+  FROM (SELECT h.grp, l.rank, count(*) AS n FROM led_by l JOIN finding_head h USING (id) GROUP BY 1, 2 ORDER BY 1, 2)
+  GROUP BY 1) l WHERE l.grp = finding_group.grp;
 
 -- Who talks to whom, by handle and code.
 CREATE TABLE traffic(upid INTEGER NOT NULL, handle INTEGER NOT NULL, generation INTEGER NOT NULL, code INTEGER NOT NULL,

@@ -7,8 +7,10 @@ from checks.viewer.sessions.session import *
 
 @case("H3:3", "given by calls of code 4: 3 of 5 that came so)", dead=3, alive=2)
 @case("H3:4", "given by calls of code 4: 4 of 4 that came so)", dead=4, alive=0)
-def callbacks_of_the_dead(s, dead, alive):
-    """A server keeps an object of each of some clients, of which some end."""
+@case("H3:3 U4:1", "3 of 3 handles, short-lived H3 (told at 5220; given by calls of code 4: 3 of 3 that came so; with 1"
+      " death not acknowledged)", "groups that are maybe: 1", dead=3, alive=0, done=2)
+def callbacks_of_the_dead(s, dead, alive, done=9):
+    """A server keeps an object of each of some clients, of which some end. It acknowledges the first deaths."""
     manager, _, server = with_server(s)
     others = [s.process(400 + at, "short-lived") for at in range(dead + alive)]
     for handle, other in enumerate(others, 20):
@@ -18,7 +20,8 @@ def callbacks_of_the_dead(s, dead, alive):
     for handle, other in enumerate(others[:dead], 20):
         other.ends()
         server.main.reads(*each_long(BR_DEAD_BINDER, handle))
-        server.main.writes(*each_long(BC_DEAD_BINDER_DONE, handle))
+        server.main.writes(*(each_long(BC_DEAD_BINDER_DONE, handle) if handle < 20 + done else [ENTER]))
+    server.main.writes(ENTER)
     s.wait(200)
 
 
@@ -32,15 +35,15 @@ def callbacks_of_the_dead(s, dead, alive):
       "1 of 1 that came so; with 1 death not acknowledged and 1 clear not confirmed)", clears=True)
 @case("D3:1 U4:1", "groups that are maybe: 1", "groups that are explained: 0", "(with 1 clear not confirmed)",
       clears=True, lets_go=True)
-@case("E1:2 H3:1", "real calls that failed: 2 of 2 code 7 to short-lived 300 node 0x9000 E1", "groups that are maybe: 0",
-      "; with 1 reference to the dead)", done=True, calls=2)
+@case("E1:2 H3:1", "real calls that failed: 2 of 2 code 7 to short-lived 300 node 0x9000 E1",
+      "groups that are maybe: 0", "; with 1 reference to the dead)", done=True, calls=2)
 @case("D3:1 E1:2 H3:1 U4:1", "real calls that failed: 2 of 2 code 7 to ", "groups that are maybe: 0",
       "groups that are explained: 0",
       "; with 1 reference to the dead and 1 death not acknowledged and 1 clear not confirmed)", clears=True, calls=2)
 @case("E1:2 U4:1", "real calls that failed: 2 of 2 code 7 to ", "groups that are maybe: 0",
       "; with 1 death not acknowledged)", calls=2, lets_go=True)
-@case("H3:2 U4:2", "maybe references to an object told dead: 2 of 2 handles, short-lived H3", "groups that are maybe: 1",
-      "; with 2 deaths not acknowledged)", objects=2)
+@case("H3:2 U4:2", "maybe references to an object told dead: 2 of 2 handles, short-lived H3",
+      "groups that are maybe: 1", "; with 2 deaths not acknowledged)", objects=2)
 @case("H3:1 U4:2", "maybe references to an object told dead: 1 of 1 handle 1, ", "groups that are maybe: 1",
       "; with 2 deaths not acknowledged)", objects=2, lets_go_of=2)
 @case("H3:1 L1:1", "groups that are maybe: 1", "groups that are explained: 1", "1 of 1 that came so)", done=True,
