@@ -5,7 +5,7 @@
 --   object_name, service_name, status_name
 -- makes: temporary tables: dead_record, told_death, asked, buffer_path, buffer_text, send_path, given, given_way,
 --   object_of, answered, answered_name; indexes: dead_cookie, dead_handle, dead_place, told_generation, asked_node,
---   given_generation, object_of_generation
+--   given_generation, given_way_of, object_of_generation
 
 -- ---- findings that are not rows of the report
 
@@ -189,6 +189,7 @@ WHERE EXISTS (SELECT 1 FROM finding WHERE section IN ('handles', 'answers'));
 CREATE UNIQUE INDEX temp.given_generation ON given(generation);
 CREATE TEMP TABLE given_way AS
 SELECT upid, way, sender, count(*) AS n, sum(kept) AS kept FROM given WHERE way NOTNULL GROUP BY 1, 2, 3;
+CREATE INDEX temp.given_way_of ON given_way(way, upid);
 UPDATE finding SET n_all = w.n FROM given g JOIN given_way w ON w.upid = g.upid AND w.way = g.way
   AND w.sender IS g.sender
 WHERE section = 'handles' AND g.generation = finding.generation AND g.kept;

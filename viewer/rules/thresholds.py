@@ -18,8 +18,11 @@ THRESHOLDS = {
     "OFTEN": 3,
     # This share of a path is nearly all of it (U3, R1, H5).
     "NEARLY_ALL": 0.8,
-    # So many handles that one process handed over may be a leak (H5).
+    # So many handles that one process handed over may be a leak (H5), and so many that were let go of tell how long one
+    # is needed (H8).
     "MANY": 4,
+    # What came, or was used, in this last part of a time came, or was used, lately (H5, H6, H8).
+    "LATELY": 0.5,
 
     # -- How far statements look, since more says no more.
     # `later` of a finding rises up to here, and so many calls, or frames, after it are looked at.

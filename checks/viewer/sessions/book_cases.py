@@ -44,7 +44,7 @@ def begun(s, client="", service="", early=False, **given):
 
 @case("H7:1", "before the recording: strong 1, weak 0", had=1, times=1)
 @case("H6:1", "before the recording: strong 2, weak 0", had=2, times=1)
-@case("H2:1", "handle 7, service 100 node 0x700 (before", had=1, times=2)
+@case("H2:1", "(before the recording: strong 1, weak 0; 1 time too often)", had=1, times=2)
 @case("H1:1", had=0, times=1)
 @case("M1:1", had=0, times=1, lost=True)
 @case("M1:1", had=1, times=2, lost=True)

@@ -384,6 +384,41 @@ def buffers(s, **given):
     kept_buffers(s, **given)
 
 
+ERRORS = "all 3 that are kept have at most 12 bytes, all 3 that were freed at least 40: look at what follows an error)"
+
+
+@case("U2:3", ERRORS)
+@case("U4:3", "reply to code 7 of service 100 node 0x0 ()", freed=(40, 40))
+@case("U2:2", "reply to code 7 of service 100 node 0x0 ()", kept=(12, 12))
+@case("U2:3", ERRORS, kept=(4, 12, 8), freed=(40, 48, 44))
+@case("U2:3", "reply to code 7 of service 100 node 0x0 ()", kept=(12, 12, 40))
+@case("U2:3", "reply to code 7 of service 100 node 0x0 ()", freed=(40, 40, 40, 12))
+@case("U2:3", "reply to code 7 of service 100 node 0x0 ()", others=(40, 40, 40), freed=())
+@case("U2:3", ERRORS, others=(4, 4, 4))
+@case("U3:3", "reply to code 7 of service 100 node 0x0 ()", freed=(), other_code=(40, 40, 40))
+def small_replies(s, kept=(12, 12, 12), freed=(40, 40, 40), others=(), other_code=()):
+    """A client does not free some replies, and frees others, of these sizes. Another client frees all, or there are
+    replies to another code."""
+    service, client = s.two()
+    other = s.process(300, "other")
+
+    def asks(thread, code, size, free):
+        address = service.main.gets(thread.sends(0, code))
+        thread.answered(service.main.replies(address, bytes(size)), free=free)
+
+    for size in kept:
+        asks(client.main, 7, size, False)
+    for size in freed:
+        asks(client.main, 7, size, True)
+    for size in others:
+        asks(other.main, 7, size, True)
+    for size in other_code:
+        asks(client.main, 9, size, True)
+    for _ in range(4):
+        client.main.asks(service.main, 8)
+    s.wait(300)
+
+
 @case("U6:1", kept=1)
 @case("U4:1 U5:1", kept=2)
 @case("U4:1 U6:1", kept=2, wait=50, between=200)
