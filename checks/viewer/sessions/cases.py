@@ -188,6 +188,7 @@ def answer_unread(s, ends=0, wait=0):
 @case("E3:1", sends=1, after=500)
 @case("E1:1", "told at", sends=1, after=1500)
 @case("E1:2", "told at", sends=2, after=10)
+@case("E1:3", "told at", sends=3, after=10)
 def calls_the_dead(s, sends, after):
     """The client is told of a death, and calls the dead object."""
     service, client = s.two()
@@ -224,18 +225,45 @@ def news_during_calls(s):
 
 
 @case("E3:2", crossing=True)
-@case("E2:1 E3:1", crossing=False)
-def dead_reply_before(s, crossing):
-    """Two threads call an object that ends, both before it ends; or the second after the first has read so."""
+@case("E3:2", crossing=True, before=1100)
+@case("E3:2")
+@case("E3:2", wait=900)
+@case("E2:1 E3:1", "told at", wait=1100)
+@case("E2:2 E3:1", "told at", sends=2)
+def dead_reply_before(s, crossing=False, sends=1, before=0, wait=0):
+    """Two threads call an object that ends, both before it ends; or the second after the first has read so, soon or
+    not, once or twice."""
     service, client = s.two()
     one, two = client.main, client.thread(1)
     one.sends(0, 1)
+    s.wait(before)
     if crossing:
         two.sends(0, 1)
     one.reads(record(BR_DEAD_REPLY))
-    if not crossing:
-        two.sends(0, 1)
-    two.reads(record(BR_DEAD_REPLY))
+    s.wait(wait)
+    for at in range(sends):
+        if not crossing:
+            two.sends(0, 1)
+        two.reads(record(BR_DEAD_REPLY))
+
+
+@case("E4:1", then="nothing")
+@case("E4:1", then="oneway")
+@case("E4:1", then="work")
+@case("E8:1", "service 100 was frozen, and got a call again at", then="call")
+def frozen(s, then):
+    """A call is refused, since its server is frozen, which was called before. Then it gets a call, or a oneway
+    transaction, which does not say that it was thawed, or does something of its own, or nothing."""
+    service, client = s.two()
+    client.main.asks(service.main)
+    client.main.sends(0, 1)
+    client.main.reads(record(BR_FROZEN_REPLY))
+    if then == "call":
+        client.main.asks(service.main)
+    elif then == "oneway":
+        service.main.frees(service.main.gets(client.main.sends(0, 7, ONE_WAY)))
+    elif then == "work":
+        service.main.writes(ENTER)
 
 
 @case("R1:3", "code 7 to service 100 node 0x0: -74 EBADMSG", wrong=3, right=0)
