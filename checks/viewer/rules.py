@@ -74,9 +74,12 @@ def due_of(one: Case) -> Counter:
 
 
 def texts_of(database: sqlite3.Connection) -> str:
-    """Paths and notes of the findings, and who sent how many of which code to whom, and how many of these came."""
+    """Paths and notes of the findings, how many of each rule a process causes, who sent how many of which code to whom,
+    and how many of these came."""
     return "\n".join(text for text, in database.execute(
         "SELECT coalesce(path, '') || ' (' || coalesce(note, '') || ')' FROM finding"
+        " UNION ALL SELECT rule || ' by ' || who || ': ' || count(*) FROM finding f"
+        " JOIN who w ON w.upid = coalesce(f.culprit, f.upid) GROUP BY rule, w.upid"
         " UNION ALL SELECT a.who || ' to ' || b.who || ' code ' || code || ': ' || delivered || ' of ' || sends"
         " FROM traffic t JOIN who a USING (upid) JOIN who b ON b.upid = t.node_upid"
         " UNION ALL SELECT 'finding_stack ' || n || ': ' || stack || ', ' || whose FROM finding_stack"

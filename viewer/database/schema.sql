@@ -3,6 +3,7 @@
 -- Since version 4, method and node_interface are new.
 -- Since version 5, command and uid of process, the names that begin with book, disagreement, side_call, side_unstacked,
 -- stack, finding_stack, service and node_service are, and the column service of record.
+-- Since version 7, the column culprit of finding is.
 -- needs: nothing
 -- makes: tables: raw_capture, raw_process, raw_thread, raw_frame, raw_record, raw_interface, raw_service, raw_object,
 --   raw_call, raw_generation, raw_send, raw_delivery, raw_level, side_device, side_process, side_thread, side_time,
@@ -11,7 +12,7 @@
 --   side_call, side_pc, side_map, side_unstacked, symbol, capture, report, finding; indexes: side_process_of_pid,
 --   side_thread_of_tid
 
-PRAGMA user_version = 6;
+PRAGMA user_version = 7;
 
 -- ---- raw tables: the rows that `./listing --tables` writes, column by column
 --
@@ -335,8 +336,9 @@ CREATE TABLE report(id INTEGER PRIMARY KEY, section TEXT NOT NULL, place INTEGER
   text TEXT NOT NULL) STRICT;
 -- n_all is NULL where a path is not counted: for handles that are let go of or that no delivery gave, for nodes,
 -- requests, deaths, clears, frees and flags, and for replies that are sent. later counts calls no deeper than the
--- finding itself; for what is neither a call nor its buffer, it counts write frames.
+-- finding itself; for what is neither a call nor its buffer, it counts write frames. culprit is NULL if it is upid.
 CREATE TABLE finding(id INTEGER PRIMARY KEY, report INTEGER, section TEXT NOT NULL, what TEXT NOT NULL, place INTEGER,
   seq INTEGER, upid INTEGER NOT NULL, utid INTEGER, handle INTEGER, code INTEGER, ptr INTEGER, cookie INTEGER,
   generation INTEGER, target INTEGER, path TEXT, n_all INTEGER, n_good INTEGER, longest_seq INTEGER, longest INTEGER,
-  age_seq INTEGER, age INTEGER, later INTEGER, lead INTEGER, waiting INTEGER, rule TEXT, note TEXT) STRICT;
+  age_seq INTEGER, age INTEGER, later INTEGER, lead INTEGER, waiting INTEGER, rule TEXT, note TEXT,
+  culprit INTEGER) STRICT;

@@ -49,12 +49,13 @@ FROM failure e JOIN finding f USING (id) JOIN raw_record r ON r.place = e.place
 WHERE e.refused AND f.target NOTNULL AND r.flags & :TF_ONE_WAY;
 DELETE FROM refused_first WHERE nth > 1;
 CREATE TEMP TABLE in_the_way AS
-SELECT q.id, q.target, t.upid, count(*) AS n,
-  sum((r.data_size + 7) / 8 * 8 + (r.offsets_size + 7) / 8 * 8 + (coalesce(r.extra, 0) + 7) / 8 * 8) AS bytes
-FROM (SELECT * FROM refused_first ORDER BY place LIMIT :NOTED) q JOIN node_of n ON n.upid = q.target
-  JOIN raw_send s ON s.generation = n.generation AND s.place < q.place JOIN raw_record r ON r.place = s.place
-  JOIN raw_thread t ON t.utid = s.utid LEFT JOIN raw_delivery d ON d.place = s.delivery
-WHERE s.refused IS NULL AND r.flags & :TF_ONE_WAY AND coalesce(d.freed_by > q.place, 1) GROUP BY 1, 2, 3;
+SELECT id, target, upid, count(*) AS n, sum(bytes) AS bytes, sum(iif(got, bytes, 0)) AS held
+FROM (SELECT q.id, q.target, t.upid, coalesce(d.place < q.place, 0) AS got,
+    (r.data_size + 7) / 8 * 8 + (r.offsets_size + 7) / 8 * 8 + (coalesce(r.extra, 0) + 7) / 8 * 8 AS bytes
+  FROM (SELECT * FROM refused_first ORDER BY place LIMIT :NOTED) q JOIN node_of n ON n.upid = q.target
+    JOIN raw_send s ON s.generation = n.generation AND s.place < q.place JOIN raw_record r ON r.place = s.place
+    JOIN raw_thread t ON t.utid = s.utid LEFT JOIN raw_delivery d ON d.place = s.delivery
+  WHERE s.refused IS NULL AND r.flags & :TF_ONE_WAY AND coalesce(d.freed_by > q.place, 1)) GROUP BY 1, 2, 3;
 UPDATE finding SET note = (SELECT counted(sum(n), 'oneway send') || ' with ' || counted(sum(bytes), 'byte')
     || ' waited or were held at ' || (SELECT who FROM who w WHERE w.upid = target) || ': ' || group_concat(
       counted(n, 'send') || ' from ' || (SELECT who FROM who w WHERE w.upid = i.upid), ', ')

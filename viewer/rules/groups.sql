@@ -66,7 +66,7 @@ FROM (SELECT h.grp, n.path, max(f.n_all) AS n_all FROM named n JOIN finding_head
 CREATE UNIQUE INDEX temp.paths_of ON paths(grp);
 
 -- A group has n findings of the n_all of its paths; those that are led do not count. Its rules begin with those of its
--- strongest verdict. Its note is that of its first finding.
+-- strongest verdict. Its note is that of its first finding. Who is who causes it.
 CREATE TABLE finding_group(grp INTEGER PRIMARY KEY, verdict TEXT NOT NULL, title TEXT NOT NULL, path TEXT NOT NULL,
   n INTEGER NOT NULL, n_all INTEGER, processes INTEGER NOT NULL, who TEXT NOT NULL, first INTEGER, last INTEGER,
   waiting INTEGER NOT NULL, rules TEXT NOT NULL, note TEXT) STRICT;
@@ -76,8 +76,8 @@ SELECT h.grp, CASE k.rank WHEN 1 THEN 'real' WHEN 2 THEN 'maybe' WHEN 3 THEN 'ex
     o.likeness || iif(count(DISTINCT iif(f.lead IS NULL, f.upid, NULL)) > 1,
       ' in ' || count(DISTINCT iif(f.lead IS NULL, f.upid, NULL)) || ' processes', '')),
   sum(f.lead IS NULL), s.n_all,
-  count(DISTINCT iif(f.lead IS NULL, f.upid, NULL)),
-  group_concat(DISTINCT iif(f.lead IS NULL, (SELECT who FROM who w WHERE w.upid = f.upid), NULL)),
+  count(DISTINCT iif(f.lead IS NULL, coalesce(f.culprit, f.upid), NULL)),
+  group_concat(DISTINCT iif(f.lead IS NULL, (SELECT who FROM who w WHERE w.upid = coalesce(f.culprit, f.upid)), NULL)),
   min(iif(f.lead IS NULL, f.place, NULL)), max(iif(f.lead IS NULL, f.place, NULL)),
   coalesce(max(f.waiting), 0), k.rules, NULL
 FROM finding_head h JOIN finding f USING (id) JOIN named n ON n.id = h.grp JOIN ranked k ON k.grp = h.grp

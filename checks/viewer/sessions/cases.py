@@ -34,15 +34,16 @@ def case(due, *words, has_side=True, **given):
 # ---- calls that wait
 
 
-@case("C4:1 A1:2", "has done nothing since", wait=200)
-@case("U6:1 A1:2", wait=50)
+@case("C4:1 A1:2", "has done nothing since", "C4 by service 100: 1", wait=200)
+@case("U6:1 A1:2", "U6 by service 100: 1", wait=50)
 def never_answered(s, wait):
     service, client = s.two()
     service.main.gets(client.main.sends(0, 1))
     s.wait(wait)
 
 
-@case("C6:1 C7:2 A1:2", "its only looper is in code 10 since", "2 sends wait", "2 wait for it", wait=1100)
+@case("C6:1 C7:2 A1:2", "its only looper is in code 10 since", "2 sends wait", "2 wait for it", "C6 by service 100: 1",
+      "C7 by service 100: 2", wait=1100)
 @case("C4:1 C7:2 A1:2", "2 wait for it", wait=900)
 @case("U6:1 C7:2 A1:2", wait=20)
 @case("U6:1 C7:2 A1:2", wait=1100, took=150)
@@ -79,7 +80,7 @@ def embrace_of_mains(s, mains, wait=300):
     s.wait(wait)
 
 
-@case("C3:2 C6:1 C7:1 A1:4", "3 wait for it; not got: its only looper is in code 3 since")
+@case("C3:2 C6:1 C7:1 A1:4", "3 wait for it; not got: its only looper is in code 3 since", "C3 by service 100: 2")
 def embrace_through_a_pool(s):
     """A looper of the client serves a call, and waits for its main thread. That one calls the service, whose looper
     waits for its own main thread, which calls back and gets no thread of the client. Another call waits at the
@@ -97,7 +98,7 @@ def embrace_through_a_pool(s):
 
 
 @case("C6:2 A1:4 C7:1", "its 2 loopers are in", free=False)
-@case("C4:2 A1:4 C5:1", free=True)
+@case("C4:2 A1:4 C5:1", "C5 by service 100: 1", free=True)
 @case("C6:2 A1:4 C7:1", free=True, exits=True)
 def pool_of_two(s, free, exits=False):
     """Two loopers of a service are in calls, and a third call waits; or a third looper is free, and did not get it; or
@@ -167,7 +168,7 @@ def only_looper_serves_on(s, serves):
 
 
 @case("T1:1", "replied at", ends=1)
-@case("C1:1", "replied at", wait=200)
+@case("C1:1", "replied at", "C1 by client 200: 1", wait=200)
 @case("C2:1", "replied at", wait=50)
 def answer_unread(s, ends=0, wait=0):
     """A call is answered after its thread has ended; or long, or shortly, before the end."""
@@ -185,8 +186,8 @@ def answer_unread(s, ends=0, wait=0):
 # ---- calls that failed
 
 
-@case("E3:1", sends=1, after=500)
-@case("E1:1", "told at", sends=1, after=1500)
+@case("E3:1", "E3 by short-lived 300: 1", sends=1, after=500)
+@case("E1:1", "told at", "E1 by client 200: 1", sends=1, after=1500)
 @case("E1:2", "told at", sends=2, after=10)
 @case("E1:3", "told at", sends=3, after=10)
 def calls_the_dead(s, sends, after):
@@ -247,10 +248,10 @@ def dead_reply_before(s, crossing=False, sends=1, before=0, wait=0):
         two.reads(record(BR_DEAD_REPLY))
 
 
-@case("E4:1", then="nothing")
+@case("E4:1", "E4 by service 100: 1", then="nothing")
 @case("E4:1", then="oneway")
 @case("E4:1", then="work")
-@case("E8:1", "service 100 was frozen, and got a call again at", then="call")
+@case("E8:1", "service 100 was frozen, and got a call again at", "E8 by service 100: 1", then="call")
 def frozen(s, then):
     """A call is refused, since its server is frozen, which was called before. Then it gets a call, or a oneway
     transaction, which does not say that it was thawed, or does something of its own, or nothing."""
@@ -266,17 +267,21 @@ def frozen(s, then):
         service.main.writes(ENTER)
 
 
-@case("R1:3", "code 7 to service 100 node 0x0: -74 EBADMSG", wrong=3, right=0)
+@case("R1:3", "code 7 to service 100 node 0x0: -74 EBADMSG", "R1 by client 200: 3", wrong=3, right=0)
+@case("R1:3", "R1 by service 100: 3", wrong=3, right=0, others=1)
 @case("R2:2", wrong=2, right=0)
 @case("R1:4", wrong=4, right=1)
 @case("R2:3", wrong=3, right=1)
-def answered_with_a_status(s, wrong, right):
+def answered_with_a_status(s, wrong, right, others=0):
+    """Calls are answered with a status; the last ones are of another process."""
     service, client = s.two()
+    other = s.process(300, "other") if others else None
     for _ in range(right):
         client.main.asks(service.main, 7)
-    for _ in range(wrong):
-        address = service.main.gets(client.main.sends(0, 7))
-        client.main.answered(service.main.replies(address, (-74 & MAX_32).to_bytes(4, "little"), flags=STATUS_CODE))
+    for at in range(wrong):
+        caller = client if at < wrong - others else other
+        address = service.main.gets(caller.main.sends(0, 7))
+        caller.main.answered(service.main.replies(address, (-74 & MAX_32).to_bytes(4, "little"), flags=STATUS_CODE))
 
 
 @case("", value=0)
@@ -307,15 +312,28 @@ def status_of_many_objects(s):
         client.main.writes(*each(BC_RELEASE, handle))
 
 
-@case("E5:1 U6:4", "3 oneway sends with 3,072 bytes waited or were held at service 100: 3 sends from client 200")
-def oneway_space_full(s):
+@case("E5:1 U6:4", "3 oneway sends with 3,072 bytes waited or were held at service 100: 3 sends from client 200",
+      "E5 by client 200: 1")
+@case("E5:1 U6:4", "2 sends from other 300, 1 send from client 200", "E5 by other 300: 1", others=2)
+@case("E5:1 U6:4", "2 sends from client 200, 1 send from other 300", "E5 by client 200: 1", others=1)
+@case("E5:1 U6:2 W2:2", "E5 by other 300: 1", others=2, got=1)
+@case("E5:1 U6:1 U4:1 W2:2", "E5 by service 100: 1", others=2, got=2)
+@case("E5:2 U6:4", "E5 by other 300: 1", "E5 by client 200: 1", others=2, call=True)
+def oneway_space_full(s, others=0, got=0, call=False):
+    """A oneway send is refused, after three of which two may be of another process. The service gets some of the three.
+    A call of the same process is refused, too, or not."""
     service, client = s.two()
     client.main.asks(service.main)
-    for _ in range(3):
-        client.main.sends(0, 7, ONE_WAY, bytes(1020), seen=False)
+    other = s.process(300, "other")
+    sent = [(other if at < others else client).main.sends(0, 7, ONE_WAY, bytes(1020), seen=False) for at in range(3)]
+    for one in sent[:got]:
+        service.main.gets(one, seen=False)
     client.main.writes(Sent(None, 7, ONE_WAY, bytes(1020), b"").record(BC_TRANSACTION))
     client.main.reads(record(BR_FAILED_REPLY))
     client.main.sends(0, 7, ONE_WAY, bytes(4), seen=False)
+    if call:
+        client.main.sends(0, 7)
+        client.main.reads(record(BR_FAILED_REPLY))
 
 
 @case("E7:1", "code 7 to service 100 node 0x0")
@@ -477,8 +495,8 @@ def caller_ends(s, wait):
 
 @case("E4:1", kind=BR_FROZEN_REPLY)
 @case("E3:1", kind=BR_DEAD_REPLY)
-@case("E5:1", kind=BR_FAILED_REPLY)
-@case("E6:1", kind=BR_FAILED_REPLY, confirmed=True)
+@case("E5:1", "E5 by client 200: 1", kind=BR_FAILED_REPLY)
+@case("E6:1", "E6 by service 100: 1", kind=BR_FAILED_REPLY, confirmed=True)
 @case("M3:1", kind=BR_FAILED_REPLY, lost=True)
 def failed_call(s, kind, confirmed=False, lost=False):
     service, client = s.two()
