@@ -1,6 +1,7 @@
 -- A, C, T, U: calls and served calls that are open.
 -- needs: database/schema.sql: finding, raw_call, raw_delivery, raw_thread, side_time; nodes.sql: who; ages.sql: ended,
---   last, life, old; waits.sql: full_pool, pool, ring, waited, waits, waits_for; rule.sql: lossy; judging.py: counted
+--   last, life, old; waits.sql: full_pool, lock_ring, pool, ring, waited, waits, waits_for; rule.sql: lossy;
+--   judging.py: counted
 -- makes: nothing
 
 -- A: one finding with an open call.
@@ -26,6 +27,9 @@ FROM waits w JOIN raw_call c ON c.place = w.delivery JOIN life l ON l.utid = w.u
 WHERE rule IS NULL AND w.id = finding.id AND w.replied = 2;
 UPDATE finding SET rule = iif(upid IN (SELECT upid FROM lossy), 'M2', 'C3')
 WHERE rule IS NULL AND id IN (SELECT id FROM ring) AND finding.id IN (SELECT id FROM old);
+UPDATE finding SET rule = iif(upid IN (SELECT upid FROM lossy) OR coalesce(target, 0) IN (SELECT upid FROM lossy), 'M2',
+  'C8')
+WHERE rule IS NULL AND id IN (SELECT id FROM lock_ring) AND n_good >= :ENOUGH AND age > max(:LONG, :OLD * longest);
 -- What waits for another call, and the call that a full pool waits for. If frames are missing, a delivery may be too.
 UPDATE finding SET waiting = w.n FROM waited w WHERE w.id = finding.id;
 UPDATE finding SET rule = 'C7', note = coalesce((SELECT p.doing FROM waits w JOIN full_pool p ON p.upid = w.server_upid
@@ -46,6 +50,7 @@ WHERE rule IS NULL AND section IN ('calls', 'served') AND what = 'open' AND n_go
   AND coalesce(age > max(:LONG, :OLD * longest), age_seq > :OLD * longest_seq);
 UPDATE finding SET rule = 'U6' WHERE rule IS NULL AND section IN ('calls', 'served') AND what = 'open' AND later = 0
   AND age IS NOT NULL AND finding.id NOT IN (SELECT id FROM old);
+UPDATE finding SET rule = 'C9' WHERE rule IS NULL AND id IN (SELECT id FROM lock_ring);
 UPDATE finding SET rule = iif(w.delivery IS NULL, 'C5', 'C4') FROM waits w WHERE rule IS NULL AND w.id = finding.id;
 -- What the threads do that have such a call, or could take it; and how many wait for it.
 UPDATE finding SET note = iif(waiting > 0, counted(waiting, 'waits', 'wait') || ' for it; ', '')
@@ -56,5 +61,7 @@ UPDATE finding SET note = iif(waiting > 0, counted(waiting, 'waits', 'wait') || 
           || n.place FROM waits_for x JOIN waits n ON n.id = x.next WHERE x.id = finding.id),
         (SELECT iif(t.last_seq <= d.seq, ', and thread ' || t.thread || ' has done nothing since', '')
           FROM raw_thread t JOIN raw_call d ON d.place = w.delivery WHERE t.utid = w.server), '') END
-FROM waits w WHERE w.id = finding.id AND rule IN ('C3', 'C4', 'C5', 'C6', 'U2', 'M2');
+  || coalesce((SELECT '; in a ring with the call at ' || l.place || ' of ' || (SELECT who FROM who WHERE upid = q.upid)
+    || ', ' || q.path FROM lock_ring l JOIN finding q ON q.id = l.next WHERE l.id = finding.id), '')
+FROM waits w WHERE w.id = finding.id AND rule IN ('C3', 'C4', 'C5', 'C6', 'C8', 'C9', 'U2', 'M2');
 UPDATE finding SET rule = 'C4' WHERE rule IS NULL AND section = 'served' AND what = 'open';

@@ -38,6 +38,8 @@ INSERT INTO rule VALUES
   ('C5', 'maybe', 'No answer, and no delivery that fits.'),
   ('C6', 'real', 'It keeps a thread of a pool busy that has no other free, and sends wait there.'),
   ('C7', 'explained', 'It waits for another call, or for a pool that is busy with others.'),
+  ('C8', 'real', 'A ring over processes, mostly of locks, and each call is over ten times as old as its path took.'),
+  ('C9', 'maybe', 'A ring over processes, mostly of locks: each keeps a call for which the next one waits.'),
   ('E1', 'real', 'Sent to an object of whose death the process had been told: repeatedly, or over 1 s later.'),
   ('E2', 'maybe', 'Sent to an object that had ended, as BR_DEAD_REPLY had told: repeatedly, or over 1 s later.'),
   ('E3', 'explained', 'The process, or the thread, that serves it ended.'),

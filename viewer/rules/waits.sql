@@ -1,10 +1,10 @@
 -- What open calls wait for, and what the threads do that could take them.
 -- needs: database/schema.sql: book_call, finding, raw_call, raw_process, raw_record, raw_send, raw_thread, side_calls,
---   side_thread, side_time; database/views.sql: came_to, process, sent_to, thread; ages.sql: last, life, process_life;
---   judging.py: call_name, duration
--- makes: temporary tables: waits, few, waits_for, main_thread, ring, serves_on, queued, loop, taker, taken, holder,
---   pool, full_pool, step, waited; indexes: waits_thread, waits_server, waits_delivery, next_wait, queued_at, pool_of,
---   full_pool_of, step_from, waited_for
+--   side_thread, side_time; database/views.sql: came_to, process, sent_to, thread; ages.sql: last, life, old,
+--   process_life; judging.py: call_name, duration
+-- makes: temporary tables: waits, few, waits_for, main_thread, ring, lock_step, lock_way, lock_ring, serves_on, queued,
+--   loop, taker, taken, holder, pool, full_pool, step, waited; indexes: waits_thread, waits_server, waits_delivery,
+--   next_wait, lock_step_from, lock_way_from, lock_ring_of, queued_at, pool_of, full_pool_of, step_from, waited_for
 
 -- Open calls, and what they wait for: the innermost call that the thread that got the call has made since; or, for a
 -- call that nobody got, the calls of the process that should get it. A call back to a process that waits for this very
@@ -44,6 +44,35 @@ SELECT DISTINCT w.id FROM chain c JOIN waits w ON w.id = c.id JOIN waits e ON e.
 WHERE c.length > 0 AND e.server_upid = w.upid AND (e.delivery IS NULL OR e.server <> w.utid
   AND e.replied = 0 AND w.utid IN (SELECT utid FROM main_thread));
 INSERT INTO ring SELECT n.next FROM waits_for n JOIN ring r ON r.id = n.id WHERE n.next NOT IN (SELECT id FROM ring);
+
+-- ---- rings over processes
+
+-- A thread that serves a call, makes none, and did nothing in the last :LONG may wait for a lock, and each other thread
+-- of its process that is in a call may have that lock: the call may wait for each of these calls. By such steps, and by
+-- those from a call to the one that its thread makes, calls of several processes may wait for each other. All of them
+-- are old, and were delivered: what nobody got waits for a thread, and for no lock.
+CREATE TEMP TABLE lock_step AS
+WITH stuck AS (SELECT w.* FROM waits w WHERE w.delivery NOTNULL AND w.replied = 0 AND w.id IN (SELECT id FROM old))
+SELECT w.id, n.id AS next, 1 AS by_lock
+FROM last, stuck w JOIN raw_thread t ON t.utid = w.server JOIN side_time x ON x.seq = t.last_seq
+  JOIN stuck n ON n.upid = w.server_upid AND n.utid <> w.server
+WHERE w.server_upid IN (SELECT upid FROM few) AND last.ts - x.ts > :LONG
+  AND NOT EXISTS (SELECT 1 FROM waits_for f WHERE f.id = w.id AND NOT f.by_main)
+UNION ALL
+SELECT w.id, n.id, 0 FROM stuck w JOIN waits_for f USING (id) JOIN stuck n ON n.id = f.next WHERE NOT f.by_main;
+CREATE INDEX temp.lock_step_from ON lock_step(id);
+CREATE TEMP TABLE lock_way AS
+WITH RECURSIVE way(id, at, length, by_lock) AS (SELECT id, next, 1, by_lock FROM lock_step
+  UNION SELECT w.id, s.next, w.length + 1, max(w.by_lock, s.by_lock) FROM way w JOIN lock_step s ON s.id = w.at
+    WHERE w.length < :STEPS AND w.at <> w.id)
+SELECT DISTINCT id, at, by_lock FROM way;
+CREATE INDEX temp.lock_way_from ON lock_way(id, at);
+-- The calls of such a ring, each with the first call that it may wait for there.
+CREATE TEMP TABLE lock_ring AS
+SELECT s.id, min(n.place) AS place, n.id AS next FROM lock_step s JOIN waits n ON n.id = s.next
+WHERE s.id IN (SELECT id FROM lock_way WHERE at = id AND by_lock)
+  AND EXISTS (SELECT 1 FROM lock_way w WHERE w.id = s.next AND w.at = s.id) GROUP BY s.id;
+CREATE UNIQUE INDEX temp.lock_ring_of ON lock_ring(id);
 
 -- ---- the pools of threads of processes that should get what waits
 

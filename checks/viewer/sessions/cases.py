@@ -68,7 +68,7 @@ def others_queue(s, wait, took=0, enters=True, killed=False):
 
 @case("C3:2 A1:4", mains=True)
 @case("U6:2 A1:4", mains=True, wait=50)
-@case("C4:2 A1:4", "its main thread waits for the call at", mains=False)
+@case("C9:2 A1:4", "its main thread waits for the call at", mains=False)
 def embrace_of_mains(s, mains, wait=300):
     """The loopers of two processes wait for their main threads, which wait for each other. The other way: the second
     call is not by the main thread."""
@@ -78,6 +78,87 @@ def embrace_of_mains(s, mains, wait=300):
     looper.gets(client.main.sends(0, 11))
     back.gets((service.main if mains else service.looper(2)).sends(7, 2), 0x500)
     s.wait(wait)
+
+
+def with_each_other(s):
+    """A service and a client that each have an object of the other, with a looper of the client."""
+    service, client = s.two()
+    client.main.gives(service.main, 7)
+    return service, client, client.looper(1)
+
+
+@case("C8:2 A1:4", "service 100 got it at", "thread 101 has done nothing since; in a ring with the call at ",
+      " of service 100, code 2 to client 200 node 0x9700", " of client 200, code 11 to service 100 node 0x0",
+      "C8 by service 100: 1", "C8 by client 200: 1")
+@case("C9:2 A1:4", "; in a ring with the call at ", "C9 by service 100: 1", good=2)
+@case("U6:2 A1:4", wait=50)
+@case("U6:2 A1:4", took=30, wait=250)
+@case("C8:2 A1:4", took=30, wait=350)
+@case("C8:2 A1:4", active=200)
+@case("U2:2 A1:4", active=250)
+@case("M2:2 A1:4", lost=True)
+@case("C8:2 A1:4 C5:13", others=13)
+@case("U2:2 A1:4 C5:14", others=14)
+def ring_of_locks(s, good=3, took=0, wait=300, active=0, lost=False, others=0):
+    """Threads of two processes serve a call of the other one and do nothing more. One of them may have done something
+    some time after it got the call. Other threads of its process are in calls, too."""
+    service, client, back = with_each_other(s)
+    one, two = service.looper(1), service.looper(2)
+    for _ in range(good):
+        client.main.asks(one, 11, took=took)
+        two.asks(back, 2, 7, 0x9700, took=took)
+    if lost:
+        s.loses(service)
+    one.gets(client.main.sends(0, 11))
+    back.gets(two.sends(7, 2), 0x9700)
+    sink = s.process(300, "sink") if others else None
+    if sink:
+        sink.main.gives(service.main, 8)
+    for at in range(others):
+        service.thread(10 + at).sends(8, 3)
+    s.wait(active)
+    if active:
+        one.frees(service.address())
+    s.wait(wait - active)
+
+
+@case("C7:1 U2:1 A1:4")
+def no_ring_of_one_thread(s):
+    """A call is served by a call back, which the thread that waits serves, and never replies."""
+    service, client, back = with_each_other(s)
+    for _ in range(3):
+        service.main.asks(back, 2, 7, 0x9700)
+    service.main.gets(client.main.sends(0, 11))
+    client.main.gets(service.main.sends(7, 2), 0x9700)
+    s.wait(300)
+
+
+@case("C9:3 A1:6", then="round")
+@case("C4:1 C9:2 A1:6", then="back")
+@case("C7:1 C9:2 A1:6", then="on")
+@case("C8:3 A1:6", then="on", good=3)
+@case("C4:2 A1:4", then="no more")
+def ring_of_three(s, then, good=0):
+    """A client calls a service, another thread of which calls a third process, another thread of which calls the client
+    or the service. Or the thread of the service that serves the client calls the third process."""
+    service, client, back = with_each_other(s)
+    third = s.process(300, "third")
+    third.main.gives(service.main, 8)
+    third.main.is_given(service.main, 4, server_handle=7)
+    one, two, other = service.looper(1), service.looper(2), service.looper(3)
+    ours, last = third.looper(1), third.looper(2)
+    caller = one if then == "on" else two
+    for _ in range(good):
+        client.main.asks(one, 11)
+        caller.asks(ours, 12, 8, 0x9800)
+        last.asks(back, 2, 4, 0x9700)
+    one.gets(client.main.sends(0, 11))
+    ours.gets(caller.sends(8, 12), 0x9800)
+    if then == "back":
+        other.gets(last.sends(0, 13))
+    elif then != "no more":
+        back.gets(last.sends(4, 2), 0x9700)
+    s.wait(300)
 
 
 @case("C3:2 C6:1 C7:1 A1:4", "3 wait for it; not got: its only looper is in code 3 since", "C3 by service 100: 2")
