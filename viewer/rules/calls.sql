@@ -1,7 +1,7 @@
 -- A, C, T, U: calls and served calls that are open.
 -- needs: database/schema.sql: finding, raw_call, raw_delivery, raw_thread, side_time; nodes.sql: who; ages.sql: ended,
---   last, life, old; waits.sql: full_pool, lock_ring, pool, ring, waited, waits, waits_for; rule.sql: lossy;
---   judging.py: counted
+--   last, life, old; waits.sql: full_pool, lock_ring, pool, ring, waited, waits, waits_for; rule.sql: lossy; pools.sql:
+--   full_wait; judging.py: counted, duration
 -- makes: nothing
 
 -- A: one finding with an open call.
@@ -38,6 +38,11 @@ UPDATE finding SET rule = 'C7', note = coalesce((SELECT p.doing FROM waits w JOI
 WHERE rule IS NULL AND upid NOT IN (SELECT upid FROM lossy) AND coalesce(target, 0) NOT IN (SELECT upid FROM lossy)
   AND id IN (SELECT w.id FROM waits w WHERE w.delivery IS NULL AND w.server_upid IN (SELECT upid FROM full_pool)
     UNION SELECT f.id FROM waits_for f JOIN waits w USING (id) WHERE w.delivery NOTNULL AND NOT f.by_main);
+-- Or waited for a pool that was used up, and since then only for a while.
+UPDATE finding SET rule = 'C7', note = 'it waited ' || duration(l.until - l.since) || ' for a looper'
+FROM full_wait l
+WHERE rule IS NULL AND section = 'calls' AND what = 'open' AND l.place = finding.place
+  AND (l.delivery IS NULL OR age - (l.until - l.since) <= max(:LONG, :OLD * coalesce(longest, 0)));
 UPDATE finding SET rule = 'U1' WHERE rule IS NULL AND section IN ('calls', 'served') AND what = 'open'
   AND n_good >= :ENOUGH AND coalesce(age <= :USUAL * longest, age_seq <= :USUAL * longest_seq);
 UPDATE finding SET rule = iif(upid IN (SELECT upid FROM lossy), 'M2', 'C6')

@@ -56,9 +56,10 @@ FROM (SELECT q.id, q.target, t.upid, coalesce(d.place < q.place, 0) AS got,
     JOIN raw_send s ON s.generation = n.generation AND s.place < q.place JOIN raw_record r ON r.place = s.place
     JOIN raw_thread t ON t.utid = s.utid LEFT JOIN raw_delivery d ON d.place = s.delivery
   WHERE s.refused IS NULL AND r.flags & :TF_ONE_WAY AND coalesce(d.freed_by > q.place, 1)) GROUP BY 1, 2, 3;
+-- The limit of -1, which is none, keeps the order.
 UPDATE finding SET note = (SELECT counted(sum(n), 'oneway send') || ' with ' || counted(sum(bytes), 'byte')
     || ' waited or were held at ' || (SELECT who FROM who w WHERE w.upid = target) || ': ' || group_concat(
       counted(n, 'send') || ' from ' || (SELECT who FROM who w WHERE w.upid = i.upid), ', ')
-  FROM (SELECT * FROM in_the_way ORDER BY n DESC) i WHERE i.id = finding.id)
+  FROM (SELECT * FROM in_the_way w WHERE w.id = finding.id ORDER BY bytes DESC, upid LIMIT -1) i)
 WHERE rule = 'E5' AND id IN (SELECT id FROM in_the_way);
 UPDATE finding SET rule = 'E7' WHERE rule IS NULL AND section = 'spam';

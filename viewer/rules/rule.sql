@@ -40,6 +40,8 @@ INSERT INTO rule VALUES
   ('C7', 'explained', 'It waits for another call, or for a pool that is busy with others.'),
   ('C8', 'real', 'A ring over processes, mostly of locks, and each call is over ten times as old as its path took.'),
   ('C9', 'maybe', 'A ring over processes, mostly of locks: each keeps a call for which the next one waits.'),
+  ('Q1', 'real', 'Calls waited over 1 s and ten times as long as usual, while these kept all known loopers busy.'),
+  ('Q2', 'maybe', 'Calls waited over 1 s, while these kept all known loopers of the server busy.'),
   ('E1', 'real', 'Sent to an object of whose death the process had been told: repeatedly, or over 1 s later.'),
   ('E2', 'maybe', 'Sent to an object that had ended, as BR_DEAD_REPLY had told: repeatedly, or over 1 s later.'),
   ('E3', 'explained', 'The process, or the thread, that serves it ended.'),
