@@ -27,7 +27,8 @@ INSERT INTO title VALUES
   ('U4', 'nodes', NULL, 'references never acknowledged'), ('U6', 'nodes', NULL, 'references not acknowledged yet'),
   ('T1', 'nodes', NULL, 'references not acknowledged yet'), ('F1', 'frees', NULL, 'buffers freed twice'),
   ('C6', NULL, NULL, 'calls that keep a pool busy'), ('S1', NULL, NULL, 'sends that were refused'),
-  ('S2', NULL, NULL, 'replies without a call'), (NULL, 'pools', NULL, 'pools that calls use up');
+  ('S2', NULL, NULL, 'replies without a call'), (NULL, 'pools', NULL, 'pools that calls use up'),
+  (NULL, 'books', NULL, 'calls open throughout');
 
 -- The group of each finding, named by its leading finding: an open call leads its served end and its buffer.
 CREATE TABLE finding_head(id INTEGER PRIMARY KEY, grp INTEGER NOT NULL) STRICT;

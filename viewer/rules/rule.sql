@@ -31,6 +31,7 @@ INSERT INTO rule VALUES
   ('U4', 'maybe', 'Its thread went on with other work.'),
   ('U5', 'maybe', 'The last thing that its thread did, and long before the end.'),
   ('U6', 'explained', 'The last thing that its thread did, or shortly before the end.'),
+  ('B1', 'maybe', 'Open throughout, by the driver''s books of beginning and end: a long poll, or it hangs.'),
   ('C1', 'maybe', 'It was answered over 0.1 s before the end of its thread, which has not read that.'),
   ('C2', 'explained', 'It was answered, and its thread had not read that yet.'),
   ('C3', 'real', 'Each waits for the other: the calls go round in a ring.'),
