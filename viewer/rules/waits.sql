@@ -2,9 +2,10 @@
 -- needs: database/schema.sql: book_call, book_open, book_process, finding, raw_call, raw_process, raw_record, raw_send,
 --   raw_thread, side_calls, side_thread, side_time; database/views.sql: came_to, process, sent_to, thread; facts.sql:
 --   from_before; ages.sql: last, life, old, process_life; judging.py: call_name, duration
--- makes: temporary tables: waits, few, waits_for, main_thread, ring, lock_step, lock_way, lock_ring, serves_on, queued,
---   loop, taker, taken, holder, pool, full_pool, step, waited; indexes: waits_thread, waits_server, waits_delivery,
---   next_wait, lock_step_from, lock_way_from, lock_ring_of, queued_at, pool_of, full_pool_of, step_from, waited_for
+-- makes: temporary tables: waits, few, waits_for, main_thread, ring_step, ring, lock_step, lock_way, lock_ring,
+--   serves_on, queued, loop, taker, taken, holder, pool, full_pool, step, waited; indexes: waits_thread, waits_server,
+--   waits_delivery, next_wait, ring_step_from, lock_step_from, lock_way_from, lock_ring_of, queued_at, pool_of,
+--   full_pool_of, step_from, waited_for
 
 -- Open calls, and what they wait for: the innermost call that the thread that got the call has made since; or, for a
 -- call that nobody got, the calls of the process that should get it. A call back to a process that waits for this very
@@ -41,13 +42,19 @@ SELECT w.id, (SELECT n.id FROM waits n WHERE n.utid = m.utid ORDER BY n.place DE
 FROM waits w JOIN main_thread m ON m.upid = w.server_upid
 WHERE w.replied = 0 AND w.server <> m.utid AND w.id NOT IN (SELECT id FROM waits_for) AND next NOTNULL;
 CREATE INDEX temp.next_wait ON waits_for(id);
+-- What was open throughout may be a long poll: a call that is young is in no ring with it.
+CREATE TEMP TABLE ring_step AS
+SELECT id, next FROM waits_for
+WHERE id NOT IN (SELECT id FROM from_before) AND next NOT IN (SELECT id FROM from_before)
+  OR id IN (SELECT id FROM old) AND next IN (SELECT id FROM old);
+CREATE INDEX temp.ring_step_from ON ring_step(id);
 CREATE TEMP TABLE ring AS
 WITH RECURSIVE chain(id, at, length) AS (SELECT id, id, 0 FROM waits
-  UNION SELECT c.id, n.next, c.length + 1 FROM chain c JOIN waits_for n ON n.id = c.at WHERE c.length < :STEPS)
+  UNION SELECT c.id, n.next, c.length + 1 FROM chain c JOIN ring_step n ON n.id = c.at WHERE c.length < :STEPS)
 SELECT DISTINCT w.id FROM chain c JOIN waits w ON w.id = c.id JOIN waits e ON e.id = c.at
 WHERE c.length > 0 AND e.server_upid = w.upid AND (e.delivery IS NULL OR e.server <> w.utid
   AND e.replied = 0 AND w.utid IN (SELECT utid FROM main_thread));
-INSERT INTO ring SELECT n.next FROM waits_for n JOIN ring r ON r.id = n.id WHERE n.next NOT IN (SELECT id FROM ring);
+INSERT INTO ring SELECT n.next FROM ring_step n JOIN ring r ON r.id = n.id WHERE n.next NOT IN (SELECT id FROM ring);
 
 -- ---- rings over processes
 

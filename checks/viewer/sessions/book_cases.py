@@ -272,6 +272,16 @@ def throughout_like_others(s, took, wait):
     through(s, [FIRST], wait, does=calls)
 
 
+@case("C3:2 A1:2", wait=300)
+@case("B1:1 U6:1 A1:2", wait=50)
+def throughout_beside_a_call(s, wait):
+    """The main thread of a service is in a call from before to the client, whose main thread makes a call that another
+    thread of the service serves."""
+    def calls(service, client):
+        service.thread(1).gets(client.main.sends(7, 1), 0x700)
+    through(s, [(9569, (100, 100), (200, 205))], wait, does=calls, enters=False)
+
+
 @case("C4:1 C7:1 A1:2", "(the call at ", on=True)
 @case("B1:1 C4:1 A1:2", on=False)
 def throughout_goes_on(s, on):
