@@ -97,12 +97,16 @@ def with_each_other(s):
 @case("C8:2 A1:4", took=30, wait=350)
 @case("C8:2 A1:4", active=190)
 @case("U2:2 A1:4", active=210)
+@case("U2:1 U6:1 A1:4", apart=250, wait=50)
+@case("C8:2 A1:4", apart=150, wait=150)
 @case("M2:2 A1:4", lost=True)
+@case("C4:1 C8:2 A1:6", "of service 100, code 2 to client 200 node 0x9700", before=True)
 @case("C8:2 A1:4 C5:15", others=15)
 @case("U2:2 A1:4 C5:16", others=16)
-def ring_of_locks(s, good=3, took=0, wait=300, active=0, lost=False, others=0):
-    """Threads of two processes serve a call of the other one and do nothing more. One of them may have done something
-    some time after it got the call. Other threads of its process are in calls, too."""
+def ring_of_locks(s, good=3, took=0, wait=300, active=0, lost=False, others=0, apart=0, before=False):
+    """Threads of two processes serve a call of the other one and do nothing more. The second call may be later, and one
+    of the threads may have done something later. Other threads of its process are in calls, too, one of them of a call
+    that came before and is served."""
     service, client, back = with_each_other(s)
     one, two = service.looper(1), service.looper(2)
     for _ in range(good):
@@ -110,11 +114,14 @@ def ring_of_locks(s, good=3, took=0, wait=300, active=0, lost=False, others=0):
         two.asks(back, 2, 7, 0x9700, took=took)
     if lost:
         s.loses(service)
-    one.gets(client.main.sends(0, 11))
-    back.gets(two.sends(7, 2), 0x9700)
-    sink = s.process(300, "sink") if others else None
+    sink = s.process(300, "sink") if others or before else None
     if sink:
         sink.main.gives(service.main, 8)
+    if before:
+        sink.main.gets(service.thread(9).sends(8, 3), 0x9800)
+    one.gets(client.main.sends(0, 11))
+    s.wait(apart)
+    back.gets(two.sends(7, 2), 0x9700)
     for at in range(others):
         service.thread(10 + at).sends(8, 3)
     s.wait(active)
@@ -139,16 +146,18 @@ def no_ring_of_one_thread(s):
 @case("C7:1 C9:2 A1:6", then="on")
 @case("C8:3 A1:6", then="on", good=3)
 @case("C4:2 A1:4", then="no more")
+@case("C4:2 C7:1 A1:6", then="aside")
 def ring_of_three(s, then, good=0):
     """A client calls a service, another thread of which calls a third process, another thread of which calls the client
-    or the service. Or the thread of the service that serves the client calls the third process."""
+    or the service. Or the thread of the service that serves the client calls the third process, and that one calls the
+    client, or another thread of the service does."""
     service, client, back = with_each_other(s)
     third = s.process(300, "third")
     third.main.gives(service.main, 8)
     third.main.is_given(service.main, 4, server_handle=7)
     one, two, other = service.looper(1), service.looper(2), service.looper(3)
     ours, last = third.looper(1), third.looper(2)
-    caller = one if then == "on" else two
+    caller = one if then in ("on", "aside") else two
     for _ in range(good):
         client.main.asks(one, 11)
         caller.asks(ours, 12, 8, 0x9800)
@@ -158,7 +167,7 @@ def ring_of_three(s, then, good=0):
     if then == "back":
         other.gets(last.sends(0, 13))
     elif then != "no more":
-        back.gets(last.sends(4, 2), 0x9700)
+        back.gets(two.sends(7, 2) if then == "aside" else last.sends(4, 2), 0x9700)
     s.wait(300)
 
 
