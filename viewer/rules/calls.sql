@@ -42,7 +42,7 @@ WHERE rule IS NULL AND upid NOT IN (SELECT upid FROM lossy) AND coalesce(target,
 UPDATE finding SET rule = 'C7', note = 'it waited ' || duration(l.until - l.since) || ' for a looper'
 FROM full_wait l
 WHERE rule IS NULL AND section = 'calls' AND what = 'open' AND l.place = finding.place
-  AND (l.delivery IS NULL OR age - (l.until - l.since) <= max(:LONG, :OLD * coalesce(longest, 0)));
+  AND age - (l.until - l.since) <= max(:LONG, :OLD * coalesce(longest, 0));
 UPDATE finding SET rule = 'U1' WHERE rule IS NULL AND section IN ('calls', 'served', 'books') AND what = 'open'
   AND n_good >= :ENOUGH AND coalesce(age <= :USUAL * longest, age_seq <= :USUAL * longest_seq);
 UPDATE finding SET rule = iif(upid IN (SELECT upid FROM lossy), 'M2', 'C6')

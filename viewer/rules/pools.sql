@@ -8,11 +8,11 @@
 
 -- The calls that waited over :VERY_LONG, from the send to the delivery to a thread that was in no call, or to the end.
 CREATE TEMP TABLE long_wait AS
-SELECT s.place, s.utid, s.delivery, t.upid AS server, x.ts AS since, y.ts AS until
+SELECT s.place, s.utid, t.upid AS server, x.ts AS since, y.ts AS until
 FROM raw_call v JOIN raw_delivery d USING (place) JOIN raw_send s ON s.place = d.send
   JOIN raw_thread t ON t.utid = v.utid JOIN side_time x ON x.seq = s.seq JOIN side_time y ON y.seq = v.seq
 WHERE v.served AND v.depth = 1 AND s.certain AND y.ts - x.ts > :VERY_LONG AND t.upid NOT IN (SELECT upid FROM lossy)
-UNION ALL SELECT f.place, f.utid, NULL, q.upid, x.ts, x.ts + f.age
+UNION ALL SELECT f.place, f.utid, q.upid, x.ts, x.ts + f.age
 FROM queued q JOIN waits w USING (id) JOIN finding f USING (id) JOIN side_time x USING (seq)
 WHERE f.age > :VERY_LONG AND q.upid NOT IN (SELECT upid FROM lossy);
 

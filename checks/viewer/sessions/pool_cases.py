@@ -64,7 +64,7 @@ def calls_wait(s, victims=3, took=1100, idle=0, usual=0, free=None, lost=False, 
 
 
 @case("Q2:1", "code 10 at service 100 node 0x0", more=150)
-@case("Q2:1", "code 10, code 11 at service 100", more=300)
+@case("Q2:1", "code 10, code 11 at service 100 (", more=300)
 def kept_by_two_methods(s, more):
     """Two calls wait, one for a call that takes long, and one for a call of another method that takes some time."""
     service, client = s.two()
