@@ -29,7 +29,7 @@ UPDATE finding SET rule = iif(upid IN (SELECT upid FROM lossy), 'M2', 'C3')
 WHERE rule IS NULL AND id IN (SELECT id FROM ring) AND finding.id IN (SELECT id FROM old);
 UPDATE finding SET rule = iif(upid IN (SELECT upid FROM lossy) OR coalesce(target, 0) IN (SELECT upid FROM lossy), 'M2',
   'C8')
-WHERE rule IS NULL AND id IN (SELECT id FROM lock_ring) AND n_good >= :ENOUGH AND age > max(:LONG, :OLD * longest);
+WHERE rule IS NULL AND id IN (SELECT id FROM lock_ring) AND n_good >= :ENOUGH;
 -- What waits for another call, and the call that a full pool waits for. If frames are missing, a delivery may be too.
 UPDATE finding SET waiting = w.n FROM waited w WHERE w.id = finding.id;
 UPDATE finding SET rule = 'C7', note = coalesce((SELECT p.doing FROM waits w JOIN full_pool p ON p.upid = w.server_upid

@@ -39,7 +39,7 @@ INSERT INTO rule VALUES
   ('C5', 'maybe', 'No answer, and no delivery that fits.'),
   ('C6', 'real', 'It keeps a thread of a pool busy that has no other free, and sends wait there.'),
   ('C7', 'explained', 'It waits for another call, or for a pool that is busy with others.'),
-  ('C8', 'real', 'A ring over processes, mostly of locks, and each call is over ten times as old as its path took.'),
+  ('C8', 'real', 'A ring over processes, mostly of locks, for over ten times as long as others of its path took.'),
   ('C9', 'maybe', 'A ring over processes, mostly of locks: each keeps a call for which the next one waits.'),
   ('Q1', 'real', 'Calls waited over 1 s and ten times as long as usual, while these kept all known loopers busy.'),
   ('Q2', 'maybe', 'Calls waited over 1 s, while these kept all known loopers of the server busy.'),

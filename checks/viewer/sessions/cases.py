@@ -97,21 +97,21 @@ def with_each_other(s):
 @case("C8:2 A1:4", took=30, wait=350)
 @case("C8:2 A1:4", active=190)
 @case("U2:2 A1:4", active=210)
-@case("U2:1 U6:1 A1:4", apart=250, wait=50)
-@case("C8:2 A1:4", apart=150, wait=150)
+@case("U2:1 U6:1 A1:4", slow=30, wait=250)
+@case("C8:2 A1:4", slow=30, wait=350)
 @case("M2:2 A1:4", lost=True)
 @case("C4:1 C8:2 A1:6", "of service 100, code 2 to client 200 node 0x9700", before=True)
 @case("C8:2 A1:4 C5:15", others=15)
 @case("U2:2 A1:4 C5:16", others=16)
-def ring_of_locks(s, good=3, took=0, wait=300, active=0, lost=False, others=0, apart=0, before=False):
-    """Threads of two processes serve a call of the other one and do nothing more. The second call may be later, and one
-    of the threads may have done something later. Other threads of its process are in calls, too, one of them of a call
-    that came before and is served."""
+def ring_of_locks(s, good=3, took=0, wait=300, active=0, lost=False, others=0, slow=0, before=False):
+    """Threads of two processes serve a call of the other one and do nothing more. Before, both calls took so long, and
+    the second one some more. One of the threads may have done something later. Other threads of its process are in
+    calls, too, one of them of a call that came before and is served."""
     service, client, back = with_each_other(s)
     one, two = service.looper(1), service.looper(2)
     for _ in range(good):
         client.main.asks(one, 11, took=took)
-        two.asks(back, 2, 7, 0x9700, took=took)
+        two.asks(back, 2, 7, 0x9700, took=took + slow)
     if lost:
         s.loses(service)
     sink = s.process(300, "sink") if others or before else None
@@ -120,7 +120,6 @@ def ring_of_locks(s, good=3, took=0, wait=300, active=0, lost=False, others=0, a
     if before:
         sink.main.gets(service.thread(9).sends(8, 3), 0x9800)
     one.gets(client.main.sends(0, 11))
-    s.wait(apart)
     back.gets(two.sends(7, 2), 0x9700)
     for at in range(others):
         service.thread(10 + at).sends(8, 3)
