@@ -26,7 +26,7 @@ from checks.kit.programs import CHECKS, DRIVER, LISTING, ROOT
 from checks.kit.second_reading import reading
 from checks.viewer.edits import Edit, edited, edits_of
 from checks.viewer.heads import faults_of_heads
-from checks.viewer.sessions import (book_cases, death_cases, kept_cases, late_cases, name_cases,  # noqa: F401
+from checks.viewer.sessions import (book_cases, death_cases, kept_cases, late_cases, name_cases, pool_cases,  # noqa: F401
                                     stack_cases, state_cases)
 from checks.viewer.sessions.cases import CASES, Case
 from checks.viewer.sessions.session import Session
@@ -75,10 +75,12 @@ def due_of(one: Case) -> Counter:
 
 
 def texts_of(database: sqlite3.Connection) -> str:
-    """Paths and notes of the findings; the groups, and how many each verdict has; and who sent how many of which code
-    to whom, and how many of these came."""
+    """Paths and notes of the findings; how many of each rule a process causes; the groups, and how many each verdict has;
+    and who sent how many of which code to whom, and how many of these came."""
     return "\n".join(text for text, in database.execute(
         "SELECT coalesce(path, '') || ' (' || coalesce(note, '') || ')' FROM finding"
+        " UNION ALL SELECT rule || ' by ' || who || ': ' || count(*) FROM finding f"
+        " JOIN who w ON w.upid = coalesce(f.culprit, f.upid) GROUP BY rule, w.upid"
         " UNION ALL SELECT a.who || ' to ' || b.who || ' code ' || code || ': ' || delivered || ' of ' || sends"
         " FROM traffic t JOIN who a USING (upid) JOIN who b ON b.upid = t.node_upid"
         " UNION ALL SELECT verdict || ' ' || title || ': ' || n || ' of ' || coalesce(n_all, '-') || ' ' || path || ' '"

@@ -29,7 +29,8 @@ INSERT INTO title VALUES
   ('U4', 'nodes', NULL, 'references never acknowledged'), ('U6', 'nodes', NULL, 'references not acknowledged yet'),
   ('T1', 'nodes', NULL, 'references not acknowledged yet'), ('F1', 'frees', NULL, 'buffers freed twice'),
   ('C6', NULL, NULL, 'calls that keep a pool busy'), ('S1', NULL, NULL, 'sends that were refused'),
-  ('S2', NULL, NULL, 'replies without a call');
+  ('S2', NULL, NULL, 'replies without a call'), (NULL, 'pools', NULL, 'pools that calls use up'),
+  (NULL, 'books', NULL, 'calls open throughout');
 
 -- The group of each finding, named by its leading finding: an open call leads its served end and its buffer.
 CREATE TABLE finding_head(id INTEGER PRIMARY KEY, grp INTEGER NOT NULL) STRICT;
@@ -72,7 +73,7 @@ FROM (SELECT h.grp, n.path, max(f.n_all) AS n_all FROM named n JOIN finding_head
 CREATE UNIQUE INDEX temp.paths_of ON paths(grp);
 
 -- A group has n findings of the n_all of its paths; those that are led do not count. Its rules begin with those of its
--- strongest verdict. Its note is that of its first finding.
+-- strongest verdict. Its note is that of its first finding. Who is who causes it.
 CREATE TABLE finding_group(grp INTEGER PRIMARY KEY, verdict TEXT NOT NULL, title TEXT NOT NULL, path TEXT NOT NULL,
   n INTEGER NOT NULL, n_all INTEGER, processes INTEGER NOT NULL, who TEXT NOT NULL, first INTEGER, last INTEGER,
   waiting INTEGER NOT NULL, rules TEXT NOT NULL, note TEXT) STRICT;
@@ -83,8 +84,8 @@ SELECT h.grp, CASE k.rank WHEN 1 THEN 'real' WHEN 2 THEN 'maybe' WHEN 3 THEN 'ex
       OR min(iif(f.lead IS NULL, f.path, NULL)) <> max(iif(f.lead IS NULL, f.path, NULL))),
       ' in ' || count(DISTINCT iif(f.lead IS NULL, f.upid, NULL)) || ' processes', ''),
   sum(f.lead IS NULL), s.n_all,
-  count(DISTINCT iif(f.lead IS NULL, f.upid, NULL)),
-  group_concat(DISTINCT iif(f.lead IS NULL, (SELECT who FROM who w WHERE w.upid = f.upid), NULL)),
+  count(DISTINCT iif(f.lead IS NULL, coalesce(f.culprit, f.upid), NULL)),
+  group_concat(DISTINCT iif(f.lead IS NULL, (SELECT who FROM who w WHERE w.upid = coalesce(f.culprit, f.upid)), NULL)),
   min(iif(f.lead IS NULL, f.place, NULL)), max(iif(f.lead IS NULL, f.place, NULL)),
   coalesce(max(f.waiting), 0), k.rules, NULL
 FROM finding_head h JOIN finding f USING (id) JOIN named n ON n.id = h.grp JOIN ranked k ON k.grp = h.grp

@@ -308,7 +308,7 @@ def unknown_flag(s):
 
 
 @case("W1:1", flags=ONE_WAY | UPDATE_TXN)
-@case("W3:1", flags=ONE_WAY)
+@case("W3:1", "W3 by service 100: 1", flags=ONE_WAY)
 @case("W3:1", flags=ONE_WAY | 0x20)
 @case("U6:1", flags=ONE_WAY, wait=50)
 @case("M1:1", flags=ONE_WAY, lost=True)
