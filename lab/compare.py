@@ -9,6 +9,7 @@ from viewer.defects.changes import GONE, GROWN, GROWTH, NEW, NOT_MET, SAME, SHOW
 from viewer.defects.seen import RANKS
 from viewer.files import Stopped
 from viewer.page.texts import field_of
+from viewer.units import counted
 
 FOLDER = pathlib.Path(__file__).resolve().parent
 
@@ -137,8 +138,8 @@ class Comparison:
             yield from (self.line(what, row) for row in self.of(what))
         yield ", ".join(f"{len(self.of(what))} {what}" for what in (*SHOWN, SAME, NOT_MET)) + "\n"
         for build in (self.old, self.new):
-            yield (f"{build.name}: {build.captures} captures of {build.devices} devices, {build.lossy} with lost"
-                   f" frames; besides {build.malformed} malformed, {build.failed} failed\n")
+            yield (f"{build.name}: {counted(build.captures, 'capture')} of {counted(build.devices, 'device')},"
+                   f" {build.lossy} with lost frames; besides {build.malformed} malformed, {build.failed} failed\n")
 
     def failed(self, fail_on: str, known: dict[str, str]) -> list[str]:
         """The keys of what is new or worse, and as strong as that, and not known."""
