@@ -11,8 +11,8 @@ What must hold:
 - A capture has a result. A malformed one, one that can't be viewed, one that takes too long and one whose viewer is
   killed have a result that says so. None is longer than 64 KB.
 - A lab of results, which are made of stored captures put together in many ways, with a fault put into one build:
-  however many loaders there are, killed or not, in whatever order, each capture counts once. What the lab has does not
-  depend on the order.
+  however many loaders there are, killed or not, in whatever order, each capture counts once. What the lab has does
+  not depend on the order.
 - The fault is the only new line of that build, and the only one that is gone in the build in which it is mended. Another
   one grows. Malformed and failed captures are told apart, and count for nothing.
 - Keys of two designs, and with and without tables of methods, are refused.
@@ -260,6 +260,24 @@ def check_refused(folder: pathlib.Path, room: pathlib.Path, of: dict[str, dict],
         compare(f"a mix of {name}", (status, out, told.count("\n")), (1, "", 1), fail)
 
 
+def check_not_met(folder: pathlib.Path, room: pathlib.Path, of: dict[str, dict], fail: Fail) -> None:
+    """What a build does not have is gone only if its calls were made there."""
+    lab, files = room / "met.db", []
+    for build, is_called in (("old", True), ("called", True), ("new", False)):
+        for device in "d1", "d2":
+            made = session_of(of, [PLANTED] * (build == "old"), build, device, 1, 1)
+            if not is_called:
+                made["talk"] = [it for it in made["talk"] if not it["caller"].startswith(PLANTED)]
+            files.append(room / f"met-{build}-{device}.json")
+            files[-1].write_text(result.text_of(made))
+    fleet(folder, "load", lab, *files)
+    for build, due in (("called", set()), ("new", {"IHello code 1"})):
+        _, lines, _ = fleet(folder, "compare", lab, "old", build, "--all")
+        not_met = [line for line in lines.splitlines() if line.startswith("not met")]
+        came = {"IHello code 1" for line in not_met if "IHello code 1 " in line}
+        compare(f"what is not met in {build}", came, due, fail)
+
+
 def check_better(folder: pathlib.Path, room: pathlib.Path, of: dict[str, dict], fail: Fail) -> None:
     """Of results of one capture the latest counts that did not fail, in whatever order they come."""
     first = session_of(of, list(COMMON), "old", "d", 1, 1)
@@ -324,6 +342,7 @@ def check_lab(folder: pathlib.Path, room: pathlib.Path, count: int, tell: bool, 
     check_asked(folder, room, key, fail)
     took("questions")
     check_refused(folder, room, of, fail)
+    check_not_met(folder, room, of, fail)
     check_better(folder, room, of, fail)
 
 
