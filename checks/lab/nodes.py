@@ -93,11 +93,15 @@ def check_by_make(folder: pathlib.Path, room: pathlib.Path, fail: Fail) -> None:
         calls += 1
         make = subprocess.Popen(["make", "-k", "-j2", "-s", "-f", str(folder / "lab/Makefile"), f"LAB={lab}"],
                                 start_new_session=True, stderr=subprocess.DEVNULL)
-        while make.poll() is None:
-            time.sleep(1)
-            if calls == 1 and killed < 8 and (some := [pid for pid in in_session(make.pid) if pid != make.pid]):
-                os.kill(chance.choice(some), signal.SIGKILL)
-                killed += 1
+        try:
+            while make.poll() is None:
+                time.sleep(1)
+                if calls == 1 and killed < 8 and (some := [pid for pid in in_session(make.pid) if pid != make.pid]):
+                    with contextlib.suppress(ProcessLookupError):
+                        os.kill(chance.choice(some), signal.SIGKILL)
+                        killed += 1
+        finally:
+            make.kill()
         compare(f"make, call {calls}: the status", make.returncode == 0, calls > 1, fail)
     print(f"make: {killed} processes of jobs killed, {calls} calls, {time.monotonic() - begun:.0f} s", flush=True)
     check_results("make", lab, fail)
