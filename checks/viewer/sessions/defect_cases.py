@@ -7,6 +7,7 @@ from checks.viewer.sessions.cases import case
 from checks.viewer.sessions.name_cases import ADDED, TO_MANAGER
 from checks.viewer.sessions.session import *
 
+PING = int.from_bytes(b"_PNG", "big")
 ONE, TWO, OTHER = marked("a.b.IOne"), marked("a.b.ITwo"), marked("c.d.IOne")
 
 NEVER_FREED = "defect: replies never freed | client on binder | reply to a.b.IOne code 7 of service"
@@ -96,6 +97,22 @@ def server_called(s, name):
     for _ in range(3):
         service.main.gets(client.main.sends(0, 7))
         client.main.answered(service.main.replies())
+    s.wait(300)
+    client.main.asks(service.main, 2)
+
+
+@case("U3:3", "defect: received transactions never freed | service on binder | oneway code 7 at service",
+      "(1 defects)", flags=ONE_WAY)
+@case("U3:3", "defect: received transactions never freed | service on binder | code 7 at service", "(1 defects)")
+@case("U3:3", "defect: received transactions never freed | service on binder | android.os.IBinder.pingBinder at serv",
+      "(1 defects)", code=PING)
+def keeps_requests(s, flags=0, code=7):
+    """Transactions that are not freed: calls, oneway ones, and calls whose method needs no interface."""
+    service, client = served(s)
+    for _ in range(3):
+        service.main.gets(client.main.sends(0, code, flags))
+        if not flags:
+            client.main.answered(service.main.replies())
     s.wait(300)
     client.main.asks(service.main, 2)
 
