@@ -1,4 +1,4 @@
-# Completions of binder-audit, binder-listing, binder-methods, binder-record and binder-view for bash.
+# Completions of binder-audit, binder-fleet, binder-listing, binder-methods, binder-record and binder-view for bash.
 
 # Offers these words.
 _binder_audit_words() { # WORD CHOICES
@@ -22,6 +22,19 @@ _binder_audit() { # COMMAND WORD BEFORE
     *,--workers,* | *,--piece,*) ;;
     *,report) _binder_audit_options "$2" '--workers --piece' ;;
     *) _binder_audit_files ;;
+  esac
+}
+
+_binder_fleet() { # COMMAND WORD BEFORE
+  COMPREPLY=()
+  case $COMP_CWORD,$3 in
+    1,*) _binder_audit_words "$2" 'one load compare ask each --help' ;;
+    *,--fail-on) _binder_audit_words "$2" 'real maybe' ;;
+    *,--build | *,--device | *,--seconds | *,--share | *,--least) ;;
+    *,ask) _binder_audit_files ;;
+    *)
+      _binder_audit_options "$2" '--side --methods --build --device -o --seconds --share --least --fail-on --known --all'
+      ;;
   esac
 }
 
@@ -67,13 +80,16 @@ _binder_view() { # COMMAND WORD BEFORE
   COMPREPLY=()
   case $3 in
     --process | --thread | --from | --to) ;;
+    --fail-on) _binder_audit_words "$2" 'real maybe' ;;
     *)
-      _binder_audit_options "$2" '--side --methods --symbols -o --database --groups --trace --process --thread --from --to --help'
+      _binder_audit_options "$2" '--side --methods --symbols -o --database --groups --against --fail-on --known --trace
+        --process --thread --from --to --help'
       ;;
   esac
 }
 
 complete -F _binder_audit binder-audit
+complete -F _binder_fleet binder-fleet
 complete -F _binder_listing binder-listing
 complete -F _binder_methods binder-methods
 complete -F _binder_record binder-record

@@ -1,5 +1,5 @@
-#compdef binder-audit binder-listing binder-methods binder-record binder-view
-# Completions of binder-audit, binder-listing, binder-methods, binder-record and binder-view for zsh.
+#compdef binder-audit binder-fleet binder-listing binder-methods binder-record binder-view
+# Completions of binder-audit, binder-fleet, binder-listing, binder-methods, binder-record and binder-view for zsh.
 
 local parts='*:part of the capture:_files'
 
@@ -18,6 +18,23 @@ case $service in
     elif [[ $words[2] == first-fault ]]; then
       _arguments ':word:' $parts
     fi
+    ;;
+  binder-fleet)
+    _arguments \
+      '*--side[side list, for times and names]:side list:_files' \
+      '*--methods[table of methods]:table:_files' \
+      '--build[build that was recorded]:build:' \
+      '--device[device that it ran on]:device:' \
+      '-o[file of the result]:result:_files' \
+      '--seconds[how long a capture may take]:seconds:' \
+      '--share[enough devices of a hundred]:share:' \
+      '--least[and at least so many]:devices:' \
+      '--fail-on[weakest verdict that fails]:verdict:(real maybe)' \
+      '--known[defects that are known]:file:_files' \
+      '--all[also what is the same]' \
+      '(- *)--help[say what the words mean]' \
+      ':command:(one load compare ask each)' \
+      '*:file:_files'
     ;;
   binder-listing)
     _arguments \
@@ -84,6 +101,9 @@ case $service in
       '-o[file of the page]:page:_files' \
       '--database[keep the database]:database:_files' \
       '--groups[print the groups of findings]' \
+      '--against[what is new since another capture]:database:_files' \
+      '--fail-on[end with status 10 if there is such a defect]:verdict:(real maybe)' \
+      '--known[defects that are known]:file:_files' \
       '--trace[write a timeline]:timeline:_files' \
       '--process[narrow it to a process]:process:' \
       '--thread[narrow it to a thread]:thread:' \

@@ -33,6 +33,7 @@ PAGES = (
          {"RECORDER": ("./record", "The side list of record")}),
     Page(FIRST, 1, "shows a capture as a page, a database or a timeline",
          {"../README": ("A leak, from a running system to its record",), "VIEW": ()}),
+    Page("binder-fleet", 1, "keeps what is found in many captures, and compares builds", {"FLEET": ()}),
     Page("binder-methods", 1, "makes a table of the methods of interfaces", {"VIEW": ("Names of methods",)}),
     Page("binder-capture", 5, "captures of Binder traffic", {"ENVELOPE": (), "COMMANDS": ()}),
 )
@@ -48,7 +49,7 @@ def escaped(text: str) -> str:
 
 def as_installed(text: str) -> str:
     """A text in which the programs are called as in a package."""
-    text = re.sub(r"\./(audit|listing|record|view)\b", r"binder-\1", text)
+    text = re.sub(r"\./(audit|listing|record|view|fleet)\b", r"binder-\1", text)
     return text.replace("viewer/methods/table.py", "binder-methods")
 
 

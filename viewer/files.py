@@ -8,8 +8,11 @@ class Stopped(Exception):
     """Ends `./view` early, with a status and a line that says why."""
 
     def __init__(self, status: int, line: str):
-        super().__init__(line)
-        self.status = status
+        super().__init__(status, line)
+        self.status, self.line = status, line
+
+    def __str__(self) -> str:
+        return self.line
 
 
 def for_owner(path: str, flags: int) -> int:

@@ -10,7 +10,7 @@ PACKED = not (FOLDER / "database/load.c").exists()
 LIBRARY = FOLDER.parents[2] / "lib/binder-audit"
 
 # The programs that the repository has, by the names that follow `binder-` in a package.
-PROGRAMS = {**{name: f"./{name}" for name in ("audit", "listing", "record", "view")},
+PROGRAMS = {**{name: f"./{name}" for name in ("audit", "listing", "record", "view", "fleet")},
             "methods": "viewer/methods/table.py"}
 NAMES = {command: name for name, command in PROGRAMS.items()}
 
@@ -22,4 +22,4 @@ def called(program: str) -> str:
 
 def as_called(text: str) -> str:
     """A text in which the programs are called as here."""
-    return re.sub(r"\./(audit|listing|record|view)\b|viewer/methods/table\.py", lambda found: called(NAMES[found[0]]), text)
+    return re.sub(r"\./(audit|listing|record|view|fleet)\b|viewer/methods/table\.py", lambda found: called(NAMES[found[0]]), text)

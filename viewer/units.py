@@ -1,6 +1,7 @@
 """Numbers as words: for the page, and for the notes of the rules."""
 
 import errno
+import hashlib
 import re
 
 
@@ -68,3 +69,8 @@ def likeness(path: str, *processes: str | None) -> str:
     path = re.sub(rf"^(handle|node|cookie) (0x)?[0-9a-f]+{OBJECT}", r"\1s", path)
     path = re.sub(r"^address 0x[0-9a-f]+", "addresses", path)
     return re.sub(rf"\bhandle [0-9]+{OBJECT}", "a handle", path)
+
+
+def defect_key(kind: str, who: str, path: str) -> str:
+    """The key of a defect, of 16 hexadecimal digits."""
+    return hashlib.blake2s("\t".join((kind, who, path)).encode(), digest_size=8).hexdigest()

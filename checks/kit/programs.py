@@ -47,21 +47,26 @@ def linked(folder: pathlib.Path, targets: dict[str, pathlib.Path]) -> pathlib.Pa
 
 def programs(room: pathlib.Path, auditor: pathlib.Path) -> pathlib.Path:
     """A folder with `view` and what it calls. The auditor in it is the one that is checked."""
-    return folder_of(room / "programs", auditor, ROOT / "listing", crates=ROOT / "crates")
+    return folder_of(room / "programs", auditor)
 
 
 def built_programs(room: pathlib.Path, auditor: pathlib.Path) -> pathlib.Path:
-    """The same without the scripts that look each time whether a program must be built: they look once here, and take
-    most of the time of a small capture."""
+    """The same without the script that looks each time whether a program must be built: it looks once here."""
     build_programs(ROOT)
-    crates = room / "built-crates"
-    crates.mkdir()
-    (crates / "run").write_text("#!/bin/sh\n")
-    (crates / "run").chmod(0o755)
-    return folder_of(room / "built", auditor, LISTING, crates)
+    made = folder_of(room / "built", auditor)
+    (made / "crates/run").unlink()
+    (made / "crates/run").write_text("#!/bin/sh\n")
+    (made / "crates/run").chmod(0o755)
+    return made
 
 
-def folder_of(folder: pathlib.Path, auditor: pathlib.Path, listing: pathlib.Path, crates: pathlib.Path) -> pathlib.Path:
-    linked(folder, {"viewer": ROOT / "viewer", "crates": crates, "listing": listing, "audit": auditor})
-    shutil.copy(ROOT / "view", folder)  # a copy, since it calls what is in its own folder
+def folder_of(folder: pathlib.Path, auditor: pathlib.Path) -> pathlib.Path:
+    """A folder in place of the repository, with an auditor of its own."""
+    linked(folder, {"viewer": ROOT / "viewer", "lab": ROOT / "lab", "listing": ROOT / "listing", "audit": auditor})
+    linked(folder / "crates", {"run": ROOT / "crates/run"})
+    for name, built in (("binder_audit", auditor), ("binder_listing", LISTING)):
+        (folder / "crates" / name).mkdir()
+        linked(folder / "crates" / name / "out", {name: built})
+    for name in ("view", "fleet"):  # copies, since they call what is in their own folder
+        shutil.copy(ROOT / name, folder)
     return folder

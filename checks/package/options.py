@@ -2,10 +2,10 @@
 
     checks/run options
 
-What must hold for each of the five commands of the package:
+What must hold for each of the six commands of the package:
 
-- `--help` says of each option of its command line what it does. Of `view` and `methods` the command line is the one of
-  argparse.
+- `--help` says of each option of its command line what it does. Of `view`, `fleet` and `methods` the command line is
+  the one of argparse.
 - The completions are there for it, for bash and for zsh, and offer these options and no others.
 - The page of the manual names them, its command line no others.
 

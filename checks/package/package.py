@@ -14,7 +14,7 @@ What must hold:
   other programs say there of the capture what they say here.
 - When the package is removed, no file or folder is left.
 - lintian has nothing to say, nor mandoc about the pages of the manual.
-- All five commands have completions. These and the manual have the options that `--help` names, and no others
+- All six commands have completions. These and the manual have the options that `--help` names, and no others
   (`checks/run options`).
 
 By hand, since it needs root, the network, and debootstrap, lintian, mandoc and zsh; for the guest also QEMU and cpio.
@@ -55,7 +55,7 @@ ask() { # NAME COMMAND..
   "$@" >"$name.out" 2>"$name.err"
   echo $? >"$name.status"
 }
-for program in audit listing record view methods; do ask "$program-help" "binder-$program" --help; done
+for program in audit listing record view fleet methods; do ask "$program-help" "binder-$program" --help; done
 for words in '' report first-fault 'report none.cap' '--workers 2'; do ask "words-$words" binder-audit $words; done
 ask parts binder-audit report samples/rotated-1.cap samples/rotated-2.cap
 ask methods binder-methods samples/interfaces
@@ -150,7 +150,7 @@ def as_here(file: pathlib.Path) -> bytes:
     break the lines of `--help` at other words."""
     data = file.read_bytes()
     if file.suffix == ".html" or file.name.endswith(("-help.out", "-view.err", "-groups.err")):
-        data = re.sub(rb"(?<!\w)binder-(audit|listing|record|view)\b", rb"./\1", data)
+        data = re.sub(rb"(?<!\w)binder-(audit|listing|record|view|fleet)\b", rb"./\1", data)
         data = data.replace(b"binder-methods", b"viewer/methods/table.py")
     return re.sub(rb"\s+", b" ", data) if file.name.endswith("-help.out") else data
 

@@ -126,7 +126,7 @@ def with_sqlite3(folder):
 
 def wrong_answers(page, program, room):
     """The commands of a page that print something else than the lines below them, each with its line."""
-    folder = folder_of(room / "-".join(page.relative_to(ROOT).parts), program, ROOT / "listing", ROOT / "crates")
+    folder = folder_of(room / "-".join(page.relative_to(ROOT).parts), program)
     linked(folder, {name: ROOT / name for name in ("samples", "checks", "docs")})
     path = f"{folder}/bin:{os.environ['PATH']}" if with_sqlite3(folder) else os.environ["PATH"]
     for number, block, _ in blocks(page):

@@ -33,7 +33,8 @@ from checks.kit.checking import check
 from checks.kit.programs import CHECKS, PACKAGED
 from checks.kit.runs import answer, at_once
 from viewer.methods import hal
-from viewer.methods.aidl import ADDED, Aidl
+from viewer.methods.aidl import Aidl
+from viewer.methods.every import ADDED, BASE, OF_BASE
 from viewer.methods.sources import Interface, Wrong
 
 PROGRAM = PACKAGED["binder-methods"]
@@ -179,7 +180,7 @@ def answered_wrongly(room: pathlib.Path) -> Iterator[str]:
             (room / folder / name).write_bytes(text if isinstance(text, bytes) else text.encode())
     (room / "tab\t.aidl").write_text(IN + "}")
     os.mkfifo(room / "agree/d.aidl")
-    added = "".join(f"p.I\t{code}\t{name}\t-\n" for code, name, _ in ADDED)
+    added = "".join(f"p.I\t{code}\t{name}\t-\n" for name, code in ADDED.items())
     lines = (
         (SOURCES, ("aidl", "hal"), (0, stored, "")),
         (room, ("disagree",), (1, "", "disagree/b.aidl:4: code 1 of p.I is b here, and a at disagree/a.aidl:3\n")),
@@ -284,7 +285,7 @@ def own_codes(interfaces: Iterable[Interface]) -> Codes:
 
 def without_added(codes: Codes) -> Codes:
     """The codes without those that the compiler adds to an interface with a version."""
-    added = {(code, name) for code, name, _ in ADDED}
+    added = {(code, name) for name, code in ADDED.items()}
     return {code for code in codes if code[1:] not in added}
 
 
@@ -324,9 +325,9 @@ def hidl_wrongly(folder: pathlib.Path, room: pathlib.Path) -> Iterator[str]:
                                 "check:.", "-r", "android.hidl:.", package)
         if status != 0:
             yield f"hidl-gen of {package} ended with {status}: {said[:500]}"
-    of_base = set(hal.OF_BASE.values())
+    of_base = set(OF_BASE.values())
     yield from difference("hidl-gen", hidl_codes(room / "hidl"), {
-        code for code in ours if code[0] == hal.BASE or code[1] not in of_base})
+        code for code in ours if code[0] == BASE or code[1] not in of_base})
 
 
 PIECES = ('"', "'", "{", "}", "(", ")", "/*", "*/", "//", ";", "\n", "\r", "\\", "<", ">", "=", "@", ",", " 7 ",

@@ -26,8 +26,8 @@ from checks.kit.programs import CHECKS, DRIVER, LISTING, ROOT
 from checks.kit.second_reading import reading
 from checks.viewer.edits import Edit, edited, edits_of
 from checks.viewer.heads import faults_of_heads
-from checks.viewer.sessions import (book_cases, death_cases, kept_cases, late_cases, name_cases, pool_cases,  # noqa: F401
-                                    stack_cases, state_cases)
+from checks.viewer.sessions import (book_cases, death_cases, defect_cases, kept_cases, late_cases,  # noqa: F401
+                                    name_cases, pool_cases, stack_cases, state_cases)
 from checks.viewer.sessions.cases import CASES, Case
 from checks.viewer.sessions.session import Session
 from viewer.database import loading, raw_tables
@@ -76,7 +76,7 @@ def due_of(one: Case) -> Counter:
 
 def texts_of(database: sqlite3.Connection) -> str:
     """Paths and notes of the findings; how many of each rule a process causes; the groups, and how many each verdict has;
-    and who sent how many of which code to whom, and how many of these came."""
+    who sent how many of which code to whom, and how many of these came; and the defects with their keys."""
     return "\n".join(text for text, in database.execute(
         "SELECT coalesce(path, '') || ' (' || coalesce(note, '') || ')' FROM finding"
         " UNION ALL SELECT rule || ' by ' || who || ': ' || count(*) FROM finding f"
@@ -88,7 +88,9 @@ def texts_of(database: sqlite3.Connection) -> str:
         " UNION ALL SELECT 'groups that are ' || v.verdict || ': ' || count(g.grp) FROM (SELECT DISTINCT verdict"
         " FROM rule) v LEFT JOIN finding_group g USING (verdict) GROUP BY v.verdict"
         " UNION ALL SELECT 'finding_stack ' || n || ': ' || stack || ', ' || whose FROM finding_stack"
-        " UNION ALL SELECT 'finding_stack 2: -' WHERE NOT EXISTS (SELECT 1 FROM finding_stack WHERE n = 2)"))
+        " UNION ALL SELECT 'finding_stack 2: -' WHERE NOT EXISTS (SELECT 1 FROM finding_stack WHERE n = 2)"
+        " UNION ALL SELECT 'defect: ' || kind || ' | ' || who || ' | ' || path || '; key ' || id FROM defect"
+        " UNION ALL SELECT '(' || count(*) || ' defects)' FROM defect"))
 
 
 # Deliveries at another node than the one that is certain of their sends.
@@ -133,7 +135,8 @@ def scenario(room: pathlib.Path, folder: pathlib.Path) -> bytes:
 
 def groups_of(database: sqlite3.Connection) -> list[tuple]:
     return database.execute("SELECT verdict, title, path, n, n_all, rules FROM finding_group"
-                            " WHERE verdict IN ('real', 'maybe') ORDER BY 1, 2, 3, 4").fetchall()
+                            " WHERE verdict IN ('real', 'maybe') UNION ALL SELECT 'defect', kind, who, path, id, call"
+                            " FROM defect ORDER BY 1, 2, 3, 4").fetchall()
 
 
 # The databases of the cases, and those of the scenarios with their groups. Each process that tries edits has them from

@@ -41,6 +41,9 @@ What must hold:
 - A service has its name, and what means harm names nothing. In the captures of clients on libgbinder each transaction
   has its interface and each registered object its service, the page has the methods of a table from sources, and those
   without a fault have no verdict real and at most two maybe.
+- Against the database of another capture, lines and marks say what is new, worse, grown or gone, and `gone` only of what
+  could have come up again. Keys that are not alike are refused. `--fail-on` gives status 10 for what is not known.
+- SIGKILL leaves a folder, which the next `view` removes.
 - The loader in C and the one in Python make the same database of the same rows.
 - No statement of the rules takes the square of what a capture has.
 - The rules in docs/VIEW.md are those of the database, and so are the names and columns in docs/DATABASE.md.
@@ -57,6 +60,7 @@ from concurrent.futures import ProcessPoolExecutor
 
 from checks.kit.checking import FLAG, Fail, check, failures_of, run_parts
 from checks.kit.programs import DRIVER, ROOT, built_programs, programs
+from checks.viewer.page.against import check_against
 from checks.viewer.page.books import check_agreement, check_commands, check_copies
 from checks.viewer.page.browser import check_browser
 from checks.viewer.page.growth import check_growth
@@ -90,7 +94,7 @@ def check_all(folder: pathlib.Path, room: pathlib.Path, fail: Fail) -> None:
         run_parts((check_words, check_stopped, check_no_engine), folder, room, fail)
         run_parts((check_side, check_renames, check_files, check_secrets, check_told, check_late, check_malformed,
                    check_hostile, check_methods, check_unnamed, check_services, check_loaders, check_agreement,
-                   check_copies, check_commands, check_stacks, check_growth), built, room, fail)
+                   check_copies, check_commands, check_stacks, check_growth, check_against), built, room, fail)
         for job in jobs:
             for what in job.result():
                 fail(what)

@@ -53,5 +53,10 @@ INSERT INTO about VALUES
   ('finding_stack', 'inferred', 'the stacks that tell of a finding, the first one by n first, and whose they are'),
   ('finding', 'inferred', 'a row of the report, or a oneway send that never came, with the rule that judged it'),
   ('finding_group', 'inferred', 'findings of one path in one line: n of all'),
-  ('rule', 'inferred', 'the rules: id, verdict, and one sentence of why'),
+  ('rule', 'inferred', 'the rules: id, verdict, and one sentence of why; fault, if it names what its section does not'),
+  ('program', 'side', 'what a process is called in each capture, and its device'),
+  ('call_text', 'inferred', 'what a call is called in each capture: interface and method, or the code'),
+  ('defect', 'inferred', 'what is wrong, in whose process and on which path; id is the same in another capture'),
+  ('finding_defect', 'inferred', 'which defect a finding is'),
+  ('talk', 'inferred', 'traffic by the names that are the same in another capture'),
   ('traffic', 'inferred', 'who talks to whom: a generation of a handle, a code, and how much');

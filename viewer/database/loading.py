@@ -93,6 +93,7 @@ def fill(database: sqlite3.Connection, files: list[str], side: str | None, has_t
     load_names(database, "interface")
     load_names(database, "service")
     load_methods(database, methods or {})
+    database.execute("INSERT INTO capture VALUES ('methods', ?)", (len(methods or {}),))
     load_status(database, files)
     database.execute("COMMIT")
 

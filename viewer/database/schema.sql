@@ -3,7 +3,8 @@
 -- Since version 4, method and node_interface are new.
 -- Since version 5, command and uid of process, the names that begin with book, disagreement, side_call, side_unstacked,
 -- stack, finding_stack, service and node_service are, and the column service of record.
--- Since version 7, the column culprit of finding is, and book_process and book_open.
+-- Since version 7, program, call_text, defect, finding_defect, talk, book_process, book_open, and the columns fault of
+-- rule and culprit of finding are new.
 -- needs: nothing
 -- makes: tables: raw_capture, raw_process, raw_thread, raw_frame, raw_record, raw_interface, raw_service, raw_object,
 --   raw_call, raw_generation, raw_send, raw_delivery, raw_level, side_device, side_process, side_thread, side_time,
@@ -335,7 +336,7 @@ CREATE TABLE side_unstacked(id INTEGER PRIMARY KEY, what TEXT NOT NULL, count IN
 -- rises to the one into which the others were put.
 CREATE TABLE symbol(build_id TEXT, address INTEGER, inlined INTEGER, function TEXT NOT NULL, source TEXT,
   PRIMARY KEY(build_id, address, inlined)) STRICT, WITHOUT ROWID;
-CREATE TABLE capture(key TEXT PRIMARY KEY, value) WITHOUT ROWID;
+CREATE TABLE capture(key TEXT PRIMARY KEY, value);
 CREATE TABLE report(id INTEGER PRIMARY KEY, section TEXT NOT NULL, place INTEGER, device INTEGER, process INTEGER,
   text TEXT NOT NULL) STRICT;
 -- n_all is NULL where a path is not counted: for handles that are let go of or that no delivery gave, for nodes,

@@ -6,8 +6,9 @@ import sqlite3
 
 # Numbers that have a name in statements and are in no table: the direction of a write, the code to which an object
 # answers with its interface, and the first number that can't be of a process or a thread of Linux: `./record` gives
-# such numbers where the system's is taken.
-UNLISTED = {"WRITE": "1", "_NTF": "0x5f4e5446", "NO_PID": "4194304"}
+# such numbers where the system's is taken. Views have them as they are here, and not each program that reads a database
+# of SQLite knows hexadecimal ones.
+UNLISTED = {"WRITE": "1", "_NTF": str(0x5f4e5446), "NO_PID": "4194304"}
 
 
 def statements_in(text: str) -> list[str]:
@@ -30,7 +31,7 @@ def named_numbers(database: sqlite3.Connection) -> dict[str, int]:
     """The numbers that statements use by name: kinds of records, sorts of objects, flags, and some more."""
     named = database.execute("SELECT name, number FROM kind WHERE name <> 'OPAQUE'"
                              " UNION ALL SELECT name, number FROM sort UNION ALL SELECT name, number FROM flag")
-    return {**dict(named), **{name: int(number, 0) for name, number in UNLISTED.items()}}
+    return {**dict(named), **{name: int(number) for name, number in UNLISTED.items()}}
 
 
 def open_database(path: pathlib.Path) -> sqlite3.Connection:

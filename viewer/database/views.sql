@@ -4,9 +4,9 @@
 -- needs: schema.sql: book_process, interface, object_interface, object_service, raw_call, raw_delivery, raw_frame,
 --   raw_generation, raw_level, raw_object, raw_process, raw_record, raw_send, raw_thread, service, side_device,
 --   side_map, side_pc, side_process, side_thread, side_time, symbol; numbers.sql: cause, kind, sort, verdict;
---   rules/nodes.sql: node_of
+--   rules/nodes.sql: node_of; rules/groups.sql: traffic; rules/defects.sql: call_text, program
 -- makes: views: device, process, thread, frame, record, object, call, handle, send, delivery, level, reference,
---   listing, came_to, sent_to, node_interface, stack, node_service
+--   listing, came_to, sent_to, node_interface, stack, node_service, talk
 
 CREATE VIEW device AS
 SELECT DISTINCT p.device, s.name FROM raw_process p LEFT JOIN side_device s USING (device);
@@ -132,3 +132,13 @@ SELECT o.upid, o.ptr, v.name AS service, x.interface, o.registered, o.n, o.other
   iif(o.registered IS NULL, 'inferred', 'bytes') AS rests_on
 FROM object_service o LEFT JOIN service v ON v.id = o.service LEFT JOIN node_interface x USING (upid, ptr)
 WHERE o.upid > 0;
+
+-- Who talks to whom, by the names that are the same in another capture.
+CREATE VIEW talk AS
+SELECT a.program || ' on ' || a.device AS caller, b.program || ' on ' || b.device AS server, x.interface, x.method,
+  t.code, x.call, t.oneway, sum(t.sends) AS sends, sum(t.failed) AS failed, sum(t.refused) AS refused,
+  sum(t.open) AS open, sum(t.bytes) AS bytes, sum(t.buffers) AS buffers, max(t.longest) AS longest
+FROM traffic t JOIN program a ON a.upid = t.upid LEFT JOIN program b ON b.upid = t.node_upid
+  JOIN call_text x ON x.code = t.code AND x.upid = coalesce(t.node_upid, -t.upid)
+    AND x.ptr = coalesce(t.ptr, t.handle)
+GROUP BY a.program, a.device, b.program, b.device, x.interface, x.method, t.code, x.call, t.oneway;

@@ -2,10 +2,11 @@
 
 import re
 
+from viewer.methods.every import ADDED
 from viewer.methods.sources import Interface, Method, Reader, words_of
 
-# The codes of the two methods that the compiler adds to an interface with a version, and the highest id of others.
-ADDED = [Method(16777214, "getInterfaceHash", "-"), Method(16777215, "getInterfaceVersion", "-")]
+# The two methods that the compiler adds to an interface with a version, and the highest id of others.
+OF_VERSION = [Method(code, name, "-") for name, code in ADDED.items()]
 LAST_ID = 16777114
 
 DECLARATIONS = ("interface", "parcelable", "union", "enum")
@@ -124,7 +125,7 @@ class Aidl(Reader):
         methods: list[tuple[str, str | None, int]] = []
         while not self.takes("}"):
             self.member(name, methods)
-        self.found.append(Interface(descriptor or ".".join(name), [*self.coded(methods), *ADDED]))
+        self.found.append(Interface(descriptor or ".".join(name), [*self.coded(methods), *OF_VERSION]))
 
     def member(self, outer: list[str], methods: list[tuple[str, str | None, int]]) -> None:
         """Reads a method, constant or declaration of an interface."""

@@ -4,8 +4,7 @@ import re
 import sqlite3
 from typing import Iterable, Iterator, NamedTuple
 
-from viewer.methods.aidl import ADDED
-from viewer.methods.hal import BASE, OF_BASE
+from viewer.methods.every import ADDED, BASE, OF_BASE
 
 # The longest name of a method, and of its source. What is longer is cut.
 LONGEST = 256
@@ -80,8 +79,8 @@ def load_methods(database: sqlite3.Connection, given: Methods) -> None:
     """Puts the methods of the interfaces that the capture names into the database, and those that need no interface.
     What a file says goes before what is built in."""
     named = {name for name, in database.execute("SELECT name FROM interface")}
-    known = {(name, method.code): Method(method.name, "built in: if it has a version")
-             for name in named if "::" not in name for method in ADDED}
+    known = {(name, code): Method(method, "built in: if it has a version")
+             for name in named if "::" not in name for method, code in ADDED.items()}
     known.update(built_in())
     known.update(given)
     database.executemany("INSERT INTO method VALUES (?, ?, ?, ?)",

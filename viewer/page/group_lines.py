@@ -1,14 +1,17 @@
 """The groups as lines of fields, for --groups."""
 
+import pathlib
 import sqlite3
 from typing import Iterator
 
 from viewer.page.texts import field_of
 
+KEYS = (pathlib.Path(__file__).resolve().parent / "queries/group_keys.sql").read_text()
+
 
 def group_lines(database: sqlite3.Connection) -> Iterator[str]:
     """A line for each group, its fields separated by tabs: verdict, kind, n, all, device, process, path, rule, note,
-    and the names of the processes, which are those that cause it."""
+    the names of the processes, which are those that cause it, and the keys of the defects."""
     for number, *fields in database.execute(
             "SELECT grp, verdict, title, n, n_all, path, rules, note FROM finding_group"
             " ORDER BY CASE verdict WHEN 'real' THEN 1 WHEN 'maybe' THEN 2 WHEN 'explained' THEN 3 ELSE 4 END,"
@@ -21,4 +24,6 @@ def group_lines(database: sqlite3.Connection) -> Iterator[str]:
         devices = ",".join(map(str, dict.fromkeys(device for device, *_ in of)))
         processes = ",".join(map(str, dict.fromkeys(process for _, process, _ in of)))
         names = ",".join(dict.fromkeys(name for *_, name in of if name))
-        yield "\t".join(map(field_of, (verdict, title, n, n_all, devices, processes, path, rules, note, names))) + "\n"
+        keys = ",".join(key for key, in database.execute(KEYS, (number,)))
+        yield "\t".join(map(field_of, (verdict, title, n, n_all, devices, processes, path, rules, note, names, keys))
+                        ) + "\n"

@@ -10,16 +10,21 @@ from viewer.page.stacks import GroupStacks, Stacks
 # The most findings of a group and lanes of a page.
 FINDINGS, LANES = 100, 300
 
+# What the defects with these keys are marked with.
+Marks = dict[str, list[str]]
+
 
 class Group:
     """A group. It has no more findings than the page shows, and one."""
 
-    def __init__(self, capture: Capture, stacks: Stacks, row: tuple):
+    def __init__(self, capture: Capture, stacks: Stacks, marks: Marks, row: tuple):
         (self.number, self.verdict, self.title, self.path, self.n, self.n_all, self.first, self.last, self.waiting,
          rules, self.note) = row
         self.rules = rules.split(",")
         self.found = capture.asked("findings", self.number, FINDINGS + 1)
         self.who = [upid for upid, in capture.asked("group_who", self.number)]
+        keys = [key for key, in capture.asked("group_keys", self.number)]
+        self.marks = list(dict.fromkeys(mark for key in keys for mark in marks.get(key, ())))
         self.plot = self.plot_of(capture)
         self.stacks = GroupStacks(stacks, self.number)
         self.lane: tuple | None = None
@@ -35,14 +40,14 @@ class Group:
 class Groups:
     """The groups of a capture. The first of a page have lanes: what the thread of the first finding did around it."""
 
-    def __init__(self, capture: Capture):
-        self.capture, self.stacks, self.lanes = capture, Stacks(capture), 0
+    def __init__(self, capture: Capture, marks: Marks):
+        self.capture, self.stacks, self.marks, self.lanes = capture, Stacks(capture), marks, 0
 
     def of(self, *verdicts: str) -> Iterator[Group]:
         """The groups of some verdicts, one after another."""
         for verdict in verdicts:
             for row in self.capture.asked("groups", verdict, ROWS):
-                group = Group(self.capture, self.stacks, row)
+                group = Group(self.capture, self.stacks, self.marks, row)
                 if verdict != "normal" and self.lanes < LANES:
                     self.give_lane(group)
                 yield group

@@ -9,6 +9,7 @@ import sqlite3
 from typing import Iterator
 
 from viewer.database.report import columns_of
+from viewer.defects.gate import Shown
 from viewer.files import Stopped, for_owner
 from viewer.page.capture import Capture
 from viewer.page.groups import FINDINGS, Groups
@@ -39,23 +40,23 @@ FILTERS = {"pieces": pieces_of, "number": number, "hex": address, "counted": cou
            "code": code_name}
 
 
-def asked_of(capture: Capture) -> dict[str, object]:
+def asked_of(capture: Capture, shown: Shown) -> dict[str, object]:
     """What templates ask. Sections ask when they are written, so that no two are in memory."""
-    groups = Groups(capture)
+    groups = Groups(capture, shown.marks)
     return {"who": capture.who, "names": capture.names, "rules": capture.rules, "command": capture.command,
             "asked": capture.rows, "count": capture.count, "groups": groups.of, "left": groups.left, "most": FINDINGS,
             "columns_of": columns_of, "growths": lambda: growths_of(capture),
-            "has_stacks": groups.stacks.are_there}
+            "has_stacks": groups.stacks.are_there, "gone": shown.gone}
 
 
-def document(capture: Capture) -> Iterator[str]:
+def document(capture: Capture, shown: Shown) -> Iterator[str]:
     """The whole page, piece by piece. A name that a template does not have is an error, and None is no text."""
     import jinja2  # here, since all but the page is made without it
     engine = jinja2.Environment(loader=jinja2.FileSystemLoader(FOLDER / "templates"), autoescape=True,
                                 undefined=jinja2.StrictUndefined, trim_blocks=True, lstrip_blocks=True,
                                 finalize=lambda value: "" if value is None else value)
     engine.filters |= FILTERS
-    engine.globals |= asked_of(capture)
+    engine.globals |= asked_of(capture, shown)
     style, script = ((FOLDER / name).read_text() for name in ("page.css", "page.js"))
     digest = base64.b64encode(hashlib.sha256(script.encode()).digest()).decode()
     heads = [text for text, in capture.ask("SELECT text FROM report WHERE section = 'head' ORDER BY id")]
@@ -64,10 +65,10 @@ def document(capture: Capture) -> Iterator[str]:
         report=capture.report, heads=heads)
 
 
-def write(database: sqlite3.Connection, files: list[str], path: pathlib.Path) -> None:
-    """Writes the page into a new file, for its owner only."""
+def write(database: sqlite3.Connection, files: list[str], path: pathlib.Path, shown: Shown | None = None) -> None:
+    """Writes the page into a new file, for its owner only. `shown`: what it shows of another capture."""
     try:
         with open(path, "x", encoding="utf-8", errors="replace", opener=for_owner) as out:
-            out.writelines(document(Capture(database, files)))
+            out.writelines(document(Capture(database, files), shown or Shown({}, [])))
     except FileExistsError as error:
         raise Stopped(1, f"{path} exists already") from error

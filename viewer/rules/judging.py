@@ -7,7 +7,7 @@ from viewer.database.report import number_of
 from viewer.database.sqlite import named_numbers, statements_of
 from viewer.rules.names import Names
 from viewer.rules.thresholds import THRESHOLDS
-from viewer.units import counted, duration_of, likeness, status_name
+from viewer.units import counted, defect_key, duration_of, likeness, status_name
 
 FOLDER = pathlib.Path(__file__).resolve().parent
 
@@ -15,20 +15,22 @@ FOLDER = pathlib.Path(__file__).resolve().parent
 JUDGING = ("nodes.sql", "names.sql", "facts.sql", "late.sql", "ages.sql", "waits.sql", "rule.sql", "pools.sql",
            "calls.sql", "used_up.sql", "failures.sql", "answers.sql", "strays.sql", "buffers.sql", "handles.sql",
            "ways.sql", "held.sql", "requests.sql", "deaths.sql", "frees.sql", "objects.sql", "oneway.sql",
-           "culprits.sql", "causes.sql", "groups.sql", "stacks.sql")
+           "culprits.sql", "causes.sql", "groups.sql", "defects.sql", "stacks.sql")
 
 
 def judge(database: sqlite3.Connection, folder: pathlib.Path = FOLDER) -> None:
     """Gives each finding its verdict. In the statements `:BR_REPLY` is the number of that name, and `:LONG` a
     threshold. They make texts by `duration(nanoseconds)`, `counted(n, 'row')` and `status_name(number)`, alike ones by
-    `likeness(path, ..)`, and look into a row of the report by `number_in(section, text, column)`. After names.sql,
-    `call_name(code, upid, ptr)` names a call, `service_name(upid, ptr)` and `object_name(upid, ptr)` an object, and
-    `without_methods(path)` takes methods and packages out."""
+    `likeness(path, ..)`, keys by `defect_key(kind, who, path)`, and look into a row of the report by
+    `number_in(section, text, column)`. After names.sql, `call_name(code, upid, ptr)` names a call,
+    `service_name(upid, ptr)` and `object_name(upid, ptr)` an object, and `without_methods(path)` takes methods and
+    packages out."""
     database.create_function("duration", 1, duration_of, deterministic=True)
     database.create_function("counted", -1, counted, deterministic=True)
     database.create_function("likeness", -1, likeness, deterministic=True)
     database.create_function("number_in", 3, number_of, deterministic=True)
     database.create_function("status_name", 1, status_name, deterministic=True)
+    database.create_function("defect_key", 3, defect_key, deterministic=True)
     numbers = {**named_numbers(database), **THRESHOLDS}
     for name in JUDGING:
         database.execute("BEGIN")

@@ -15,8 +15,8 @@ INSERT INTO lossy SELECT upid FROM process_life p WHERE EXISTS (SELECT 1 FROM si
 
 -- ---- the rules
 
-CREATE TABLE rule(id TEXT PRIMARY KEY, verdict TEXT NOT NULL, text TEXT NOT NULL) STRICT;
-INSERT INTO rule VALUES
+CREATE TABLE rule(id TEXT PRIMARY KEY, verdict TEXT NOT NULL, text TEXT NOT NULL, fault TEXT) STRICT;
+INSERT INTO rule(id, verdict, text) VALUES
   ('A1', 'explained', 'The other end, or the buffer, of a call: one finding with it.'),
   ('L1', 'explained', 'It comes of what was read after the end of the recording.'),
   ('M1', 'explained', 'Frames of its process are missing, and the one that it lacks may be among them.'),

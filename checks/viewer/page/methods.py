@@ -136,7 +136,7 @@ def check_hostile_methods(folder: pathlib.Path, room: pathlib.Path, fail: Fail) 
     compare("hostile methods: the page stays small", len(text) < 2**18, True, fail)
     compare("hostile methods: a timeline", bool(timeline_of(room / "harm.gz")), True, fail)
     _, lines, _ = view(folder, room, *words, "--groups")
-    compare("hostile methods: fields of a line", {line.count("\t") for line in lines.splitlines()}, {9}, fail)
+    compare("hostile methods: fields of a line", {line.count("\t") for line in lines.splitlines()}, {10}, fail)
 
 
 def check_unnamed(folder: pathlib.Path, room: pathlib.Path, fail: Fail) -> None:

@@ -6,6 +6,7 @@ import os
 import pathlib
 import re
 import shutil
+import signal
 import sqlite3
 import subprocess
 import sys
@@ -125,9 +126,29 @@ def check_stopped(folder: pathlib.Path, room: pathlib.Path, fail: Fail) -> None:
         running.terminate()
         status = running.wait(60)
         compare(f"stopped after {wait} s", (status in (0, 143, -15), list(kept.iterdir())), (True, []), fail)
+    check_killed(words, run, kept, fail)
     for called in ("open", "mkdir", "unlink", "rmdir"):
         ended = subprocess.run([sys.executable, "-c", STOPPED_AT, called, *words], **run)
         compare(f"stopped at {called}", (ended.returncode, list(kept.iterdir())), (143, []), fail)
+
+
+def check_killed(words: list, run: dict, kept: pathlib.Path, fail: Fail) -> None:
+    """What SIGKILL leaves is removed by the next one, and not what is no scratch, or is in use."""
+    (kept / "view-of-mine").mkdir()
+    running = subprocess.Popen(words, **run)
+    until = time.monotonic() + 20
+    while not list(kept.glob("view-*/capture.rows")) and running.poll() is None and time.monotonic() < until:
+        time.sleep(0.001)
+    os.kill(running.pid, signal.SIGSTOP)
+    begun = set(kept.glob("view-*"))
+    subprocess.run(words, **run)
+    compare("beside one that runs", set(kept.glob("view-*")), begun, fail)
+    running.kill()
+    running.wait()
+    compare("killed", (len(begun), set(kept.glob("view-*"))), (2, begun), fail)
+    subprocess.run(words, **run)
+    compare("after one that was killed", list(kept.iterdir()), [kept / "view-of-mine"], fail)
+    (kept / "view-of-mine").rmdir()
 
 
 def check_told(folder: pathlib.Path, room: pathlib.Path, fail: Fail) -> None:
@@ -230,5 +251,5 @@ def check_hostile(folder: pathlib.Path, room: pathlib.Path, fail: Fail) -> pathl
     compare("hostile names: the page stays small", len(text) < 2**20, True, fail)
     status, lines, _ = view(folder, room, named.name, "--side", "hostile.side", "--groups")
     tabs = {line.count("\t") for line in lines.splitlines()}
-    compare("hostile names: fields of a line", (status, tabs), (0, {9}), fail)
+    compare("hostile names: fields of a line", (status, tabs), (0, {10}), fail)
     return room / "hostile.html"

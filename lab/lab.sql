@@ -1,0 +1,23 @@
+-- A lab: what is kept of many captures. docs/FLEET.md describes the tables. A statement that makes what is there
+-- already changes nothing, so several loaders may run these at once.
+
+PRAGMA user_version = 1;
+
+CREATE TABLE IF NOT EXISTS capture(id INTEGER PRIMARY KEY, digest TEXT NOT NULL UNIQUE, build TEXT NOT NULL,
+  device TEXT NOT NULL, file TEXT, made REAL NOT NULL, begun INTEGER, seconds REAL, bytes INTEGER, frames INTEGER,
+  records INTEGER, missing INTEGER, lost INTEGER, side INTEGER, doubt TEXT, malformed TEXT, failed TEXT, kernel TEXT,
+  version TEXT, prints INTEGER, methods INTEGER, left_out INTEGER NOT NULL);
+CREATE TABLE IF NOT EXISTS defect(id TEXT PRIMARY KEY, kind TEXT NOT NULL, who TEXT NOT NULL, path TEXT NOT NULL,
+  call TEXT);
+CREATE TABLE IF NOT EXISTS found(capture INTEGER NOT NULL, defect TEXT NOT NULL, verdict TEXT NOT NULL,
+  n INTEGER NOT NULL, n_all INTEGER, waiting INTEGER, rules TEXT, age INTEGER, place INTEGER, path TEXT, note TEXT,
+  PRIMARY KEY(capture, defect));
+CREATE TABLE IF NOT EXISTS talk(capture INTEGER NOT NULL, caller TEXT, server TEXT, interface TEXT, method TEXT,
+  code INTEGER, call TEXT, oneway INTEGER, sends INTEGER, failed INTEGER, refused INTEGER, open INTEGER, bytes INTEGER,
+  buffers INTEGER, longest INTEGER);
+CREATE TABLE IF NOT EXISTS held(capture INTEGER NOT NULL, process TEXT, buffers INTEGER, buffers_most INTEGER,
+  bytes INTEGER, bytes_most INTEGER, refs INTEGER, refs_most INTEGER, calls_most INTEGER);
+CREATE INDEX IF NOT EXISTS found_of_defect ON found(defect);
+CREATE INDEX IF NOT EXISTS talk_of_capture ON talk(capture);
+CREATE INDEX IF NOT EXISTS held_of_capture ON held(capture);
+CREATE INDEX IF NOT EXISTS capture_of_build ON capture(build);

@@ -1,0 +1,4 @@
+-- Which calls take longest, by build and server, in milliseconds?
+SELECT c.build, t.server, t.call, sum(t.sends) AS sends, max(t.longest) / 1000000 AS ms
+FROM talk t JOIN capture c ON c.id = t.capture WHERE t.longest NOTNULL GROUP BY c.build, t.server, t.call
+ORDER BY ms DESC, c.build, t.server, t.call LIMIT 20

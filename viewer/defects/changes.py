@@ -1,0 +1,88 @@
+"""Two captures compared by their defects: what is new, worse, grown or gone in the one since the other."""
+
+import sqlite3
+from typing import Iterator, NamedTuple
+
+from viewer.defects.seen import Defect, defects_of, facts_of, seconds_of
+from viewer.files import Stopped
+from viewer.page.texts import field_of
+
+# What a defect may have become, in the order of the lines.
+NEW, WORSE, GROWN, GONE, SAME, NOT_MET = "new", "worse", "grown", "gone", "same", "not met"
+SHOWN = (NEW, WORSE, GROWN, GONE)
+
+# So many times as many findings an hour have grown.
+GROWTH = 2
+
+
+class Change(NamedTuple):
+    """What a defect has become. `defect` is that of the new capture, or if it is not there that of the old one."""
+    what: str
+    defect: Defect
+    before: int
+    now: int
+
+
+def refuse_unlike(old: dict, new: dict, name: str) -> None:
+    """Keys of two designs, and keys with and without the names of methods, are not compared."""
+    if old["prints"] != new["prints"]:
+        raise Stopped(1, f"{name}: its keys are of design {old['prints']}, and those of the capture of {new['prints']}:"
+                         " make it anew")
+    if bool(old["methods"]) != bool(new["methods"]):
+        has = "has the names of methods, and the capture has not" if old["methods"] else (
+            "has no names of methods, and the capture has")
+        raise Stopped(1, f"{name}: {has}: give both --methods, or none")
+
+
+def has_grown(before: Defect, now: Defect, seconds: tuple[float | None, float | None]) -> bool:
+    """Whether there are many more findings, an hour if it is known how long both were recorded."""
+    old, new = seconds if all(seconds) else (1, 1)
+    return now.n * old > GROWTH * before.n * new  # type: ignore[operator]
+
+
+class Comparison:
+    """The changes between the databases of two captures."""
+
+    def __init__(self, new: sqlite3.Connection, old: sqlite3.Connection, name: str):
+        facts = facts_of(old), facts_of(new)
+        refuse_unlike(*facts, name)
+        self.seconds = seconds_of(facts[0]), seconds_of(facts[1])
+        self.before, self.now = defects_of(old), defects_of(new)
+        self.met = {who for who, in new.execute("SELECT program || ' on ' || device FROM program")}
+        self.called = set(new.execute("SELECT caller, call FROM talk UNION SELECT server, call FROM talk"))
+        self.changes = [Change(self.what(key), self.now.get(key) or self.before[key],
+                               self.count(self.before, key), self.count(self.now, key))
+                        for key in {**self.now, **self.before} if self.is_told(key)]
+
+    def is_told(self, key: str) -> bool:
+        """Whether a defect is real or maybe in one of the captures."""
+        return any(defect.counts for of in (self.before, self.now) if (defect := of.get(key)))
+
+    @staticmethod
+    def count(of: dict[str, Defect], key: str) -> int:
+        return of[key].n if key in of else 0
+
+    def what(self, key: str) -> str:
+        before, now = self.before.get(key), self.now.get(key)
+        if before is None:
+            return NEW
+        if now is None:
+            return GONE if self.could_come(before) else NOT_MET
+        if now.counts and now.rank < before.rank:
+            return WORSE
+        return GROWN if now.counts and has_grown(before, now, self.seconds) else SAME
+
+    def could_come(self, defect: Defect) -> bool:
+        """Whether its process is in the new capture, and makes or gets the call of its path there."""
+        return defect.who in self.met and (defect.call is None or (defect.who, defect.call) in self.called)
+
+    def of(self, *what: str) -> list[Change]:
+        return [change for change in self.changes if change.what in what]
+
+    def lines(self) -> Iterator[str]:
+        """A line for each defect that is not the same, then one with counts."""
+        for what in SHOWN:
+            for _, defect, before, now in self.of(what):
+                yield "\t".join(map(field_of, (what, defect.verdict, before, now, defect.kind, defect.who, defect.path,
+                                               defect.place, defect.key))) + "\n"
+        yield ", ".join(f"{len(self.of(what))} {what}" for what in (*SHOWN, SAME, NOT_MET)) + "\n"

@@ -1,0 +1,123 @@
+-- The key of each defect, which is the same for the same fault in another capture: what is wrong, in whose process, and
+-- on which path.
+--
+-- The kind is that of the section, with what the driver answered. The rule counts only if it has a `fault`, which says
+-- that something else is wrong. `who` is the name of the process and that of its device. The path has the names of
+-- processes, whole interfaces, and methods, or where a method is not known its code. What is of one recording is left
+-- out: numbers of processes and threads, nodes, handles but 0, cookies, addresses; counts, ages and verdicts; and names
+-- of services, which a capture has only if it saw that they were registered or asked for.
+--
+-- If any of that changes, the last number in this file, `prints`, rises: keys with another one are not compared.
+-- needs: database/schema.sql: call_interface, capture, finding, interface, method, object_interface, status;
+--   database/views.sql: call, delivery, device, handle, process, record, send; nodes.sql: node_of; rule.sql: rule;
+--   groups.sql: title, traffic; judging.py: defect_key, status_name
+-- makes: tables: program, call_text, defect, finding_defect; temporary tables: came_by, matter, told; indexes:
+--   finding_of_defect
+
+-- ---- what a rule names that its section does not say
+
+UPDATE rule SET fault = CASE id
+  WHEN 'H1' THEN 'handles that nobody gave'
+  WHEN 'H2' THEN 'references let go, or given back, too often'
+  WHEN 'H3' THEN 'references to an object told dead'
+  WHEN 'H4' THEN 'references taken more than once'
+  WHEN 'H5' THEN 'references kept'
+  WHEN 'H8' THEN 'references kept'
+  WHEN 'F1' THEN 'buffers freed twice'
+  WHEN 'D2' THEN 'second requests for a death'
+  WHEN 'S1' THEN 'sends that were refused'
+  WHEN 'S2' THEN 'replies without a call' END;
+
+-- ---- names that are the same in another capture
+
+-- A process, without the number at the end of a name that differs from start to start; and its device.
+CREATE TABLE program(upid INTEGER PRIMARY KEY, program TEXT NOT NULL, device TEXT NOT NULL) STRICT;
+INSERT INTO program
+SELECT p.upid, coalesce(iif(p.begin GLOB '*[:_]', p.begin, p.name), 'a process'), coalesce(d.name, 'device ' || p.device)
+FROM (SELECT upid, device, name, rtrim(name, '0123456789') AS begin FROM process) p JOIN device d USING (device);
+
+-- How a handle that is kept with others came: in replies to a call, or with calls; and which process is at the other
+-- end.
+CREATE TEMP TABLE came_by AS
+SELECT f.id, d.kind = 'BR_REPLY' AS reply, d.code, d.handle,
+  iif(d.kind = 'BR_REPLY', coalesce(n.upid, -f.upid), f.upid) AS upid,
+  iif(d.kind = 'BR_REPLY', coalesce(n.ptr, d.handle), d.ptr) AS ptr,
+  iif(d.kind = 'BR_REPLY', n.upid, s.upid) AS other
+FROM finding f JOIN handle h ON h.generation = f.generation JOIN delivery d ON d.place = h.given_by
+  LEFT JOIN send a ON a.place = d.call AND d.kind = 'BR_REPLY' LEFT JOIN node_of n ON n.generation = a.generation
+  LEFT JOIN send s ON s.place = d.send
+WHERE f.rule IN ('H5', 'H8');
+
+-- What each finding is about: a call, by its code and its node, and how the finding belongs to it; or a handle, a node
+-- or an address. If the node of a call or a handle is not known, upid has the process that holds it with a minus, and
+-- ptr the handle.
+CREATE TEMP TABLE matter AS
+SELECT f.id, f.section, f.what, f.place, f.rule, f.upid AS own, coalesce(w.code, f.code) AS code,
+  coalesce(w.upid, iif(f.is_own, f.upid, coalesce(f.target, -f.upid))) AS upid,
+  coalesce(w.ptr, iif(f.is_own OR f.target NOTNULL, f.ptr, f.handle)) AS ptr,
+  iif(w.id IS NULL, f.target, w.other) AS other, iif(w.id IS NULL, f.handle, w.handle) AS handle,
+  CASE WHEN w.reply THEN 'given by replies to' WHEN NOT w.reply THEN 'given by calls of'
+    WHEN f.section = 'answers' OR f.section IN ('calls', 'refused', 'oneway', 'spam', 'strays', 'objects')
+      AND f.generation NOTNULL OR f.section = 'books' THEN 'to'
+    WHEN f.section IN ('calls', 'refused', 'oneway', 'spam') THEN 'a reply'
+    WHEN f.section = 'objects' THEN 'a reply to'
+    WHEN f.section = 'buffers' AND f.what = 'BR_REPLY' THEN 'reply to'
+    WHEN f.section = 'buffers' AND (SELECT oneway FROM delivery d WHERE d.place = f.place) THEN 'oneway'
+    WHEN f.section IN ('buffers', 'served', 'pools') THEN 'at'
+    WHEN f.section IN ('handles', 'requests', 'deaths', 'clears') THEN iif(f.handle IS NULL, 'cookie', 'handle')
+    WHEN f.section = 'nodes' THEN 'node' WHEN f.section = 'frees' THEN 'address' END AS how
+FROM (SELECT *, section IN ('served', 'nodes', 'pools') OR section = 'buffers' AND what <> 'BR_REPLY'
+    OR section = 'objects' AND generation IS NULL AS is_own FROM finding WHERE lead IS NULL) f
+  JOIN rule r ON r.id = f.rule LEFT JOIN came_by w ON w.id = f.id
+WHERE r.verdict <> 'normal';
+
+-- What a call is called: by interface and method, or if no table has its method by interface and code.
+CREATE TABLE call_text(code INTEGER, upid INTEGER, ptr INTEGER, interface TEXT, method TEXT, call TEXT NOT NULL,
+  PRIMARY KEY(code, upid, ptr)) STRICT;
+INSERT INTO call_text
+SELECT x.code, x.upid, x.ptr, coalesce(i.name, b.interface), coalesce(m.method, b.method),
+  coalesce(i.name || coalesce('.' || m.method, ' code ' || x.code), b.interface || '.' || b.method, 'code ' || x.code)
+FROM (SELECT code, upid, ptr FROM matter WHERE code NOTNULL AND ptr NOTNULL
+  UNION SELECT code, coalesce(node_upid, -upid), coalesce(ptr, handle) FROM traffic) x
+  LEFT JOIN call_interface c ON (c.code, c.upid, c.ptr) = (x.code, x.upid, x.ptr)
+  LEFT JOIN interface i ON i.id = c.interface
+  LEFT JOIN method m ON (m.interface, m.code) = (i.name, x.code)
+  LEFT JOIN method b ON i.name IS NULL AND (b.interface, b.code) = ('android.os.IBinder', x.code);
+
+-- ---- the parts of a key
+
+CREATE TEMP TABLE told AS
+SELECT id, kind || coalesce(' (' || answer || ')', '') AS kind, who, call, CASE how
+    WHEN 'to' THEN call || ' to ' || other || coalesce(': ' || status, '')
+    WHEN 'a reply to' THEN coalesce('a reply to ' || call, 'a reply')
+    WHEN 'reply to' THEN coalesce('reply to ' || call || ' of ' || other, 'reply to no call')
+    WHEN 'oneway' THEN 'oneway ' || call || ' at ' || own
+    WHEN 'at' THEN call || ' at ' || own
+    WHEN 'given by replies to' THEN how || ' ' || call || ' of ' || other
+    WHEN 'given by calls of' THEN how || ' ' || call || ' from ' || other
+    WHEN 'handle' THEN handle || object WHEN 'node' THEN 'node' || object ELSE how END AS path
+FROM (SELECT m.id, m.how, p.program || ' on ' || p.device AS who, p.program AS own, t.call,
+    coalesce(r.fault, (SELECT t.title FROM title t WHERE t.rule IS NULL AND t.section = m.section
+      AND coalesce(t.what = m.what, 1) ORDER BY t.what IS NULL LIMIT 1)) AS kind,
+    CASE WHEN m.section = 'calls' AND m.what = 'failed' THEN (SELECT e.kind FROM call c
+        JOIN record e ON e.place = c.closer WHERE c.place = m.place)
+      WHEN m.section = 'refused' THEN m.what END AS answer,
+    (SELECT status_name(s.value) FROM call c JOIN status s ON s.place = c.closer WHERE m.section = 'answers'
+      AND c.place = m.place) AS status,
+    iif(m.handle = 0, 'handle 0', 'handle') AS handle,
+    coalesce(o.program, iif(m.handle = 0, 'handle 0', 'handle')) AS other,
+    coalesce(', ' || o.program, '') || coalesce(' (' || i.name || ')', '') AS object
+  FROM matter m JOIN rule r ON r.id = m.rule JOIN program p ON p.upid = m.own LEFT JOIN program o ON o.upid = m.other
+    LEFT JOIN call_text t ON (t.code, t.upid, t.ptr) = (m.code, m.upid, m.ptr)
+    LEFT JOIN object_interface j ON (j.upid, j.ptr) = (m.upid, m.ptr) LEFT JOIN interface i ON i.id = j.interface);
+
+-- The call on the path is not in the key: it tells in another capture whether a defect could come up there.
+CREATE TABLE defect(id TEXT PRIMARY KEY, kind TEXT NOT NULL, who TEXT NOT NULL, path TEXT NOT NULL, call TEXT) STRICT;
+INSERT INTO defect
+SELECT DISTINCT defect_key(kind, who, coalesce(path, '')), kind, who, coalesce(path, ''), call FROM told;
+CREATE TABLE finding_defect(finding INTEGER PRIMARY KEY, defect TEXT NOT NULL) STRICT;
+INSERT INTO finding_defect
+SELECT id, defect_key(kind, who, coalesce(path, '')) FROM told;
+CREATE INDEX finding_of_defect ON finding_defect(defect);
+
+INSERT INTO capture VALUES ('prints', 1);
