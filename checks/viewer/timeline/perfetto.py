@@ -1,0 +1,189 @@
+"""Asks Perfetto's trace processor about timelines of all stored captures."""
+
+import csv
+import io
+import pathlib
+import sqlite3
+import subprocess
+from collections import Counter
+from typing import Iterator
+
+from checks.kit.checking import Fail, compare, row
+from checks.kit.programs import DRIVER
+from checks.viewer.page.common import loaded
+from viewer.timeline import trace
+from viewer.timeline.tracks import Window
+
+# Traces by the suffixes of their names, and how the arguments of slices are called in them.
+PLAIN, ANDROID, JSON = "plain.pftrace", "android.pftrace", "out.json.gz"
+ARGUMENTS = {PLAIN: "debug", ANDROID: "debug", JSON: "args"}
+
+
+class TraceProcessor:
+    """The program, and how often it was asked."""
+
+    def __init__(self, program: pathlib.Path):
+        self.program = program.resolve()
+
+    def ask(self, path: pathlib.Path, query: str) -> list[list[str]]:
+        """The rows of an answer."""
+        asked = subprocess.run([self.program, "query", path, query], capture_output=True, text=True)
+        if asked.returncode:
+            raise RuntimeError(f"{path.name}: {asked.stderr.strip()[-400:]}")
+        text = asked.stdout.lstrip("\n")
+        return [["" if cell == "[NULL]" else cell for cell in one] for one in csv.reader(io.StringIO(text))][1:]
+
+
+FAULTS = "SELECT name, value FROM stats WHERE value > 0 AND severity IN ('error', 'data_loss')"
+
+SLICES = """
+SELECT s.id, coalesce(s.parent_id, ''), extract_arg(s.arg_set_id, '{0}.place'), s.ts, s.dur, s.category, t.tid, p.pid,
+  t.name, p.name
+FROM slice s JOIN thread_track k ON k.id = s.track_id JOIN thread t USING (utid) JOIN process p USING (upid)"""
+# All but the calls: instants by category, queues, counters, flows by what they go between.
+COUNTS = """
+SELECT 'slices ' || category, count(*) FROM slice s JOIN track t ON t.id = s.track_id
+  WHERE category NOT IN ('call', 'served', 'aidl') AND t.name NOT GLOB 'binder_audit: [rm]*' GROUP BY 1
+UNION ALL SELECT 'on tracks of findings', count(*) FROM slice s JOIN track t ON t.id = s.track_id
+  WHERE t.name GLOB 'binder_audit: [rm]*'
+UNION ALL SELECT 'counter values', count(*) FROM counter
+UNION ALL SELECT 'sum of counters', cast(sum(value) AS INT) FROM counter
+UNION ALL SELECT 'flows ' || o.category || ' -> ' || i.category, count(*) FROM flow f JOIN slice o ON o.id = f.slice_out
+  JOIN slice i ON i.id = f.slice_in WHERE o.category NOT GLOB 'finding*' GROUP BY 1
+UNION ALL SELECT 'open slices', count(*) FROM slice WHERE dur < 0"""
+TRANSACTIONS = """
+INCLUDE PERFETTO MODULE android.binder;
+SELECT extract_arg(c.arg_set_id, 'debug.place'), extract_arg(s.arg_set_id, 'debug.place'), client_dur, server_dur,
+  is_sync, interface, method_name
+FROM android_binder_txns t JOIN slice c ON c.id = t.binder_txn_id JOIN slice s ON s.id = t.binder_reply_id"""
+
+PAIRS = """
+SELECT s.place, s.delivery, s.oneway, c.dur, v.dur, c.verdict, v.verdict FROM send s
+LEFT JOIN call c ON c.place = s.place LEFT JOIN call v ON v.place = s.delivery
+WHERE s.certain AND s.delivery NOTNULL AND s.kind LIKE 'BC_TRANSACTION%'"""
+
+
+def captures() -> Iterator[tuple[str, list[pathlib.Path], pathlib.Path]]:
+    """All stored captures of the real driver that have a side list."""
+    for folder in sorted(path for path in DRIVER.iterdir() if path.is_dir()):
+        side = [*folder.glob("*.side")]
+        if len(side) == 1:
+            yield folder.name, sorted(folder.glob("*.cap")), side[0]
+
+
+def shift_of(database: sqlite3.Connection, name: str) -> int:
+    """How much later the times of a timeline are than those of the side list, if the system did not sleep."""
+    known = dict(database.execute("SELECT key, value FROM capture"))
+    return known["boottime"] - known["begin_ts"] if known.get("boottime") is not None else 0
+
+
+def check_calls(what: str, tool: TraceProcessor, path: pathlib.Path, database: sqlite3.Connection, found: Counter,
+                fail: Fail) -> None:
+    """The calls of the database as slices: times, durations, what they are in, and whose they are."""
+    shift = shift_of(database, path.name)
+    rows = {one[0]: one for one in tool.ask(path, SLICES.format(ARGUMENTS[path.name]))}
+    calls = {place: (cat, parent, ts + shift, dur, *who) for place, cat, parent, ts, dur, *who in database.execute(
+        "SELECT c.place, iif(side = 'made', 'call', 'served'), parent, c.ts, c.dur, t.tid, p.pid, t.name, p.name"
+        " FROM call c JOIN thread t USING (utid) JOIN process p ON p.upid = c.upid")}
+    found["calls"] += len(calls)
+    seen = set()
+    for _, parent, place, ts, dur, cat, tid, pid, thread, process in rows.values():
+        if cat not in ("call", "served"):
+            continue
+        seen.add(int(place))
+        outer = rows.get(parent)
+        while outer and outer[5] not in ("call", "served"):
+            outer = rows.get(outer[1])
+        due = calls[int(place)]
+        came = (cat, int(outer[2]) if outer else None, int(ts), int(dur) if due[3] is not None else None, int(tid),
+                int(pid), thread or None, process)
+        if path.name == JSON:  # its processes have the numbers of the capture
+            came, due = (*came[:4], *came[6:7]), (*due[:4], *due[6:7])
+        compare(f"{what}: the call at {place}", came, (*due[:7], due[7] or "process") if path.name != JSON else due, fail)
+        found["times and nesting"] += 1
+        found["durations"] += due[3] is not None
+    compare(f"{what}: calls", seen, set(calls), fail)
+
+
+def check_counts(what: str, tool: TraceProcessor, path: pathlib.Path, told: dict[str, object],
+                 database: sqlite3.Connection, found: Counter, fail: Fail) -> None:
+    """All that a timeline says of itself is there."""
+    came = {name: int(count or 0) for name, count in tool.ask(path, COUNTS)}
+    oneway, = database.execute("SELECT (SELECT count(*) FROM send WHERE oneway AND kind LIKE 'BC_TR%') + (SELECT"
+                               " count(*) FROM delivery WHERE oneway)").fetchone()
+    instants = sum(count for name, count in came.items() if name.startswith(("slices death", "slices e", "slices f",
+                                                                            "slices lost", "slices spam")))
+    pairs = database.execute(PAIRS).fetchall()
+    flows = Counter("flows oneway -> oneway" if pair[2] else "flows call -> served" for pair in pairs)
+    compare(f"{what}: counts", (came["slices oneway"] if oneway else 0, came.get("slices queue", 0), instants,
+                                came["counter values"], came["open slices"]),
+            (oneway, told["queue_slices"], told["instants"], told["counter_events"], 0), fail)
+    compare(f"{what}: flows", {name: count for name, count in came.items() if name.startswith("flows")}, flows, fail)
+    for name in ("slices oneway", "slices queue", "counter values", "on tracks of findings"):
+        found[name.removeprefix("slices ")] += came.get(name, 0)
+    found["instants"] += instants
+    found["flows"] += sum(flows.values())
+
+
+def check_transactions(what: str, tool: TraceProcessor, path: pathlib.Path, database: sqlite3.Connection,
+                       found: Counter, fail: Fail) -> None:
+    """The certain pairs that `android.binder` finds, and why it does not find others."""
+    pairs = {(place, delivery): more for place, delivery, *more in database.execute(PAIRS)}
+    came = {(int(client), int(server)): (int(client_dur), int(server_dur), int(sync), interface, method)
+            for client, server, client_dur, server_dur, sync, interface, method in tool.ask(path, TRANSACTIONS)}
+    compare(f"{what}: pairs that are not of the database", set(came) - set(pairs), set(), fail)
+    found["certain pairs"] += len(pairs)
+    found["of android.binder"] += len(came)
+    found["with interface and method"] += sum(bool(one[3] and one[4]) for one in came.values())
+    for pair, (client, server, sync, *_) in came.items():
+        oneway, *durations, _, _ = pairs[pair]
+        compare(f"{what}: the sort of {pair}", sync, 1 - bool(oneway), fail)
+        for dur, due in zip((client, server), durations):
+            if sync and due is not None:
+                compare(f"{what}: how long {pair} took", dur, due, fail)
+                found["durations of android.binder"] += 1
+    for pair in set(pairs) - set(came):
+        _, client, server, verdict, served = pairs[pair]
+        found[f"not found: client {verdict}, {'ended' if client is not None else 'open'}; server {served},"
+              f" {'ended' if server is not None else 'open'}"] += 1
+        ends = tool.ask(path, f"SELECT ts + dur, dur FROM slice WHERE extract_arg(arg_set_id, 'debug.place') IN {pair}"
+                              " ORDER BY ts")
+        compare(f"{what}: {pair} is not found, and its client is not shorter", int(ends[0][1]) < int(ends[1][1]), True,
+                fail)
+
+
+def write_timelines(database: sqlite3.Connection, room: pathlib.Path) -> None:
+    for name in ARGUMENTS:
+        (room / name).unlink(missing_ok=True)
+        trace.write(database, room / name, Window(), name, name == ANDROID)
+
+
+def told_by(tool: TraceProcessor, path: pathlib.Path) -> dict[str, object]:
+    return {name.removeprefix("trace_attribute."): int(number) if number else text for name, number, text in
+            tool.ask(path, "SELECT name, int_value, str_value FROM metadata WHERE name GLOB 'trace_attribute*'")}
+
+
+def check_alone(tool: TraceProcessor, folder: pathlib.Path, room: pathlib.Path, found: dict[str, Counter], fail: Fail
+                ) -> None:
+    for what, files, side in captures():
+        database = loaded(folder, room / f"{what}.db", files, side)
+        write_timelines(database, room)
+        told = told_by(tool, room / PLAIN)
+        for name in ARGUMENTS:
+            path = room / name
+            compare(f"{what}, {name}: faults", tool.ask(path, FAULTS), [], fail)
+            check_calls(f"{what}, {name}", tool, path, database, found[name], fail)
+            check_counts(f"{what}, {name}", tool, path, told, database, found[name], fail)
+            found[name]["captures"] += 1
+        check_transactions(what, tool, room / ANDROID, database, found[ANDROID], fail)
+        database.close()
+
+
+def ask_perfetto(folder: pathlib.Path, room: pathlib.Path, program: pathlib.Path, *, fail: Fail) -> None:
+    tool = TraceProcessor(program)
+    found = {name: Counter() for name in ARGUMENTS}
+    check_alone(tool, folder, room, found, fail)
+    names = dict.fromkeys(name for counts in found.values() for name in counts)
+    row("", *ARGUMENTS)
+    for name in names:
+        row(name, *(counts.get(name, "") for counts in found.values()))
