@@ -43,7 +43,7 @@ FROM slice s JOIN thread_track k ON k.id = s.track_id JOIN thread t USING (utid)
 # All but the calls: instants by category, queues, counters, flows by what they go between.
 COUNTS = """
 SELECT 'slices ' || category, count(*) FROM slice s JOIN track t ON t.id = s.track_id
-  WHERE category NOT IN ('call', 'served', 'aidl') AND t.name NOT GLOB 'binder_audit: [rm]*' GROUP BY 1
+  WHERE category NOT IN ('call', 'served', 'aidl') AND coalesce(t.name, '') NOT GLOB 'binder_audit: [rm]*' GROUP BY 1
 UNION ALL SELECT 'on tracks of findings', count(*) FROM slice s JOIN track t ON t.id = s.track_id
   WHERE t.name GLOB 'binder_audit: [rm]*'
 UNION ALL SELECT 'counter values', count(*) FROM counter
