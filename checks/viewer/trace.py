@@ -69,7 +69,7 @@ from viewer.timeline.tracks import Window
 
 # Captures with their side lists. Together they have calls within calls, queues, ends, gaps, refused sends and errors.
 WITH_SIDE = ("leaks", "oneway", "threads", "callbacks", "mourned", "held-back", "reuse", "embrace", "gaps", "two",
-             "errors", "forgetful", "hello-sessions")
+             "errors", "forgetful", "hello-sessions", "before")
 WITHOUT_SIDE = (("two-devices.cap",), ("rotated-1.cap", "rotated-2.cap"), ("refused-send.cap",), ("missing.cap",),
                 ("empty.cap",), ("references.cap",))
 
@@ -373,9 +373,10 @@ def check_early(folder: pathlib.Path, room: pathlib.Path, fail: Fail) -> None:
     """A delivery of a certain pair that was timed before its send is put at the time of its send, and counted."""
     database = loaded(folder, room / "early.db", *WITH_FILES["threads"])
     pairs = database.execute(
-        "SELECT s.place, a.ts, d.seq FROM send s JOIN record d ON d.place = s.delivery JOIN side_time a ON a.seq = s.seq"
-        f" WHERE s.place IN ({CERTAIN}) ORDER BY s.place").fetchall()
-    moved = pairs[::5]
+        "SELECT s.place, s.ts, d.seq, (SELECT max(ts) FROM frame f WHERE f.utid = d.utid AND f.seq < d.seq) FROM send s"
+        f" JOIN record d ON d.place = s.delivery WHERE s.place IN ({CERTAIN}) ORDER BY s.place").fetchall()
+    # Not those of which the thread did something else after the send: their times are raised anyway.
+    moved = [(place, ts, seq) for place, ts, seq, before in pairs if before is not None and before < ts - 2000][::5]
     database.executemany("UPDATE side_time SET ts = ? WHERE seq = ?", [(ts - 2000, seq) for _, ts, seq in moved])
     for name in ("early.json.gz", "early.pftrace"):
         read = read_of(database, room / name, fail)

@@ -43,10 +43,11 @@ class Walk:
         self.lanes = {out.lane_of(utid): Lane() for utid in tracks.upid_of}
         self.threads = {utid: Thread(utid, self.processes[upid], self.lanes[out.lane_of(utid)])
                         for utid, upid in tracks.upid_of.items()}
-        for upid in tracks.first_of:
-            self.processes[upid].head = out.head_of_process(self.processes[upid])
         for utid in sorted(tracks.shown):
-            self.threads[utid].head = out.head_of_thread(self.threads[utid])
+            thread = self.threads[utid]
+            if thread.process.head is None:
+                thread.process.head = out.head_of_process(thread.process)
+            thread.head = out.head_of_thread(thread)
         # When the sends were shown whose deliveries are still to come.
         self.sent: dict[int, int] = {}
         self.oneways: set[int] = set()
@@ -84,7 +85,8 @@ class Walk:
         return self.live and other is not None and thread.head is not None \
             and self.threads[other].head is not None and (self.is_whole or self.window.has(seq))
 
-    def queue(self, thread: Thread, called: object, place: int, begin: int, end: int, **fields: object) -> None:
+    def queue(self, thread: Thread, called: object, place: int, begin: int, end: int, fields: dict[str, object]
+              ) -> None:
         """How long a oneway transaction waited, in the process that gets it."""
         if thread.head is not None:
             self.out.queue(thread, called, place, begin, max(begin, end), fields)
@@ -202,10 +204,10 @@ class Walk:
              certain: int | None) -> None:
         """A oneway transaction that is not delivered in what is shown."""
         if delivery is not None and receiver is not None:
-            self.queue(self.threads[receiver], called, place, self.axis.ns, self.axis.end, end=self.at_end)
+            self.queue(self.threads[receiver], called, place, self.axis.ns, self.axis.end, {"end": self.at_end})
         elif delivery is None and certain and node in self.tracks.first_of:
             self.queue(self.threads[self.tracks.first_of[node]], called, place, self.axis.ns,
-                       min(self.axis.end, self.tracks.ended.get(node, self.axis.end)), end="never seen to come")
+                       min(self.axis.end, self.tracks.ended.get(node, self.axis.end)), {"end": "never seen to come"})
 
     def deliver(self, thread: Thread, row: tuple) -> None:
         (place, _, seq, _, utid, kind, code, flags, size, ptr, cookie, sender_pid, freed_by, verdict, closer, send,
@@ -232,7 +234,7 @@ class Walk:
         if oneway:
             if sent is not None and self.live:
                 fields = {"delivery": place, **({"fits": fits} if fits > 1 else {})}
-                self.queue(thread, called, send, max(self.entered, sent), self.axis.ns, **fields)
+                self.queue(thread, called, send, max(self.entered, sent), self.axis.ns, fields)
             self.push(Open(place, None, CAME, thread, called, values), flow, None)
         else:
             self.push(Open(place, closer, SERVED, thread, called, (*values, VERDICTS[verdict], closer)), flow, None)

@@ -60,7 +60,7 @@ def check_slices(what: str, database: sqlite3.Connection, read: Read, fail: Fail
                 places(database, query), fail)
     timed, told, fields = is_timed(database), read.told, fields_of(database)
     first = told.get("frame_at_zero", 0)
-    at = {place: (ts if timed else 1000 * (seq - first), read.thread_of(upid, thread, tid))
+    at = {place: (ts + read.shift if timed else 1000 * (seq - first), read.thread_of(upid, thread, tid))
           for place, ts, seq, upid, thread, tid in database.execute(
               "SELECT place, ts, seq, r.upid, thread, tid FROM record r JOIN thread USING (utid)")}
     closers = dict(database.execute("SELECT place, closer FROM call"))
@@ -152,8 +152,8 @@ def check_queues(what: str, database: sqlite3.Connection, read: Read, fail: Fail
                                 " ON d.place = s.delivery LEFT JOIN frame x ON x.seq = d.seq", (first,)))
     sent = dict(database.execute("SELECT place, iif(ts IS NULL, 1000 * (seq - ?), ts) FROM send", (first,)))
     for send, one in read.queues.items():
-        compare(f"{what}, queue {send}", (one.begin, one.end if send in got else one.end >= one.begin),
-                (sent[send], got.get(send, True)), fail)
+        came = one.begin - read.shift, one.end - read.shift if send in got else one.end >= one.begin
+        compare(f"{what}, queue {send}", came, (sent[send], got.get(send, True)), fail)
         compare(f"{what}, the end of queue {send}", "end" in one.args, send not in got, fail)
 
 
@@ -161,8 +161,8 @@ def check_read(what: str, database: sqlite3.Connection, read: Read, fail: Fail) 
     """What must hold in each format."""
     for part in (check_slices, check_flows, check_counters, check_instants, check_queues):
         part(what, database, read, fail)
-    compare(f"{what}, the axis", str(read.told["axis"]).split()[0],
-            "CLOCK_MONOTONIC" if is_timed(database) else "the", fail)
+    clock = "CLOCK_BOOTTIME" if read.shift else "CLOCK_MONOTONIC"
+    compare(f"{what}, the axis", str(read.told["axis"]).split()[0], clock if is_timed(database) else "the", fail)
     compare(f"{what}, what it says of itself",
             [read.told[name] for name in ("slices", "flows", "queue_slices", "counter_events", "instants")],
             [len(read.slices), len(read.flows), len(read.queues), read.counted, len(read.instants)], fail)

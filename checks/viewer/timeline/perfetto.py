@@ -146,9 +146,10 @@ def check_transactions(what: str, tool: TraceProcessor, path: pathlib.Path, data
         _, client, server, verdict, served = pairs[pair]
         found[f"not found: client {verdict}, {'ended' if client is not None else 'open'}; server {served},"
               f" {'ended' if server is not None else 'open'}"] += 1
-        ends = tool.ask(path, f"SELECT ts + dur, dur FROM slice WHERE extract_arg(arg_set_id, 'debug.place') IN {pair}"
-                              " ORDER BY ts")
-        compare(f"{what}: {pair} is not found, and its client is not shorter", int(ends[0][1]) < int(ends[1][1]), True,
+        durations = [int(dur) for dur, in tool.ask(
+            path, f"SELECT dur FROM slice WHERE extract_arg(arg_set_id, 'debug.place') IN {pair} AND category IN"
+                  " ('call', 'served') ORDER BY ts")]
+        compare(f"{what}: {pair} is not found, and its client takes {durations}", durations[0] < durations[1], True,
                 fail)
 
 

@@ -35,6 +35,7 @@ class Read:
     def __init__(self, database: sqlite3.Connection, fail: Fail, whole: bool = True):
         self.database, self.fail, self.whole = database, fail, whole
         self.told: dict[str, object] = {}
+        self.shift = 0  # how much later its times are than those of the side list
         self.slices: list[Slice] = []
         # The slices at the two ends of each flow between a send and its delivery, and those of each other one.
         self.flows: dict[int, list[Slice | Instant | None]] = defaultdict(list)

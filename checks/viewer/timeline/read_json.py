@@ -20,6 +20,8 @@ class ReadJson(Read):
         super().__init__(database, fail, whole)
         told = json.loads(gzip.decompress(path.read_bytes()))
         self.events, self.told = told["traceEvents"], told["otherData"]
+        if "boottime" in self.told:
+            self.shift = self.told["boottime"] - self.told["begin_ts"]
         self.names: dict[tuple[str, int, int], object] = {}
         self.async_: dict[int, Queue] = {}
         other = {(one["device"], one["process"]): one["pid"] for one in self.told["other_numbers"]}

@@ -184,8 +184,10 @@ class ReadPackets(Read):
             told = self.tracks[uuid]
             pid = message(self.tracks[told[5][0]][3][0])[1][0]
             name, device, process = OPENING.fullmatch(told[2][0].decode()).groups()
-            upid, = [upid for upid, of, number in self.database.execute(
+            upids = [upid for upid, of, number in self.database.execute(
                 "SELECT p.upid, coalesce(d.name, 'device ' || device), process FROM process p JOIN device d"
-                " USING (device)") if self.system[upid] == pid and of == (device or of)
+                " USING (device) ORDER BY p.upid") if self.system[upid] == pid and of == (device or of)
                 and number == int(process or number)]
-            self.count(upid, COUNTERS[name], value)
+            # A number that was given again has two tracks, one after the other.
+            which = self.pids[pid].index(told[5][0]) if len(upids) > 1 else 0
+            self.count(upids[which], COUNTERS[name], value)
