@@ -376,7 +376,7 @@ def check_early(folder: pathlib.Path, room: pathlib.Path, fail: Fail) -> None:
         "SELECT s.place, s.ts, d.seq, (SELECT max(ts) FROM frame f WHERE f.utid = d.utid AND f.seq < d.seq) FROM send s"
         f" JOIN record d ON d.place = s.delivery WHERE s.place IN ({CERTAIN}) ORDER BY s.place").fetchall()
     # Not those of which the thread did something else after the send: their times are raised anyway.
-    moved = [(place, ts, seq) for place, ts, seq, before in pairs if before is not None and before < ts - 2000][::5]
+    moved = [(place, ts, seq) for place, ts, seq, before in pairs if before is not None and before < ts - 2000][::2]
     database.executemany("UPDATE side_time SET ts = ? WHERE seq = ?", [(ts - 2000, seq) for _, ts, seq in moved])
     for name in ("early.json.gz", "early.pftrace"):
         read = read_of(database, room / name, fail)

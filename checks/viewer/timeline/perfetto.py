@@ -3,14 +3,18 @@
 import csv
 import io
 import pathlib
+import re
 import sqlite3
 import subprocess
+import tarfile
+import zipfile
 from collections import Counter
 from typing import Iterator
 
 from checks.kit.checking import Fail, compare, row
 from checks.kit.programs import DRIVER
-from checks.viewer.page.common import loaded
+from checks.viewer.page.common import loaded, texts_stored
+from checks.viewer.timeline.system_trace import AHEAD, SLEPT, SystemTrace
 from viewer.timeline import trace
 from viewer.timeline.tracks import Window
 
@@ -180,10 +184,107 @@ def check_alone(tool: TraceProcessor, folder: pathlib.Path, room: pathlib.Path, 
         database.close()
 
 
+# ---- together with a system trace
+
+
+PROCESSES = "SELECT pid, count(*) FROM process WHERE pid > 1 GROUP BY 1"
+# How many counters a process has that a system trace tells, and that a timeline tells.
+UNDER_ONE = """
+SELECT count(DISTINCT iif(k.name GLOB 'binder *', NULL, p.upid)),
+  count(DISTINCT iif(k.name GLOB 'binder *', p.upid, NULL)), count(DISTINCT p.upid), count(DISTINCT p.pid)
+FROM process_counter_track k JOIN process p USING (upid) WHERE k.id IN (SELECT track_id FROM counter)"""
+PHONE_S = "INCLUDE PERFETTO MODULE android.binder; SELECT count(*), sum(client_dur), sum(server_dur) FROM android_binder_txns"
+OURS = "SELECT extract_arg(arg_set_id, 'debug.place'), ts, dur FROM slice WHERE category IN ('call', 'served')"
+
+
+def joined(room: pathlib.Path, system: bytes, ours: bytes) -> Iterator[pathlib.Path]:
+    """Both traces as one: one behind the other, and in archives, as the page of Perfetto makes of several files."""
+    for name, data in (("both", system + ours), ("turned", ours + system)):
+        (room / f"{name}.pftrace").write_bytes(data)
+        yield room / f"{name}.pftrace"
+    for name, data in (("system", system), ("ours", ours)):
+        (room / f"{name}.pftrace").write_bytes(data)
+    with zipfile.ZipFile(room / "both.zip", "w") as packed:
+        for name in ("system", "ours"):
+            packed.write(room / f"{name}.pftrace", f"{name}.pftrace")
+    yield room / "both.zip"
+    with tarfile.open(room / "both.tar", "w", format=tarfile.USTAR_FORMAT) as archive:
+        for name in ("system", "ours"):
+            archive.add(room / f"{name}.pftrace", f"{name}.pftrace")
+    yield room / "both.tar"
+
+
+def check_joined(what: str, tool: TraceProcessor, room: pathlib.Path, database: sqlite3.Connection, system: SystemTrace,
+                 name: str, found: Counter, fail: Fail) -> None:
+    """Processes are one, all calls are there, at the system's times, and the phone's own transactions are as before."""
+    has_binder = name == PLAIN
+    phone = system.made(has_binder)
+    (room / "phone.pftrace").write_bytes(phone)
+    alone = tool.ask(room / "phone.pftrace", PHONE_S)
+    due = {place: (system.boottime(ts), system.boottime(ts + dur) - system.boottime(ts) if dur is not None else None)
+           for place, ts, dur in database.execute("SELECT place, ts, dur FROM call")}
+    pids = Counter(pid for pid, in database.execute("SELECT DISTINCT pid FROM process"))
+    for path in joined(room, phone, (room / name).read_bytes()):
+        told = f"{what}, {name}, {path.name}"
+        compare(f"{told}: faults", tool.ask(path, FAULTS), [], fail)
+        compare(f"{told}: processes", {int(pid): int(n) for pid, n in tool.ask(path, PROCESSES)}, dict(pids), fail)
+        theirs, ours, all_, numbers = map(int, tool.ask(path, UNDER_ONE)[0])
+        compare(f"{told}: processes with counters", (theirs, all_), (numbers, numbers), fail)
+        compare(f"{told}: processes with both counters", ours > 0, True, fail)
+        came = {int(place): (int(ts), int(dur)) for place, ts, dur in tool.ask(path, OURS)}
+        compare(f"{told}: calls", {place: (ts, dur if due[place][1] is not None else None)
+                                   for place, (ts, dur) in came.items()}, due, fail)
+        if has_binder:
+            compare(f"{told}: the phone's transactions", tool.ask(path, PHONE_S), alone, fail)
+            compare(f"{told}: the phone has some", int(alone[0][0]) > 0, True, fail)
+            found["transactions of the phone, alone and joined"] = f"{alone[0][0]}, {tool.ask(path, PHONE_S)[0][0]}"
+        found["joined traces"] += 1
+
+
+def side_of(sleeps: bool, room: pathlib.Path) -> pathlib.Path:
+    """The side list of `threads`, as if the phone of the system trace had been recorded: it says what the clocks showed,
+    and again after the sleep."""
+    _, side = texts_stored("threads")
+    begin = int(re.search(r"^(\d+) begin ", side, re.MULTILINE)[1])
+    frames = sorted(int(ts) for ts in re.findall(r"^(\d+) frame ", side, re.MULTILINE))
+    woke = frames[len(frames) // 2]
+    side = re.sub(r"( begin realtime=\d+)", rf"\1 boottime={begin + AHEAD}", side)
+    if sleeps:
+        side += f"{woke} clocks realtime=1 boottime={woke + AHEAD + SLEPT}\n"
+    (room / "threads.side").write_text(side)
+    return room / "threads.side"
+
+
+def check_clocks(tool: TraceProcessor, room: pathlib.Path, database: sqlite3.Connection, system: SystemTrace,
+                 found: Counter, fail: Fail) -> None:
+    """A timeline alone has its times on CLOCK_BOOTTIME, also after a sleep, and the wall clock."""
+    due = {place: system.boottime(ts) for place, ts in database.execute("SELECT place, ts FROM call")}
+    for name in (PLAIN, JSON):
+        rows = tool.ask(room / name, SLICES.format(ARGUMENTS[name]))
+        compare(f"alone, {name}", {int(row[2]): int(row[3]) for row in rows if row[5] in ("call", "served")}, due, fail)
+    compare("alone: faults", tool.ask(room / PLAIN, FAULTS), [], fail)
+    found["first call by the wall clock"] = tool.ask(room / PLAIN, "SELECT abs_time_str(min(ts)) FROM slice")[0][0]
+
+
+def check_system(tool: TraceProcessor, folder: pathlib.Path, room: pathlib.Path, found: dict[str, Counter], fail: Fail
+                 ) -> None:
+    for sleeps in (False, True):
+        database = loaded(folder, room / f"system-{sleeps}.db", [DRIVER / "threads/capture-1.cap"],
+                          side_of(sleeps, room))
+        write_timelines(database, room)
+        system = SystemTrace(database, sleeps)
+        for name in (PLAIN, ANDROID):
+            check_joined("slept" if sleeps else "awake", tool, room, database, system, name, found[name], fail)
+        if sleeps:
+            check_clocks(tool, room, database, system, found[PLAIN], fail)
+        database.close()
+
+
 def ask_perfetto(folder: pathlib.Path, room: pathlib.Path, program: pathlib.Path, *, fail: Fail) -> None:
     tool = TraceProcessor(program)
     found = {name: Counter() for name in ARGUMENTS}
     check_alone(tool, folder, room, found, fail)
+    check_system(tool, folder, room, found, fail)
     names = dict.fromkeys(name for counts in found.values() for name in counts)
     row("", *ARGUMENTS)
     for name in names:
