@@ -67,8 +67,9 @@ _binder_view() { # COMMAND WORD BEFORE
   COMPREPLY=()
   case $3 in
     --process | --thread | --from | --to) ;;
+    --names) _binder_audit_words "$2" android ;;
     *)
-      _binder_audit_options "$2" '--side --methods --symbols -o --database --groups --trace --process --thread --from --to --help'
+      _binder_audit_options "$2" '--side --methods --symbols -o --database --groups --trace --names --process --thread --from --to --help'
       ;;
   esac
 }

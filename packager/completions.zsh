@@ -85,6 +85,7 @@ case $service in
       '--database[keep the database]:database:_files' \
       '--groups[print the groups of findings]' \
       '--trace[write a timeline]:timeline:_files' \
+      '--names[names that slices get]:names:(android)' \
       '--process[narrow it to a process]:process:' \
       '--thread[narrow it to a thread]:thread:' \
       '--from[from this frame on]:sequence:' \

@@ -118,9 +118,12 @@ class Packets:
         self.size += size
 
     def tell_clocks(self, moments: list[Moment]) -> None:
-        """What the clocks showed, and that times are of CLOCK_MONOTONIC if they are times."""
+        """What the clocks showed, and that times are of CLOCK_MONOTONIC if they are times. The wall clock goes on as it
+        began: where it was set back, Perfetto would count an error."""
         for moment in moments:
-            shown = {BOOTTIME: moment.boottime, MONOTONIC: moment.monotonic, REALTIME: moment.realtime}
+            passed = moment.boottime - moments[0].boottime if moment.boottime is not None and \
+                moments[0].boottime is not None else moment.monotonic - moments[0].monotonic
+            shown = {BOOTTIME: moment.boottime, MONOTONIC: moment.monotonic, REALTIME: moments[0].realtime + passed}
             clocks = [message(CLOCKS, number(CLOCK, clock), number(CLOCK_TIME, time))
                       for clock, time in shown.items() if time is not None]
             first = number(PRIMARY_CLOCK, MONOTONIC if moment.boottime is None else BOOTTIME)

@@ -194,6 +194,9 @@ SELECT count(DISTINCT iif(k.name GLOB 'binder *', NULL, p.upid)),
   count(DISTINCT iif(k.name GLOB 'binder *', p.upid, NULL)), count(DISTINCT p.upid), count(DISTINCT p.pid)
 FROM process_counter_track k JOIN process p USING (upid) WHERE k.id IN (SELECT track_id FROM counter)"""
 PHONE_S = "INCLUDE PERFETTO MODULE android.binder; SELECT count(*), sum(client_dur), sum(server_dur) FROM android_binder_txns"
+STATES = """
+INCLUDE PERFETTO MODULE android.binder;
+SELECT DISTINCT thread_state_type, thread_state FROM android_sync_binder_thread_state_by_txn ORDER BY 1, 2"""
 OURS = "SELECT extract_arg(arg_set_id, 'debug.place'), ts, dur FROM slice WHERE category IN ('call', 'served')"
 
 
@@ -218,7 +221,7 @@ def check_joined(what: str, tool: TraceProcessor, room: pathlib.Path, database: 
                  name: str, found: Counter, fail: Fail) -> None:
     """Processes are one, all calls are there, at the system's times, and the phone's own transactions are as before."""
     has_binder = name == PLAIN
-    phone = system.made(has_binder)
+    phone = system.made(has_binder, not has_binder)
     (room / "phone.pftrace").write_bytes(phone)
     alone = tool.ask(room / "phone.pftrace", PHONE_S)
     due = {place: (system.boottime(ts), system.boottime(ts + dur) - system.boottime(ts) if dur is not None else None)
@@ -237,7 +240,11 @@ def check_joined(what: str, tool: TraceProcessor, room: pathlib.Path, database: 
         if has_binder:
             compare(f"{told}: the phone's transactions", tool.ask(path, PHONE_S), alone, fail)
             compare(f"{told}: the phone has some", int(alone[0][0]) > 0, True, fail)
-            found["transactions of the phone, alone and joined"] = f"{alone[0][0]}, {tool.ask(path, PHONE_S)[0][0]}"
+            found["transactions of the phone: alone, joined"] = f"{alone[0][0]}, {tool.ask(path, PHONE_S)[0][0]}"
+        else:
+            states = [tuple(one) for one in tool.ask(path, STATES)]
+            compare(f"{told}: who ran meanwhile", {("binder_reply", "Running"), ("binder_txn", "S")} <= set(states), True,
+                    fail)
         found["joined traces"] += 1
 
 

@@ -6,7 +6,7 @@ from typing import NamedTuple
 
 # Fields of TracePacket.
 FTRACE, PROCESS_TREE, CLOCK_SNAPSHOT, TIMESTAMP, PROCESS_STATS, SEQUENCE = 1, 2, 6, 8, 9, 10
-REALTIME, MONOTONIC, BOOTTIME = 1, 3, 6
+REALTIME, REALTIME_COARSE, MONOTONIC, MONOTONIC_COARSE, MONOTONIC_RAW, BOOTTIME = range(1, 7)
 
 # How far CLOCK_BOOTTIME is ahead when the recording begins, and how long the system sleeps in the middle.
 AHEAD, SLEPT = 7_000_000_000, 50_000_000_000
@@ -65,7 +65,9 @@ class SystemTrace:
         return ns + AHEAD + (SLEPT if self.middle is not None and ns >= self.middle else 0)
 
     def snapshot(self, ns: int) -> bytes:
-        clocks = ((BOOTTIME, self.boottime(ns)), (MONOTONIC, ns), (REALTIME, 10**18 + self.boottime(ns)))
+        boot, wall = self.boottime(ns), 10**18 + self.boottime(ns)
+        clocks = ((BOOTTIME, boot), (REALTIME_COARSE, wall), (MONOTONIC_COARSE, ns), (REALTIME, wall), (MONOTONIC, ns),
+                  (MONOTONIC_RAW, ns))
         return packet(CLOCK_SNAPSHOT, b"".join(field(1, fields(_1=clock, _2=time)) for clock, time in clocks) +
                       field(2, BOOTTIME))
 
@@ -87,16 +89,22 @@ class SystemTrace:
         return packet(FTRACE, field(1, cpu) + body)
 
     def switches(self) -> bytes:
-        """The client sleeps while its server runs: the processor of each, which has nothing else to do."""
-        def switch(before: int, state: int, after: int) -> bytes:
-            return field(4, fields(_1=str(before), _2=before, _3=120, _4=state, _5=str(after), _6=after, _7=120))
-        clients, servers = [], []
+        """Each thread has a processor of its own, and sleeps in its calls and while it has none to serve."""
+        changes: dict[int, list[tuple[int, bool]]] = {}
         for call in self.calls:
-            clients += [(call.begin + 1000, call.client, switch(call.client, 1, 0)),
-                        (call.end - 500, 0, switch(0, 0, call.client))]
-            servers += [(call.came - 500, 0, switch(0, 0, call.server)),
-                        (call.replied + 1000, call.server, switch(call.server, 1, 0))]
-        return self.ftrace(clients, 0) + self.ftrace(servers, 1)
+            changes.setdefault(call.client, []).extend([(call.begin + 1000, False), (call.end - 500, True)])
+            changes.setdefault(call.server, []).extend([(call.came - 500, True), (call.replied + 1000, False)])
+        made = b""
+        for cpu, (tid, times) in enumerate(sorted(changes.items())):
+            events, runs = [], None
+            for time, now in sorted(times):
+                if now != runs:
+                    before, after = (0, tid) if now else (tid, 0)
+                    events.append((time, before, field(4, fields(
+                        _1=str(before), _2=before, _3=120, _4=0 if now else 1, _5=str(after), _6=after, _7=120))))
+                runs = now
+            made += self.ftrace(events, cpu)
+        return made
 
     def binder(self) -> bytes:
         """The events of the driver."""
@@ -113,6 +121,7 @@ class SystemTrace:
 
     def made(self, has_binder: bool, has_switches: bool = False) -> bytes:
         more = self.snapshot(self.middle) if self.middle is not None else b""
-        return b"".join((self.snapshot(self.begin), more, self.tree(), self.stats(self.begin),
+        end = self.snapshot(self.begin + 10**10)
+        return b"".join((self.snapshot(self.begin), more, end, self.tree(), self.stats(self.begin),
                          self.stats(self.begin + 10**9), self.binder() if has_binder else b"",
                          self.switches() if has_switches else b""))
