@@ -20,8 +20,8 @@ list, of one device and of two, in parts and malformed:
   arguments name. The arguments are those of the record.
 - There is a slice for each call, each served call, each oneway send and each oneway delivery of the database, and a
   slice of a queue for each oneway transaction that certainly came or whose receiver is certain.
-- Flows are the certain pairs of transactions in the database, no others. Each goes from the slice of its send to that of
-  its delivery, even if the delivery has an earlier time, and in JSON hangs on no instant.
+- Flows are the certain pairs of transactions in the database, no others. Each goes from the slice of its send to that
+  of its delivery, even if the delivery has an earlier time, and in JSON hangs on no instant.
 - The counters end with what the process holds by the database, and reach the most that it held. Those of calls and of
   busy threads are at each time as many as there are slices.
 - There is an instant for each death, error, warning of spam, lost frame, end, and finding that is not normal.
@@ -120,8 +120,8 @@ def check_sample(folder: pathlib.Path, room: pathlib.Path, files: list[pathlib.P
 
 
 def check_devices(database: sqlite3.Connection, json: ReadJson, packets: ReadPackets, fail: Fail) -> None:
-    """Processes of one number on two devices have two tracks in JSON, each of which says its device, and are one process
-    of the system in the other format."""
+    """Processes of one number on two devices have two tracks in JSON, each of which says its device, and are one
+    process of the system in the other format."""
     labels = {pid: label for (kind, pid, _), label in json.names.items() if kind == "process_labels"}
     due = Counter(f"device {device}" for device, in database.execute("SELECT device FROM process"))
     compare("two devices: labels", Counter(labels.values()), due, fail)
@@ -139,8 +139,8 @@ def check_android(what: str, database: sqlite3.Connection, room: pathlib.Path, f
     slice that says what is called."""
     names = {"call": {"binder transaction"}, "served": {"binder reply"},
              "oneway": {"binder transaction async", "binder async rcv"}}
-    read = ReadPackets(written(database, room / "android.pftrace", True), database, lambda line: fail(f"{what}: {line}"),
-                       False)
+    read = ReadPackets(written(database, room / "android.pftrace", True), database,
+                       lambda line: fail(f"{what}: {line}"), False)
     slices = [one for one in read.slices if one.cat != "aidl"]
     for cat, query in SLICES.items():
         compare(f"{what}, Android, {cat}", sorted(s.args["place"] for s in slices if s.cat == cat),
@@ -243,8 +243,8 @@ def check_small(folder: pathlib.Path, room: pathlib.Path, fail: Fail) -> None:
     for read in (json, packets):
         came = [(s.name, s.begin // 1000, s.end // 1000, s.args.get("end")) for s in read.slices if s.track[1] == 21]
         compare("the small capture, slices", came,
-                [("serve oneway code 5", 5, 6, None), ("serve oneway code 5", 6, 11, None), ("call code 7", 8, 11, None),
-                 ("serve oneway code 6", 10, 11, "the call around it ended")], fail)
+                [("serve oneway code 5", 5, 6, None), ("serve oneway code 5", 6, 11, None),
+                 ("call code 7", 8, 11, None), ("serve oneway code 6", 10, 11, "the call around it ended")], fail)
     database.close()
 
 
@@ -334,8 +334,8 @@ AHEAD, SLEPT = 5_000_000_123, 50_000_000_000
 
 
 def check_clock(folder: pathlib.Path, room: pathlib.Path, fail: Fail) -> None:
-    """With CLOCK_BOOTTIME in the side list all times of JSON are on that clock, as far as it was ahead then: more after a
-    sleep. Nothing else is another. In Perfetto's format the times stay, and it says what the clocks showed."""
+    """With CLOCK_BOOTTIME in the side list all times of JSON are on that clock, as far as it was ahead then: more after
+    a sleep. Nothing else is another. In Perfetto's format the times stay, and it says what the clocks showed."""
     lines = texts_stored("leaks")[1].splitlines()
     begin = next(int(line.split()[0]) for line in lines if " begin " in line)
     woke = begin + 800_000_000
@@ -471,8 +471,8 @@ def check_stopped(folder: pathlib.Path, room: pathlib.Path, fail: Fail) -> None:
         words = [folder / "view", DRIVER / "gaps/capture-1.cap", "--trace", name]
         ended = subprocess.run([sys.executable, "-c", STOPPED_AT, str(at), *words], cwd=room,
                                env={**os.environ, "TMPDIR": str(room / "tmp")})
-        compare(f"{name}, stopped at {at}", (ended.returncode, sorted(path.name for path in room.rglob("*"))), (143, ["tmp"]),
-                fail)
+        left = sorted(path.name for path in room.rglob("*"))
+        compare(f"{name}, stopped at {at}", (ended.returncode, left), (143, ["tmp"]), fail)
 
 
 def has_child() -> bool:

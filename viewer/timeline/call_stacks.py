@@ -34,7 +34,8 @@ class CallStacks:
     def frame(self, pc: int, path: str | None, build_id: str | None, address: int | None, function: str | None) -> int:
         """A function, at the place that the symbols of its file count; where nothing is mapped, at its address."""
         number_of = self.interned.number_of
-        body = number(MAPPING, self.mapping(path, build_id)) + number(PLACE, (pc if address is None else address) % 2**64)
+        place = pc if address is None else address
+        body = number(MAPPING, self.mapping(path, build_id)) + number(PLACE, place % 2**64)
         if function:
             body += number(FUNCTION, number_of(FUNCTION_NAMES, function.encode(errors="replace")))
         return number_of(FRAMES, body, False)

@@ -2,7 +2,7 @@
 
 import functools
 import json
-from typing import Mapping
+from typing import Callable, Iterator, Mapping
 
 from viewer.timeline.events import (ADDRESSES, ALL_COUNTERS, ARGUMENTS, CALL, CATEGORIES, COUNTERS, SENT, SORTS, TEXTS,
                                     VERBS, Called, Finding, Process, Thread)
@@ -29,7 +29,7 @@ class Known(dict[object, str]):
         return self.setdefault(value, self.form.format(json.dumps(value)))
 
 
-def writer_of(name: str):
+def writer_of(name: str) -> Callable[[object], str]:
     """How an argument of this name is written."""
     if name in ADDRESSES:
         return lambda value: f'"{name}":{hexadecimal(value)}'
@@ -85,7 +85,7 @@ class JsonEvents:
             numbers[row.upid] = number
         return numbers
 
-    def metadata(self):
+    def metadata(self) -> Iterator[str]:
         """The events that name the tracks."""
         shown = [row for row in self.tracks.processes if row.upid in self.tracks.first_of]
         for order, row in enumerate(shown):

@@ -152,7 +152,8 @@ class Packets:
 
     def label_of(self, row: ProcessRow) -> str:
         """The device of an opening, and the number that it has in the capture, if that is another one."""
-        return row.device_name + (f", process {row.process} of the capture" if row.pid not in (None, row.process) else "")
+        other = f", process {row.process} of the capture" if row.pid not in (None, row.process) else ""
+        return row.device_name + other
 
     def lane_of(self, utid: int) -> tuple[int, int]:
         return self.system.lane_of[utid]

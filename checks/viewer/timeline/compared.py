@@ -26,6 +26,17 @@ QUEUES = ("SELECT s.place FROM send s LEFT JOIN node_of n USING (generation) WHE
           " 'BC_TRANSACTION%' AND iif(s.delivery IS NULL, outcome <> 'refused' AND n.certain, s.certain)")
 
 
+# Arguments of some slices.
+OTHERS = {
+    "interface": "SELECT place, interface FROM record WHERE interface NOTNULL AND code NOTNULL",
+    "refused": "SELECT place, refused FROM send WHERE refused NOTNULL AND oneway",
+    "from": "SELECT s.delivery, who FROM send s JOIN who USING (upid) WHERE s.certain AND s.kind LIKE 'BC_TRANSACTION%'",
+    "to": "SELECT s.place, who || iif(n.certain, '', ', not certain') FROM send s JOIN node_of n USING (generation)"
+          " JOIN who w ON w.upid = n.upid"}
+# Arguments of slices that do not come of the records alone. The interface does if the data name it.
+INFERRED = {"service", "interface", "method", "begin", "end"}
+
+
 def places(database: sqlite3.Connection, query: str) -> list[int]:
     return sorted(place for place, in database.execute(query))
 
@@ -42,10 +53,11 @@ def fields_of(database: sqlite3.Connection) -> dict[int, dict[str, object]]:
         told = {"place": place, "seq": seq % 2**64, "code": code, "data_size": size}
         found[place] = {**told, "handle": handle} if ptr is None else \
             {**told, "ptr": hex(ptr % 2**64), "cookie": hex(cookie % 2**64), "sender_pid": sender}
-    for place, interface in database.execute("SELECT place, interface FROM record WHERE interface NOTNULL"):
-        found[place]["interface"] = interface
     for place, verdict, closer in database.execute("SELECT place, verdict, closer FROM call"):
         found[place] |= {"verdict": verdict} | ({} if closer is None else {"closer": closer})
+    for name, query in OTHERS.items():
+        for place, value in database.execute(query):
+            found[place][name] = value
     for place, delivery, fits in database.execute(
             "SELECT place, delivery, fits FROM send WHERE certain AND kind LIKE 'BC_TRANSACTION%'"):
         more = {} if fits == 1 else {"fits": fits}
@@ -71,8 +83,8 @@ def check_slices(what: str, database: sqlite3.Connection, read: Read, fail: Fail
     for one in read.slices:
         place = one.args["place"]
         compare(f"{what}, the beginning of {one.args}", (one.begin, one.track), at[place], fail)
-        compare(f"{what}, the arguments at {place}", {name: one.args.get(name) for name in fields[place]},
-                fields[place], fail)
+        came = {name: value for name, value in one.args.items() if name not in INFERRED or name in fields[place]}
+        compare(f"{what}, the arguments at {place}", came, fields[place], fail)
         closer = closers.get(place)
         if closer is not None:
             compare(f"{what}, the end of {one.args}", (one.end, one.args.get("end")), (at[closer][0], None), fail)
@@ -190,22 +202,23 @@ def check_findings(what: str, database: sqlite3.Connection, read: ReadPackets, f
     """Each finding that is real or maybe is on a track above the processes, and a flow links it with its record and
     with what is one with it."""
     for verdict in ("real", "maybe"):
-        compare(f"{what}, findings {verdict}", sorted(i.args["place"] for i in read.findings[f"binder_audit: {verdict}"]),
-                places(database, INSTANTS[f"finding,{verdict}"]), fail)
+        came = sorted(i.args["place"] for i in read.findings[f"binder_audit: {verdict}"])
+        compare(f"{what}, findings {verdict}", came, places(database, INSTANTS[f"finding,{verdict}"]), fail)
     one_of = database.execute(
         "SELECT coalesce(f.lead, f.id), f.place, r.verdict IN ('real', 'maybe') FROM finding f JOIN rule r ON r.id ="
         " f.rule WHERE f.place NOTNULL AND f.utid NOTNULL AND r.verdict <> 'normal'").fetchall()
     due: dict[int, list[int]] = {}
     for one, place, has_track in one_of:
         due.setdefault(one, []).extend([place] * (1 + has_track))
-    compare(f"{what}, what is one finding", sorted(sorted(i.args["place"] for i in link) for link in read.links.values()),
-            sorted(map(sorted, due.values())), fail)
+    came_as_one = sorted(sorted(i.args["place"] for i in link) for link in read.links.values())
+    compare(f"{what}, what is one finding", came_as_one, sorted(map(sorted, due.values())), fail)
 
 
 def check_colours(what: str, read: ReadPackets, fail: Fail) -> None:
     """Both ends of a certain pair have one number, by which they have one colour, and no others have it."""
-    compare(f"{what}, what has one colour", sorted([s.args["place"] for s in pair] for pair in read.correlated.values()),
-            sorted([s.args["place"] for s in pair] for pair in read.flows.values()), fail)
+    came, due = (sorted([s.args["place"] for s in pair] for pair in pairs.values())
+                 for pairs in (read.correlated, read.flows))
+    compare(f"{what}, what has one colour", came, due, fail)
 
 
 def check_stacks(what: str, database: sqlite3.Connection, read: ReadPackets, fail: Fail) -> None:

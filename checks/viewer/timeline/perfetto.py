@@ -101,9 +101,10 @@ def check_calls(what: str, tool: TraceProcessor, path: pathlib.Path, database: s
         due = calls[int(place)]
         came = (cat, int(outer[2]) if outer else None, int(ts), int(dur) if due[3] is not None else None, int(tid),
                 int(pid), thread or None, process)
+        due = *due[:7], due[7] or "process"
         if path.name == JSON:  # its processes have the numbers of the capture
-            came, due = (*came[:4], *came[6:7]), (*due[:4], *due[6:7])
-        compare(f"{what}: the call at {place}", came, (*due[:7], due[7] or "process") if path.name != JSON else due, fail)
+            came, due = (*came[:4], came[6]), (*due[:4], due[6])
+        compare(f"{what}: the call at {place}", came, due, fail)
         found["times and nesting"] += 1
         found["durations"] += due[3] is not None
     compare(f"{what}: calls", seen, set(calls), fail)
@@ -193,7 +194,9 @@ UNDER_ONE = """
 SELECT count(DISTINCT iif(k.name GLOB 'binder *', NULL, p.upid)),
   count(DISTINCT iif(k.name GLOB 'binder *', p.upid, NULL)), count(DISTINCT p.upid), count(DISTINCT p.pid)
 FROM process_counter_track k JOIN process p USING (upid) WHERE k.id IN (SELECT track_id FROM counter)"""
-PHONE_S = "INCLUDE PERFETTO MODULE android.binder; SELECT count(*), sum(client_dur), sum(server_dur) FROM android_binder_txns"
+PHONE_S = """
+INCLUDE PERFETTO MODULE android.binder;
+SELECT count(*), sum(client_dur), sum(server_dur) FROM android_binder_txns"""
 STATES = """
 INCLUDE PERFETTO MODULE android.binder;
 SELECT DISTINCT thread_state_type, thread_state FROM android_sync_binder_thread_state_by_txn ORDER BY 1, 2"""
@@ -243,14 +246,14 @@ def check_joined(what: str, tool: TraceProcessor, room: pathlib.Path, database: 
             found["transactions of the phone: alone, joined"] = f"{alone[0][0]}, {tool.ask(path, PHONE_S)[0][0]}"
         else:
             states = [tuple(one) for one in tool.ask(path, STATES)]
-            compare(f"{told}: who ran meanwhile", {("binder_reply", "Running"), ("binder_txn", "S")} <= set(states), True,
-                    fail)
+            compare(f"{told}: who ran meanwhile",
+                    {("binder_reply", "Running"), ("binder_txn", "S")} <= set(states), True, fail)
         found["joined traces"] += 1
 
 
 def side_of(sleeps: bool, room: pathlib.Path) -> pathlib.Path:
-    """The side list of `threads`, as if the phone of the system trace had been recorded: it says what the clocks showed,
-    and again after the sleep."""
+    """The side list of `threads`, as if the phone of the system trace had been recorded: it says what the clocks
+    showed, and again after the sleep."""
     _, side = texts_stored("threads")
     begin = int(re.search(r"^(\d+) begin ", side, re.MULTILINE)[1])
     frames = sorted(int(ts) for ts in re.findall(r"^(\d+) frame ", side, re.MULTILINE))
