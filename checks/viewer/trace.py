@@ -43,6 +43,7 @@ It takes some 5 seconds of the processor.
 """
 
 import argparse
+import gzip
 import os
 import pathlib
 import re
@@ -322,6 +323,8 @@ def check_hostile(folder: pathlib.Path, room: pathlib.Path, fail: Fail) -> None:
                                               flags=re.MULTILINE))
     database = loaded(folder, room / "hostile.db", [DRIVER / "leaks/capture-1.cap"], room / "hostile.side")
     json, packets = check_formats("hostile names", database, room, fail)
+    compare("a sign that is written as two", b"\\ud83d" in gzip.decompress((room / "out.json.gz").read_bytes()), False,
+            fail)
     name = HOSTILE.replace("\\x09", "\t").replace("\\x0a", "\n")
     compare("hostile names", sorted(pid for (kind, pid, _), told in json.names.items()
                                     if told == name and kind == "process_name"), [143, 146], fail)

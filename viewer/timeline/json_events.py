@@ -12,6 +12,13 @@ from viewer.timeline.tracks import Axis, Tracks
 # The first number that a process gets in place of its own if that is taken by a process of another device.
 OTHER_NUMBERS = 1_000_000_000
 
+# Signs that are not of ASCII stay as they are: Perfetto 56 refuses a file in which one above U+FFFF is written as two.
+dumps = functools.partial(json.dumps, ensure_ascii=False)
+
+
+def encoded(text: str) -> bytes:
+    return text.encode(errors="replace")
+
 
 @functools.lru_cache(4096)
 def hexadecimal(value: int) -> str:
@@ -26,7 +33,7 @@ class Known(dict[object, str]):
         self.form = form
 
     def __missing__(self, value: object) -> str:
-        return self.setdefault(value, self.form.format(json.dumps(value)))
+        return self.setdefault(value, self.form.format(dumps(value)))
 
 
 def writer_of(name: str) -> Callable[[object], str]:
@@ -39,7 +46,7 @@ def writer_of(name: str) -> Callable[[object], str]:
 def text_of(fields: Mapping[str, object]) -> str:
     """Other arguments, within their brackets."""
     return ",".join(f'"{name}":{hexadecimal(value)}' if name in ADDRESSES and isinstance(value, int) else
-                    f'"{name}":{json.dumps(value)}' for name, value in fields.items())
+                    f'"{name}":{dumps(value)}' for name, value in fields.items())
 
 
 class JsonCalled:
@@ -47,7 +54,7 @@ class JsonCalled:
     __slots__ = "middles", "arguments", "label"
 
     def __init__(self, called: Called):
-        self.label = json.dumps(called.label)[1:-1]
+        self.label = dumps(called.label)[1:-1]
         self.middles = [f'"cat":"{CATEGORIES[sort]}","name":"{VERBS[sort]} {self.label}","args":{{' for sort in SORTS]
         self.arguments = text_of(called.fields())
 
@@ -98,11 +105,11 @@ class JsonEvents:
             label = row.device_name + (f", pid {row.pid}" if row.pid not in (None, row.process) else "")
             for kind, fields in (("process_name", {"name": title}), ("process_labels", {"labels": label}),
                                  ("process_sort_index", {"sort_index": order})):
-                yield f'{{"ph":"M",{head},"name":"{kind}","args":{json.dumps(fields)}}}'
+                yield f'{{"ph":"M",{head},"name":"{kind}","args":{dumps(fields)}}}'
         for row in self.tracks.threads:
             if row.name is not None and row.utid in self.tracks.shown:
                 head = self.heads[row.utid].removesuffix(',"ts":')
-                yield f'{{"ph":"M",{head},"name":"thread_name","args":{json.dumps({"name": row.name})}}}'
+                yield f'{{"ph":"M",{head},"name":"thread_name","args":{dumps({"name": row.name})}}}'
 
     # -- what the walk hands over
 
@@ -148,7 +155,7 @@ class JsonEvents:
         scope, head = ("t" if isinstance(where, Thread) else "p", where.head) if where is not None else \
             ("g", self.heads[min(self.tracks.shown)])
         self.instants.append(f'{{"ph":"i","s":"{scope}",{head}{self.time(ns)},"cat":"{category}",'
-                             f'"name":{json.dumps(name)},"args":{{{text_of(fields)}}}}}')
+                             f'"name":{dumps(name)},"args":{{{text_of(fields)}}}}}')
 
     def finding(self, thread: Thread, ns: int, finding: Finding) -> None:
         self.instant(thread, ns, f"finding,{finding.verdict}", f"{finding.verdict}: {finding.title}", finding.fields)
@@ -177,7 +184,7 @@ class JsonEvents:
 
     def flush(self) -> None:
         if self.events:
-            self.file.add((self.between + ",\n".join(self.events)).encode("ascii"))
+            self.file.add(encoded(self.between + ",\n".join(self.events)))
             self.events.clear()
             self.between = ",\n"
 
@@ -188,4 +195,4 @@ class JsonEvents:
         other = [{"pid": self.numbers[row.upid], "device": row.device, "process": row.process}
                  for row in self.tracks.processes
                  if row.upid in self.tracks.first_of and self.numbers[row.upid] != row.process]
-        self.file.add(f'{begin}\n],"otherData":{json.dumps({**told, "other_numbers": other})}}}\n'.encode("ascii"))
+        self.file.add(encoded(f'{begin}\n],"otherData":{dumps({**told, "other_numbers": other})}}}\n'))

@@ -185,6 +185,34 @@ def check_alone(tool: TraceProcessor, folder: pathlib.Path, room: pathlib.Path, 
         database.close()
 
 
+# ---- names of strangers
+
+
+HOSTILE = '"},{"ph":"B\\x09\\x0a</script>%s\u202e\U0001f600::x'
+NAMES = """
+SELECT hex(name) FROM process WHERE pid > 0 AND name NOTNULL UNION SELECT hex(name) FROM thread WHERE tid > 0 AND
+  name NOTNULL"""
+
+
+def check_hostile(tool: TraceProcessor, folder: pathlib.Path, room: pathlib.Path, fail: Fail) -> None:
+    """Names of processes, threads and methods come as they are."""
+    _, side = texts_stored("hello-answers")
+    (room / "hostile.side").write_text(re.sub("name=.*$", lambda _: "name=" + HOSTILE, side, flags=re.MULTILINE))
+    database = loaded(folder, room / "hostile.db", [DRIVER / "hello-answers/capture-1.cap"], room / "hostile.side")
+    database.execute("INSERT OR REPLACE INTO method SELECT i.name, r.code, ?, '-' FROM interface i, (SELECT DISTINCT code"
+                     " FROM raw_record WHERE code NOTNULL) r", (HOSTILE,))
+    write_timelines(database, room)
+    name = HOSTILE.replace("\\x09", "\t").replace("\\x0a", "\n")
+    for path in (room / PLAIN, room / ANDROID, room / JSON):
+        compare(f"hostile names, {path.name}: faults", tool.ask(path, FAULTS), [], fail)
+        compare(f"hostile names, {path.name}: names", {bytes.fromhex(one).decode() for one, in tool.ask(path, NAMES)},
+                {name}, fail)
+        methods = tool.ask(path, f"SELECT DISTINCT hex(extract_arg(arg_set_id, '{ARGUMENTS[path.name]}.method')) FROM"
+                                 " slice WHERE category = 'call'")
+        compare(f"hostile names, {path.name}: methods", [HOSTILE.encode().hex().upper()] in methods, True, fail)
+    database.close()
+
+
 # ---- together with a system trace
 
 
@@ -294,6 +322,7 @@ def ask_perfetto(folder: pathlib.Path, room: pathlib.Path, program: pathlib.Path
     tool = TraceProcessor(program)
     found = {name: Counter() for name in ARGUMENTS}
     check_alone(tool, folder, room, found, fail)
+    check_hostile(tool, folder, room, fail)
     check_system(tool, folder, room, found, fail)
     names = dict.fromkeys(name for counts in found.values() for name in counts)
     row("", *ARGUMENTS)
