@@ -3,7 +3,7 @@
 from typing import Callable
 
 from viewer.timeline.events import ADDRESSES, PLACES
-from viewer.timeline.wire import LAST, LENGTH, PAIRS, VARINT, key, message, number, varint
+from viewer.timeline.wire import BITS, LAST, LENGTH, MORE, PAIRS, VARINT, key, message, number, varint
 
 # Fields of InternedData.
 CATEGORY_NAMES, EVENT_NAMES, ARGUMENT_NAMES, ARGUMENT_TEXTS = 1, 2, 3, 29
@@ -90,6 +90,7 @@ def writer_of_places(called: bytes) -> Callable[[int], bytes]:
     heads = [key(ARGUMENT, LENGTH) + varint(len(head) + length) + head for length in range(LONGEST_VARINT + 1)]
 
     def write(value: int) -> bytes:
-        made = LAST[value] if value < PAIRS else varint(value)
+        made = LAST[value] if value < PAIRS else MORE[value & PAIRS - 1] + LAST[value >> BITS] \
+            if value < PAIRS * PAIRS else varint(value)
         return heads[len(made)] + made
     return write

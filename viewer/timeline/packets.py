@@ -11,19 +11,20 @@ from typing import Mapping
 
 from viewer.timeline.call_stacks import CallStacks
 from viewer.timeline.clocks import Moment
-from viewer.timeline.events import (ALL_COUNTERS, ARGUMENTS, CATEGORIES, SORTS, VERBS, Called, Finding, Process, Thread)
+from viewer.timeline.events import ARGUMENTS, CATEGORIES, SORTS, VERBS, Called, Finding, Process, Thread
 from viewer.timeline.interned import CATEGORY, CATEGORY_NAMES, EVENT_NAME, EVENT_NAMES, Interned
 from viewer.timeline.packed import File
 from viewer.timeline.system import System
 from viewer.timeline.tracks import Axis, ProcessRow, Tracks
-from viewer.timeline.wire import LENGTH, VARINT, fixed, key, message, number, text, varint
+from viewer.timeline.wire import LENGTH, LENGTHS, PAIRS, VARINT, fixed, key, message, number, text, varint
 
 # The only field of Trace, and those of TracePacket.
 PACKET = 1
 CLOCK_SNAPSHOT, TIMESTAMP, SEQUENCE, TRACK_EVENT, INTERNED_DATA, FLAGS = 6, 8, 10, 11, 12, 13
 CLOCK_ID, DEFAULTS, TRACK_DESCRIPTOR, FIRST_ON_SEQUENCE, ATTRIBUTES = 58, 59, 60, 87, 126
 STATE_CLEARED, NEEDS_STATE = 1, 2
-PACKET_KEY = key(PACKET, LENGTH)
+PACKET_HEADS = [key(PACKET, LENGTH) + length for length in LENGTHS]
+LENGTH_BYTES = len(LENGTHS[0])
 
 # TrackEvent.
 TYPE, TRACK, COUNTER_VALUE, EXTRA_TRACKS, EXTRA_VALUES, FLOWS, CORRELATION = 9, 11, 30, 31, 12, 47, 52
@@ -53,6 +54,10 @@ FINDINGS, OTHERS = "binder_audit: {}", "binder_audit: of no process"
 
 # The number of this sequence of packets: "BIND". Those of `traced` count from 1.
 SEQUENCE_NUMBER = 0x42494E44
+
+# What comes before the time of an event, and before the event.
+EVENT_BEGIN = number(SEQUENCE, SEQUENCE_NUMBER) + number(FLAGS, NEEDS_STATE) + key(TIMESTAMP, VARINT)
+EVENT_KEY = key(TRACK_EVENT, LENGTH)
 
 # So many bytes are handed to the file at a time.
 CHUNK = 2**18
@@ -87,8 +92,8 @@ class Packets:
         self.uuids = itertools.count(self.recording % 2**BITS_OF_NUMBERS << BITS_OF_NUMBERS)
         self.parts: list[bytes] = []
         self.size = 0
-        self.tail = number(SEQUENCE, SEQUENCE_NUMBER) + number(FLAGS, NEEDS_STATE)
-        self.ns, self.at = -1, b""
+        self.new = self.interned.new
+        self.ns, self.at, self.around = -1, b"", 0
         self.arguments = [[self.interned.writer(name) for name in names] for names in ARGUMENTS]
         self.processes: dict[int, int] = {}
         self.lanes: dict[tuple[int, int], bytes] = {}
@@ -107,15 +112,19 @@ class Packets:
     def event(self, ns: int, body: bytes) -> None:
         """A packet with a TrackEvent."""
         if ns != self.ns:
-            self.ns, self.at = ns, number(TIMESTAMP, ns) + key(TRACK_EVENT, LENGTH)
-        tail = self.tail
-        if self.interned.new:
-            tail += message(INTERNED_DATA, *self.interned.new)
-            self.interned.new.clear()
-        length = varint(len(body))
-        size = len(self.at) + len(length) + len(body) + len(tail)
-        self.parts += PACKET_KEY, varint(size), self.at, length, body, tail
-        self.size += size
+            self.ns, self.at = ns, EVENT_BEGIN + varint(ns) + EVENT_KEY
+            self.around = len(self.at) + LENGTH_BYTES
+        if self.new:
+            self.packet(message(INTERNED_DATA, *self.new), number(FLAGS, NEEDS_STATE))
+            self.new.clear()
+        length = len(body)
+        size = length + self.around
+        if size < PAIRS:
+            self.parts += PACKET_HEADS[size], self.at, LENGTHS[length], body
+            self.size += size
+        else:
+            self.parts.append(message(PACKET, self.at + varint(length) + body))
+            self.size += size
 
     def tell_clocks(self, moments: list[Moment]) -> None:
         """What the clocks showed, and that times are of CLOCK_MONOTONIC if they are times. The wall clock goes on as it
@@ -259,11 +268,9 @@ class Packets:
         tracks = self.counters.get(process.upid)
         if tracks is None:
             tracks = self.counters[process.upid] = self.counter_tracks(process)
-        now, shown, body, zeros, changed = process.now, process.shown, b"", b"", 0
-        for at in ALL_COUNTERS:
-            value = now[at]
-            if value != shown[at]:
-                own, extra = tracks[at]
+        body, zeros, changed = b"", b"", 0
+        for value, before, (own, extra) in zip(process.now, process.shown, tracks):
+            if value != before:
                 changed += 1
                 if not body:
                     body = own + varint(value)

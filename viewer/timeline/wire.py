@@ -9,6 +9,9 @@ PAIRS = 1 << BITS
 LAST = [bytes((n,)) if n < 128 else bytes((n & 127 | 128, n >> 7)) for n in range(PAIRS)]
 MORE = [bytes((n & 127 | 128, n >> 7 | 128)) for n in range(PAIRS)]
 
+# The same, always of two bytes, as lengths may be: so what they add to a message is known before.
+LENGTHS = [bytes((n & 127 | 128, n >> 7)) for n in range(PAIRS)]
+
 VARINT, FIXED, LENGTH = 0, 1, 2
 
 
