@@ -9,7 +9,7 @@
     checks/run trace -- --cost BYTES [TIMES]
                                    prints what the timelines of so many bytes of traffic take, TIMES one after another;
                                    by hand
-    checks/run trace -- --perfetto TRACE_PROCESSOR [SYSTEM.pftrace]
+    checks/run trace -- --perfetto TRACE_PROCESSOR
                                    asks Perfetto's trace processor about timelines of all stored captures, alone and
                                    together with a system trace, and prints what it finds; by hand
 
@@ -36,10 +36,11 @@ list, of one device and of two, in parts and malformed:
   leaves nothing; a malformed capture has what comes before its fault, and status 2. The process that reads the
   database ends with the timeline.
 
+TRACE_PROCESSOR is trace_processor_shell of Perfetto 56, or a script that calls it; the system trace is made by hand.
 TRACE_VIEWER is the file trace_viewer_full.html of Catapult, with webcomponents.min.js beside it. Debian's package
 golang-1.19-src has both; its chromium has no chrome://tracing.
 
-It takes some 5 seconds of the processor.
+It takes some 12 seconds of the processor.
 """
 
 import argparse
@@ -526,7 +527,7 @@ def judge(given: argparse.Namespace, room: pathlib.Path, fail: Fail) -> None:
     elif given.cost:
         print_cost(room, *given.cost)
     elif given.perfetto:
-        ask_perfetto(built_programs(room, given.programs[0]), room, *given.perfetto, fail=fail)
+        ask_perfetto(built_programs(room, given.programs[0]), room, given.perfetto, fail)
     else:
         folder = built_programs(room, given.programs[0])
         for files, side in samples():
@@ -537,4 +538,4 @@ def judge(given: argparse.Namespace, room: pathlib.Path, fail: Fail) -> None:
 
 if __name__ == "__main__":
     check(judge, viewer={"nargs": "+"}, picture={"nargs": 2}, cost={"nargs": "+", "type": int},
-          perfetto={"nargs": "+", "type": pathlib.Path})
+          perfetto={"type": pathlib.Path})

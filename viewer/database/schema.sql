@@ -6,9 +6,9 @@
 -- needs: nothing
 -- makes: tables: raw_capture, raw_process, raw_thread, raw_frame, raw_record, raw_interface, raw_service, raw_object,
 --   raw_call, raw_generation, raw_send, raw_delivery, raw_level, side_device, side_process, side_thread, side_time,
---   side_lost, interface, service, method, call_interface, object_interface, object_service, status, side_missed,
---   side_calls, side_handle, book, book_opening, book_handle, book_node, book_buffer, book_call, disagreement,
---   side_call, side_pc, side_map, side_unstacked, side_clock, symbol, capture, report, finding; indexes:
+--   side_clock, side_lost, interface, service, method, call_interface, object_interface, object_service, status,
+--   side_missed, side_calls, side_handle, book, book_opening, book_handle, book_node, book_buffer, book_call,
+--   disagreement, side_call, side_pc, side_map, side_unstacked, symbol, capture, report, finding; indexes:
 --   side_process_of_pid, side_thread_of_tid
 
 PRAGMA user_version = 6;

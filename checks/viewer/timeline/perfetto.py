@@ -318,7 +318,7 @@ def check_system(tool: TraceProcessor, folder: pathlib.Path, room: pathlib.Path,
         database.close()
 
 
-def ask_perfetto(folder: pathlib.Path, room: pathlib.Path, program: pathlib.Path, *, fail: Fail) -> None:
+def ask_perfetto(folder: pathlib.Path, room: pathlib.Path, program: pathlib.Path, fail: Fail) -> None:
     tool = TraceProcessor(program)
     found = {name: Counter() for name in ARGUMENTS}
     check_alone(tool, folder, room, found, fail)
