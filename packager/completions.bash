@@ -81,9 +81,10 @@ _binder_view() { # COMMAND WORD BEFORE
   case $3 in
     --process | --thread | --from | --to) ;;
     --fail-on) _binder_audit_words "$2" 'real maybe' ;;
+    --names) _binder_audit_words "$2" android ;;
     *)
       _binder_audit_options "$2" '--side --methods --symbols -o --database --groups --against --fail-on --known --trace
-        --process --thread --from --to --help'
+        --names --process --thread --from --to --help'
       ;;
   esac
 }

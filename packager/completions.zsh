@@ -105,6 +105,7 @@ case $service in
       '--fail-on[end with status 10 if there is such a defect]:verdict:(real maybe)' \
       '--known[defects that are known]:file:_files' \
       '--trace[write a timeline]:timeline:_files' \
+      '--names[names that slices get]:names:(android)' \
       '--process[narrow it to a process]:process:' \
       '--thread[narrow it to a thread]:thread:' \
       '--from[from this frame on]:sequence:' \

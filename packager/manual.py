@@ -32,7 +32,7 @@ PAGES = (
     Page("binder-record", 1, "records the Binder traffic of a running system",
          {"RECORDER": ("./record", "The side list of record")}),
     Page(FIRST, 1, "shows a capture as a page, a database or a timeline",
-         {"../README": ("A leak, from a running system to its record",), "VIEW": ()}),
+         {"../README": ("A leak, from a running system to its record",), "VIEW": (), "PERFETTO": ()}),
     Page("binder-fleet", 1, "keeps what is found in many captures, and compares builds", {"FLEET": ()}),
     Page("binder-methods", 1, "makes a table of the methods of interfaces", {"VIEW": ("Names of methods",)}),
     Page("binder-capture", 5, "captures of Binder traffic", {"ENVELOPE": (), "COMMANDS": ()}),

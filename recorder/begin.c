@@ -1,45 +1,19 @@
 #include "begin.h"
+#include "clocks.h"
 #include "met.h"
 #include "names.h"
 #include "side.h"
 #include "stacks.h"
 #include <stdio.h>
 #include <sys/utsname.h>
-#include <time.h>
-
-#define ROUNDS 5
 
 static char line[1024];		/* empty before the recording has begun */
 static void (*tell_also)(u64 number);
 
-/* One moment on three clocks. */
-struct moment {
-	u64 time;			/* CLOCK_MONOTONIC, as all times of the side list */
-	struct timespec wall, boot;
-};
-
-/* Between two clocks the processor may be lost, so of a few readings the fastest one counts. */
-static struct moment this_moment(void)
-{
-	struct moment best = { 0 };
-	u64 took = UINT64_MAX;
-	for (int i = 0; i < ROUNDS; i++) {
-		struct moment m = { .time = now() };
-		clock_gettime(CLOCK_BOOTTIME, &m.boot);
-		clock_gettime(CLOCK_REALTIME, &m.wall);
-		u64 end = now();
-		if (end - m.time < took) {
-			took = end - m.time;
-			best = m;
-		}
-	}
-	return best;
-}
-
 void begin_tell(const char *payloads)
 {
 	struct utsname name;
-	struct moment moment = this_moment();
+	struct moment moment = clocks_read();
 	uname(&name);
 	snprintf(line, sizeof line,
 		 "%llu begin realtime=%lld%09ld boottime=%lld%09ld kernel=%s machine=%s payloads=%s\n",
@@ -56,6 +30,7 @@ void begin_tell_also(void (*tell)(u64 number))
 void begin_tell_again(u64 number)
 {
 	side_text(line);
+	clocks_tell_again();
 	names_tell_again(number);
 	met_tell_again();
 	stacks_tell_again();

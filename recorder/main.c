@@ -1,6 +1,7 @@
 /* Records the Binder traffic of a system into a capture and a side list. docs/RECORDER.md says how and why. */
 #include "begin.h"
 #include "books.h"
+#include "clocks.h"
 #include "command.h"
 #include "common.h"
 #include "frame.h"
@@ -99,6 +100,7 @@ static int record(struct ring *ring)
 	while (!signal_got && !error) {
 		long count = take(ring);
 		u64 time = now();
+		clocks_look();
 		if (time - flushed >= FLUSH_EVERY) {
 			missed_tell();
 			error = parts_flush();
@@ -136,6 +138,7 @@ static void finish(struct ring *ring)
 	missed_tell();
 	window_end();
 	stacks_end();
+	clocks_tell();
 	books_tell();
 	/* A program that had its number at the end may have looked at the clock after that. */
 	u64 time = window_latest() > stopped ? window_latest() : stopped;

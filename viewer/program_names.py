@@ -2,6 +2,7 @@
 
 import pathlib
 import re
+import subprocess
 
 FOLDER = pathlib.Path(__file__).resolve().parent
 
@@ -22,4 +23,19 @@ def called(program: str) -> str:
 
 def as_called(text: str) -> str:
     """A text in which the programs are called as here."""
-    return re.sub(r"\./(audit|listing|record|view|fleet)\b|viewer/methods/table\.py", lambda found: called(NAMES[found[0]]), text)
+    return re.sub(r"\./(audit|listing|record|view|fleet)\b|viewer/methods/table\.py",
+                  lambda found: called(NAMES[found[0]]), text)
+
+
+def commit() -> str | None:
+    """The commit of which the viewer is, with `.changed` after it if a file was changed since; None if that is not
+    known."""
+    if PACKED:
+        found = re.search(r"^commit (.*)$", (FOLDER.parent / "version").read_text(), re.MULTILINE)
+        return found[1] if found else None
+    try:
+        asked = subprocess.run(["git", "-C", FOLDER.parent, "describe", "--always", "--exclude=*", "--abbrev=40",
+                                "--dirty=.changed"], capture_output=True, text=True)
+    except OSError:
+        return None
+    return asked.stdout.strip() or None

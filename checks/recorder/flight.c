@@ -13,6 +13,7 @@
 #include <stdlib.h>
 #include <string.h>
 #include <sys/mman.h>
+#include <time.h>
 #include <unistd.h>
 
 enum {
@@ -116,6 +117,21 @@ int __wrap_open(const char *path, int flags, ...)
 	mode_t mode = flags & O_CREAT ? va_arg(more, mode_t) : 0;
 	va_end(more);
 	return name && is_book(name) ? open_book(name + 1) : __real_open(path, flags, mode);
+}
+
+/* ---- the clocks: the system sleeps before the ring is looked at for the second time */
+
+enum { SLEPT = 1000 };		/* seconds */
+
+int __real_clock_gettime(clockid_t clock, struct timespec *time);
+int __wrap_clock_gettime(clockid_t clock, struct timespec *time);
+
+int __wrap_clock_gettime(clockid_t clock, struct timespec *time)
+{
+	int status = __real_clock_gettime(clock, time);
+	if (looks >= 2 && clock != CLOCK_MONOTONIC)
+		time->tv_sec += SLEPT;
+	return status;
 }
 
 /* ---- what the recorder asks of the system */

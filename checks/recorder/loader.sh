@@ -4,7 +4,8 @@
 # frames that can be written at once, and are redacted. Also that command lines of all bytes are whole lines of the side
 # list. And if most frames of a flight recorder are written only when it ends, that the last side list tells of the
 # driver's books of the end, and each one of what was missed meanwhile, since older side lists are removed then. And that
-# a recording ends at one moment: what has its number by then is written later, and what comes later is in no line.
+# a recording ends at one moment: what has its number by then is written later, and what comes later is in no line. And
+# that the side list says what the clocks show after a sleep, at once and in each later list, and at the end.
 #
 #     checks/run loader
 #
@@ -43,21 +44,35 @@ ends_at_once() { # SIDE
   fi
 }
 
+# Checks by how many seconds CLOCK_BOOTTIME and the wall clock went further than CLOCK_MONOTONIC, at each line `clocks`.
+sleeps() { # DUE SIDE
+  local told
+  told=$(sed -nE 's/^([0-9]+) (begin|clocks) realtime=([0-9]+) boottime=([0-9]+).*/\2 \1 \3 \4/p' "$2" |
+    awk '$1 == "begin" { wall = $3 - $2; boot = $4 - $2; next }
+      { printf "%s%.0f %.0f", comma, ($3 - $2 - wall) / 1e9, ($4 - $2 - boot) / 1e9; comma = "," }')
+  if [[ $told != "$1" ]]; then
+    printf 'checks/loader: %s: what the clocks show: expected %s, came %s\n' "${2##*/}" "$1" "$told" && failed=1
+  fi
+}
+
 failed=0
 "$here/build.sh" loader "$room"
 "$room/loader" "$room/out" || failed=1
 
-"$here/build.sh" flight "$room" -Wl,--wrap=open
+"$here/build.sh" flight "$room" -Wl,--wrap=open,--wrap=clock_gettime
 ends='pid,end state,end transactions,end stats,recording'
 "$room/flight" -o "$room/whole" 2>/dev/null
 tells "$room/whole" "begin state,begin transactions,begin stats,$ends" "$room/whole.side"
 ends_at_once "$room/whole.side"
+sleeps '1000 1000,1000 1000' "$room/whole.side"
 "$room/flight" -o "$room/kept" --size 65536 --files 2 2>"$room/told"
 lists=("$room"/kept-*.side)
 if [[ ${#lists[@]} != 2 || -e $room/kept-1.side ]]; then
   printf 'checks/loader: a flight recorder kept %s: %s\n' "${lists[*]}" "$(<"$room/told")" && failed=1
 fi
 tells "$room/kept" "$ends" "${lists[@]}"
+sleeps '1000 1000' "${lists[0]}"
+sleeps '1000 1000,1000 1000' "${lists[1]}"
 told=$(for list in "${lists[@]}"; do sed -n '/ file [0-9]*$/,$d; / missed /p' "$list"; done | uniq -c)
 if [[ ! $told =~ ^\ *2\ [0-9]+\ missed\ 3\ what=events\ from=2\ after=103$ ]]; then
   printf 'checks/loader: before their files two side lists say that this was missed: %s\n' "$told" && failed=1

@@ -7,40 +7,51 @@
     checks/run trace -- --picture TRACE_VIEWER PICTURE.png
                                    makes the picture in docs/VIEW.md; by hand
     checks/run trace -- --cost BYTES [TIMES]
-                                   prints what the timeline of so many bytes of traffic takes, TIMES one after another;
+                                   prints what the timelines of so many bytes of traffic take, TIMES one after another;
                                    by hand
+    checks/run trace -- --perfetto TRACE_PROCESSOR
+                                   asks Perfetto's trace processor about timelines of all stored captures, alone and
+                                   together with a system trace, and prints what it finds; by hand
 
-What must hold, for stored captures with and without a side list, of one device and of two, in parts and malformed:
+What must hold in both formats, that of Perfetto by a decoder of its own, for stored captures with and without a side
+list, of one device and of two, in parts and malformed:
 
-- Slices begin and end in pairs, nest within their thread, and are at the times of the records that their arguments
-  name.
+- Slices begin and end in pairs, nest as the calls of the database do, and are at the times of the records that their
+  arguments name. The arguments are those of the record.
 - There is a slice for each call, each served call, each oneway send and each oneway delivery of the database, and a
   slice of a queue for each oneway transaction that certainly came or whose receiver is certain.
-- Flows are the certain pairs of the database, no others. Each goes from the slice of its send to that of its delivery.
+- Flows are the certain pairs of transactions in the database, no others. Each goes from the slice of its send to that
+  of its delivery, even if the delivery has an earlier time, and in JSON hangs on no instant.
 - The counters end with what the process holds by the database, and reach the most that it held. Those of calls and of
   busy threads are at each time as many as there are slices.
 - There is an instant for each death, error, warning of spam, lost frame, end, and finding that is not normal.
-- Two processes of one number on two devices have two tracks.
-- With `boottime=` in the side list all times are on that clock.
+- Two processes of one number on two devices have two tracks in JSON; in Perfetto's format they are one process, and
+  their threads of one number one thread, but not if the first one had ended.
+- With `boottime=` in the side list all times of JSON are on that clock, also after a sleep; Perfetto's format says what
+  the clocks showed.
+- In Perfetto's format findings are on tracks of their own, with flows; calls have their stacks; names are told once.
+- With the names of Android each transaction and its delivery have them, and say what is called.
 - A narrowed timeline has the slices of its thread, process and frames, and the counters of the whole one.
 - Names from a stranger are data. An existing file is not overwritten; only the owner can read a timeline; SIGTERM
   leaves nothing; a malformed capture has what comes before its fault, and status 2. The process that reads the
   database ends with the timeline.
 
+TRACE_PROCESSOR is trace_processor_shell of Perfetto 56, or a script that calls it; the system trace is made by hand.
 TRACE_VIEWER is the file trace_viewer_full.html of Catapult, with webcomponents.min.js beside it. Debian's package
 golang-1.19-src has both; its chromium has no chrome://tracing.
 
-It takes some 5 seconds of the processor.
+It takes some 12 seconds of the processor.
 """
 
 import argparse
+import gzip
 import os
 import pathlib
 import re
 import sqlite3
 import subprocess
 import sys
-from collections import Counter, defaultdict
+from collections import Counter
 from typing import Iterator
 
 from checks.kit.captures import *
@@ -48,303 +59,128 @@ from checks.kit.checking import Fail, check, compare, run_parts
 from checks.kit.programs import AUDITOR, DRIVER, ROOT, built_programs
 from checks.viewer.page.common import loaded, stored, texts_stored, timeline_of, view
 from checks.viewer.timeline.browser import Pictured, make_picture, read_in_chromium
+from checks.viewer.timeline.compared import CERTAIN, SLICES, check_json, check_packets, places
 from checks.viewer.timeline.cost import print_cost
+from checks.viewer.timeline.perfetto import ask_perfetto
+from checks.viewer.timeline.read import Read
+from checks.viewer.timeline.read_json import ReadJson, nanoseconds
+from checks.viewer.timeline.read_packets import ReadPackets
 from viewer.database.sqlite import open_database
 from viewer.timeline import trace
 from viewer.timeline.tracks import Window
 
 # Captures with their side lists. Together they have calls within calls, queues, ends, gaps, refused sends and errors.
 WITH_SIDE = ("leaks", "oneway", "threads", "callbacks", "mourned", "held-back", "reuse", "embrace", "gaps", "two",
-             "errors")
+             "errors", "forgetful", "hello-sessions", "before")
 WITHOUT_SIDE = (("two-devices.cap",), ("rotated-1.cap", "rotated-2.cap"), ("refused-send.cap",), ("missing.cap",),
                 ("empty.cap",), ("references.cap",))
 
+WITH_FILES = {name: ([DRIVER / name / "capture-1.cap"], DRIVER / name / "capture.side") for name in WITH_SIDE}
+
 PICTURED = Pictured("chain", 4084, 8, 23)
 
-Track = tuple[int, int]
-
-
-def traced(database: sqlite3.Connection, path: pathlib.Path, **window: int) -> dict:
+def written(database: sqlite3.Connection, path: pathlib.Path, is_android: bool = False, **window: int) -> pathlib.Path:
     path.unlink(missing_ok=True)
-    trace.write(database, path, Window(**window))
-    return timeline_of(path)
+    trace.write(database, path, Window(**window), path.name, is_android)
+    return path
 
 
-# ---- what a timeline has
+def read_of(database: sqlite3.Connection, path: pathlib.Path, fail: Fail, **window: int) -> Read:
+    """The timeline of a database, in the format of its name. Busy threads are not counted if only some are shown."""
+    reader = ReadPackets if ".pftrace" in path.name else ReadJson
+    return reader(written(database, path, **window), database, fail, "thread" not in window)
 
 
-def nanoseconds(ts: float | int) -> int:
-    return round(ts * 1000)
+def check_formats(what: str, database: sqlite3.Connection, room: pathlib.Path, fail: Fail
+                  ) -> tuple[ReadJson, ReadPackets]:
+    """Both formats against the database. Returns what was read."""
+    def told(line: str) -> None:
+        fail(f"{what}, {line}")
+    json = ReadJson(written(database, room / "out.json.gz"), database, told)
+    check_json(what, database, json, told)
+    packets = ReadPackets(written(database, room / "out.pftrace"), database, told)
+    check_packets(what, database, packets, told)
+    return json, packets
 
 
-class Slice:
-    """A slice: its track, its beginning and its arguments; later its end and what it is in."""
-
-    def __init__(self, event: dict, outer: "Slice | None"):
-        self.track = event["pid"], event["tid"]
-        self.cat, self.name, self.args = event["cat"], event["name"], dict(event["args"])
-        self.begin, self.end, self.outer = nanoseconds(event["ts"]), -1, outer
-
-
-class Read:
-    """A timeline, read event by event."""
-
-    def __init__(self, told: dict, fail: Fail, whole: bool = True):
-        self.told, self.fail, self.whole = told, fail, whole
-        self.slices: list[Slice] = []
-        self.flows: dict[int, list[tuple[str, Slice | None, int]]] = defaultdict(list)
-        self.last: dict[tuple[int, str], int] = {}
-        self.most: dict[tuple[int, str], int] = defaultdict(int)
-        self.instants: list[dict] = []
-        self.names: dict[tuple[str, int, int], object] = {}
-        self.queues: dict[int, dict[str, dict]] = defaultdict(dict)
-        self.stacks: dict[Track, list[Slice]] = defaultdict(list)
-        self.counted = 0
-        for event in told["traceEvents"]:
-            getattr(self, f"take_{event['ph']}")(event)
-        compare("slices without an end", [s.args for stack in self.stacks.values() for s in stack], [], fail)
-
-    def take_M(self, event: dict) -> None:
-        self.names[event["name"], event["pid"], event["tid"]] = next(iter(event["args"].values()))
-
-    def take_B(self, event: dict) -> None:
-        stack = self.stacks[event["pid"], event["tid"]]
-        made = Slice(event, stack[-1] if stack else None)
-        if stack and made.begin < stack[-1].begin:
-            self.fail(f"a slice begins before the one around it: {event}")
-        stack.append(made)
-        self.slices.append(made)
-
-    def take_E(self, event: dict) -> None:
-        stack = self.stacks[event["pid"], event["tid"]]
-        if not stack:
-            return self.fail(f"an end without a begin: {event}")
-        ended = stack.pop()
-        ended.end = nanoseconds(event["ts"])
-        ended.args.update(event.get("args", {}))
-        if ended.end < max([ended.begin, *(s.end for s in self.slices if s.outer is ended)]):
-            self.fail(f"a slice ends before it begins, or before one within it: {ended.args}")
-
-    def take_s(self, event: dict) -> None:
-        stack = self.stacks[event["pid"], event["tid"]]
-        self.flows[event["id"]].append((event["ph"] + event["name"], stack[-1] if stack else None,
-                                        nanoseconds(event["ts"])))
-
-    take_f = take_s
-
-    def take_b(self, event: dict) -> None:
-        if event["ph"] in self.queues[event["id"]]:
-            self.fail(f"a queue has this twice: {event}")
-        self.queues[event["id"]][event["ph"]] = event
-
-    take_e = take_b
-
-    def take_i(self, event: dict) -> None:
-        self.instants.append(event)
-
-    def busy(self, pid: int) -> int:
-        return sum(track[0] == pid and any("serve" in s.name for s in stack) for track, stack in self.stacks.items())
-
-    def take_C(self, event: dict) -> None:
-        pid, name, (value,) = event["pid"], event["name"], event["args"].values()
-        self.counted += 1
-        if name == "threads" and self.whole:
-            compare(f"busy threads at {event}", value, self.busy(pid), self.fail)
-        if name == "calls" and self.whole:
-            compare(f"calls at {event}", value, sum(s.cat == "call" for track, stack in self.stacks.items()
-                                                    for s in stack if track[0] == pid), self.fail)
-        self.last[pid, name] = value
-        self.most[pid, name] = max(self.most[pid, name], value)
-
-
-# ---- a timeline against its database
-
-
-def numbers(database: sqlite3.Connection, query: str) -> Counter:
-    return Counter(dict(database.execute(query)))
-
-
-# What is in the database, by the categories of slices and instants.
-SLICES = {
-    "call": "SELECT place FROM call WHERE side = 'made'",
-    "served": "SELECT place FROM call WHERE side = 'served'",
-    "oneway": "SELECT place FROM send WHERE oneway AND kind LIKE 'BC_TRANSACTION%' UNION ALL"
-              " SELECT place FROM delivery WHERE oneway"}
-INSTANTS = {
-    "death": "SELECT place FROM record WHERE kind = 'BR_DEAD_BINDER'",
-    "error": "SELECT place FROM record WHERE kind IN"
-             " ('BR_ERROR', 'BR_DEAD_REPLY', 'BR_FAILED_REPLY', 'BR_FROZEN_REPLY')",
-    "spam": "SELECT place FROM record WHERE kind = 'BR_ONEWAY_SPAM_SUSPECT'",
-    **{f"finding,{verdict}": "SELECT place FROM finding f JOIN rule r ON r.id = f.rule WHERE place NOTNULL AND"
-       f" verdict = '{verdict}'" for verdict in ("real", "maybe", "explained")}}
-CERTAIN = "SELECT place FROM send WHERE certain AND delivery NOTNULL"
-QUEUES = ("SELECT s.place FROM send s LEFT JOIN node_of n USING (generation) WHERE s.oneway AND kind LIKE"
-          " 'BC_TRANSACTION%' AND iif(s.delivery IS NULL, outcome <> 'refused' AND n.certain, s.certain)")
-
-
-def places(database: sqlite3.Connection, query: str) -> list[int]:
-    return sorted(place for place, in database.execute(query))
-
-
-def check_slices(what: str, database: sqlite3.Connection, read: Read, fail: Fail) -> None:
-    for cat, query in SLICES.items():
-        compare(f"{what}, slices {cat}", sorted(s.args["place"] for s in read.slices if s.cat == cat),
-                places(database, query), fail)
-    timed, = database.execute("SELECT count(ts) > 0 FROM frame").fetchone()
-    at = {place: (ts if timed else 1000 * seq, thread) for place, ts, seq, thread in database.execute(
-        "SELECT place, ts, seq, thread FROM record JOIN thread USING (utid)")}
-    closers = dict(database.execute("SELECT place, closer FROM call"))
-    ended = {place for place, in database.execute("SELECT place FROM call JOIN thread t USING (utid) JOIN process p ON"
-             " p.upid = t.upid, raw_capture c WHERE closer IS NULL AND min(coalesce(t.ended_after, 1e18),"
-             " coalesce(p.ended_after, 1e18)) <= c.last_seq")}
-    for one in read.slices:
-        place = one.args["place"]
-        compare(f"{what}, the beginning of {one.args}", (one.begin, one.track[1]), at[place], fail)
-        closer = closers.get(place)
-        if closer is not None:
-            compare(f"{what}, the end of {one.args}", (one.end, one.args.get("end")), (at[closer][0], None), fail)
-        elif one.cat in ("call", "served"):
-            compare(f"{what}, why {one.args} ends", one.args["end"] == "open at the end", place not in ended, fail)
-
-
-def check_flows(what: str, database: sqlite3.Connection, read: Read, fail: Fail) -> None:
-    compare(f"{what}, flows", sorted(read.flows), places(database, CERTAIN), fail)
-    uncertain, = database.execute("SELECT count(*) FROM send WHERE delivery NOTNULL AND NOT certain").fetchone()
-    compare(f"{what}, pairs without a flow", read.told["otherData"]["pairs_without_flow"], uncertain, fail)
-    delivery = dict(database.execute("SELECT place, delivery FROM send"))
-    for send, ends in read.flows.items():
-        kinds = [kind for kind, *_ in ends]
-        if kinds not in [["scall", "fcall"], ["sreply", "freply"], ["soneway", "foneway"]] or None in ends[0] + ends[1]:
-            fail(f"{what}, flow {send}: {kinds}")
-            continue
-        keys = ("closer", "closer") if kinds[0] == "sreply" else ("place", "place")
-        compare(f"{what}, the slices of flow {send}", [end[1].args.get(key) for end, key in zip(ends, keys)],
-                [send, delivery[send]], fail)
-
-
-# What a process holds at the end, and what it held at most in the slices of the capture.
-HELD = """
-SELECT p.upid, p.device, p.process, coalesce(p.ended_after <= c.last_seq, 0),
-  (SELECT count(*) FROM delivery d WHERE d.upid = p.upid AND freed_by IS NULL) AS buffers,
-  (SELECT coalesce(sum(data_size), 0) FROM delivery d WHERE d.upid = p.upid AND freed_by IS NULL) AS bytes,
-  (SELECT coalesce(sum(data_size), 0) FROM delivery d WHERE d.upid = p.upid AND freed_by IS NULL AND oneway) AS async,
-  (SELECT coalesce(sum(strong), 0) FROM handle h WHERE h.upid = p.upid) AS refs,
-  (SELECT count(*) FROM call k JOIN thread t USING (utid) WHERE k.upid = p.upid AND side = 'made' AND verdict = 'open'
-    AND coalesce(t.ended_after > c.last_seq, 1)) AS calls,
-  (SELECT max(buffers) FROM level l WHERE l.upid = p.upid), (SELECT max(bytes) FROM level l WHERE l.upid = p.upid),
-  (SELECT max(calls) FROM level l WHERE l.upid = p.upid)
-FROM process p, raw_capture c ORDER BY p.upid"""
-NAMES = ("buffers", "bytes", "async bytes", "references", "calls")
-
-
-def pids(database: sqlite3.Connection, read: Read) -> dict[int, int]:
-    """The number in the timeline of each process. They are told apart by their numbers and, if need be, the list."""
-    other = {(one["device"], one["process"]): one["pid"] for one in read.told["otherData"]["other_numbers"]}
-    return {upid: other.get((device, process), process)
-            for upid, device, process in database.execute("SELECT upid, device, process FROM process")}
-
-
-def check_counters(what: str, database: sqlite3.Connection, read: Read, fail: Fail) -> None:
-    pid_of = pids(database, read)
-    compare(f"{what}, numbers of processes", len(set(pid_of.values())), len(pid_of), fail)
-    for upid, device, process, ended, *held in database.execute(HELD):
-        last, most = held[:5], held[5:]
-        came = [read.last.get((pid_of[upid], name), 0) for name in NAMES]
-        compare(f"{what}, what process {process} on device {device} ends with", came, [0] * 5 if ended else last, fail)
-        compare(f"{what}, the most of process {process} on device {device}",
-                [read.most[pid_of[upid], name] for name in ("buffers", "bytes", "calls")], most, fail)
-        if ended and last[0]:
-            compare(f"{what}, what process {process} held", read.most[pid_of[upid], "buffers"] >= last[0], True, fail)
-    busy = Counter(pid for (pid, name), value in read.last.items() if name == "threads" for _ in range(value))
-    open_ = {s.track for s in read.slices if "serve" in s.name and s.args.get("end") == "open at the end"}
-    compare(f"{what}, busy threads at the end", busy, Counter(pid for pid, _ in open_), fail)
-
-
-def check_instants(what: str, database: sqlite3.Connection, read: Read, fail: Fail) -> None:
-    for cat, query in INSTANTS.items():
-        compare(f"{what}, instants {cat}", sorted(i["args"]["place"] for i in read.instants if i["cat"] == cat),
-                places(database, query), fail)
-    others = {i["cat"] for i in read.instants} - {*INSTANTS, "end", "lost"}
-    compare(f"{what}, other instants", others, set(), fail)
-    ends, = database.execute("SELECT (SELECT count(*) FROM thread WHERE ended_after <= c.last_seq) + (SELECT count(*)"
-                             " FROM process WHERE ended_after <= c.last_seq) FROM raw_capture c").fetchone()
-    compare(f"{what}, ends", sum(i["cat"] == "end" for i in read.instants), ends, fail)
-    lost, missing, missed = database.execute(
-        "SELECT (SELECT count(*) FROM side_lost WHERE seq BETWEEN first_seq AND last_seq), missing,"
-        " (SELECT count(*) FROM side_missed) FROM raw_capture").fetchone()
-    came = [i for i in read.instants if i["cat"] == "lost"]
-    compare(f"{what}, lost frames", [sum(i["name"] == name for i in came) for name in ("lost frame", "missed")],
-            [lost, missed], fail)
-    compare(f"{what}, missing frames", sum(i["args"]["count"] for i in came if i["name"] == "missing frames"),
-            missing % 2**64 - lost, fail)
-
-
-def check_queues(what: str, database: sqlite3.Connection, read: Read, fail: Fail) -> None:
-    compare(f"{what}, queues", sorted(read.queues), places(database, QUEUES), fail)
-    got = dict(database.execute("SELECT s.place, iif(x.ts IS NULL, 1000 * d.seq, x.ts) FROM send s JOIN record d ON"
-                                " d.place = s.delivery LEFT JOIN frame x ON x.seq = d.seq"))
-    sent = dict(database.execute("SELECT place, iif(ts IS NULL, 1000 * seq, ts) FROM send"))
-    for send, ends in read.queues.items():
-        if set(ends) != {"b", "e"}:
-            fail(f"{what}, queue {send} has {list(ends)}")
-            continue
-        begin, end = (nanoseconds(ends[which]["ts"]) for which in "be")
-        compare(f"{what}, queue {send}", (begin, end if send in got else end >= begin),
-                (sent[send], got.get(send, True)), fail)
-        compare(f"{what}, the end of queue {send}", "end" in ends["b"]["args"], send not in got, fail)
-
-
-def check_all(what: str, database: sqlite3.Connection, told: dict, fail: Fail) -> Read:
-    read = Read(told, lambda line: fail(f"{what}, {line}"))
-    for part in (check_slices, check_flows, check_counters, check_instants, check_queues):
-        part(what, database, read, fail)
-    other = told["otherData"]
-    timed, = database.execute("SELECT count(ts) > 0 FROM frame").fetchone()
-    compare(f"{what}, the axis", other["axis"].split()[0], "CLOCK_MONOTONIC" if timed else "the", fail)
-    compare(f"{what}, what it says of itself",
-            [other[name] for name in ("slices", "flows", "queue_slices", "counter_events", "instants")],
-            [len(read.slices), len(read.flows), len(read.queues), read.counted, len(read.instants)], fail)
-    return read
+# ---- the stored captures
 
 
 def check_sample(folder: pathlib.Path, room: pathlib.Path, files: list[pathlib.Path], side: pathlib.Path | None,
                  fail: Fail) -> None:
     what = " ".join(str(path.relative_to(ROOT / "samples")) for path in files)
     database = loaded(folder, room / f"{what.replace('/', '-')}.db", files, side)
-    check_all(what, database, traced(database, room / "out.json.gz"), fail)
+    json, packets = check_formats(what, database, room, fail)
     if what == "two-devices.cap":
-        check_devices(database, traced(database, room / "out.json.gz"), fail)
+        check_devices(database, json, packets, fail)
     if files[0].parent.name in ("threads", "oneway", "callbacks"):
-        check_narrow(what, database, room / "out.json.gz", fail)
+        for name in ("out.json.gz", "out.pftrace.gz"):
+            check_narrow(f"{what}, {name}", database, room / name, fail)
+    if files[0].parent.name in ("threads", "oneway", "hello-sessions"):
+        check_android(what, database, room, fail)
     database.close()
 
 
-def check_devices(database: sqlite3.Connection, told: dict, fail: Fail) -> None:
-    """Processes of one number on two devices have two tracks, and each track says its device."""
-    read = Read(told, fail)
-    labels = {pid: label for (kind, pid, _), label in read.names.items() if kind == "process_labels"}
+def check_devices(database: sqlite3.Connection, json: ReadJson, packets: ReadPackets, fail: Fail) -> None:
+    """Processes of one number on two devices have two tracks in JSON, each of which says its device, and are one
+    process of the system in the other format."""
+    labels = {pid: label for (kind, pid, _), label in json.names.items() if kind == "process_labels"}
     due = Counter(f"device {device}" for device, in database.execute("SELECT device FROM process"))
     compare("two devices: labels", Counter(labels.values()), due, fail)
-    numbers_, = database.execute("SELECT count(DISTINCT process) FROM process").fetchone()
-    compare("two devices: the capture has one number twice", numbers_ < len(labels), True, fail)
+    numbers, = database.execute("SELECT count(DISTINCT process) FROM process").fetchone()
+    compare("two devices: the capture has one number twice", numbers < len(labels), True, fail)
     device = dict(database.execute("SELECT place, 'device ' || device FROM record JOIN process USING (upid)"))
     compare("two devices: slices on the tracks of another device",
-            [s.args for s in read.slices if labels[s.track[0]] != device[s.args["place"]]], [], fail)
+            [s.args for s in json.slices if labels[s.track[0]] != device[s.args["place"]]], [], fail)
+    compare("two devices: processes of the system", Counter(map(len, packets.pids.values())), Counter({1: numbers}),
+            fail)
+
+
+def check_android(what: str, database: sqlite3.Connection, room: pathlib.Path, fail: Fail) -> None:
+    """Each transaction and its delivery have the names of Android, and what came, and what names an interface, has a
+    slice that says what is called."""
+    names = {"call": {"binder transaction"}, "served": {"binder reply"},
+             "oneway": {"binder transaction async", "binder async rcv"}}
+    read = ReadPackets(written(database, room / "android.pftrace", True), database,
+                       lambda line: fail(f"{what}: {line}"), False)
+    slices = [one for one in read.slices if one.cat != "aidl"]
+    for cat, query in SLICES.items():
+        compare(f"{what}, Android, {cat}", sorted(s.args["place"] for s in slices if s.cat == cat),
+                places(database, query), fail)
+        compare(f"{what}, Android, names of {cat}", {s.name for s in slices if s.cat == cat} <= names[cat], True, fail)
+    compare(f"{what}, Android, flows", sorted([s.args["place"] for s in pair] for pair in read.flows.values()),
+            [[*pair] for pair in database.execute(f"SELECT place, delivery FROM send WHERE place IN ({CERTAIN})"
+                                                  " ORDER BY place")], fail)
+    told = [one.name.split("::") for one in read.slices if one.cat == "aidl"]
+    compare(f"{what}, Android, parts of names", {(len(parts), *parts[:2]) for parts in told} <= {(5, "AIDL", "binder")},
+            True, fail)
+    known = sum("interface" in one.args for one in slices)
+    unknown = sum(one.name == "binder async rcv" and "interface" not in one.args for one in slices)
+    compare(f"{what}, Android, slices of what is called", Counter(parts[-1] for parts in told),
+            Counter(client=sum("interface" in one.args for one in slices if "transaction" in one.name),
+                    server=sum("interface" in one.args for one in slices if "transaction" not in one.name) + unknown)
+            if known or unknown else Counter(), fail)
 
 
 # ---- narrowed timelines
 
 
-def check_narrow(what: str, database: sqlite3.Connection, path: pathlib.Path, fail: Fail) -> None:
-    whole = Read(traced(database, path), fail)
+def windows_of(database: sqlite3.Connection, whole: Read) -> list[dict[str, int]]:
+    """Windows on the busiest thread, and on a third of the frames, by the numbers of the capture."""
     first, last = database.execute("SELECT first_seq, last_seq FROM raw_capture").fetchone()
     cut = first + (last - first) // 3, first + 2 * (last - first) // 3
-    track = Counter(s.track for s in whole.slices).most_common(1)[0][0]
-    for window in ({"process": track[0]}, {"thread": track[1]}, {"process": track[0], "thread": track[1]},
-                   {"first": cut[0]}, {"last": cut[1]}, {"first": cut[0], "last": cut[1]},
-                   {"process": track[0], "first": cut[0], "last": cut[1]}, {"process": 7}):
-        told = traced(database, path, **window)
-        read = Read(told, lambda line: fail(f"{what}, {window}: {line}"), "thread" not in window)
+    _, utid = Counter(whole.owner[s.args["place"]] for s in whole.slices).most_common(1)[0][0]
+    process, thread = database.execute("SELECT process, thread FROM thread WHERE utid = ?", (utid,)).fetchone()
+    return [{"process": process}, {"thread": thread}, {"process": process, "thread": thread}, {"first": cut[0]},
+            {"last": cut[1]}, {"first": cut[0], "last": cut[1]}, {"process": process, "first": cut[0], "last": cut[1]},
+            {"process": 7}]
+
+
+def check_narrow(what: str, database: sqlite3.Connection, path: pathlib.Path, fail: Fail) -> None:
+    whole = read_of(database, path, fail)
+    last, = database.execute("SELECT last_seq FROM raw_capture").fetchone()
+    for window in windows_of(database, whole):
+        read = read_of(database, path, lambda line: fail(f"{what}, {window}: {line}"), **window)
         compare(f"{what}, {window}", sorted(s.args["place"] for s in read.slices),
                 due_in(database, window), fail)
         begun = dict(database.execute("SELECT place, seq FROM record"))
@@ -358,15 +194,20 @@ def check_narrow(what: str, database: sqlite3.Connection, path: pathlib.Path, fa
         after, = database.execute("SELECT min(ts) FROM frame WHERE seq > ?", (window.get("last", last),)).fetchone()
         compare(f"{what}, {window}, when it ends", {s.end for s in read.slices if s.args.get("end") == "after --to"}
                 <= {after}, True, fail)
-        shown = {pid for _, pid, _ in read.names}
+        shown = {upid for upid, process, thread in database.execute("SELECT upid, process, thread FROM thread")
+                 if (window.get("process", process), window.get("thread", thread)) == (process, thread)}
         if "last" not in window:
             compare(f"{what}, {window}, counters", {k: v for k, v in read.last.items() if v},
                     {k: v for k, v in whole.last.items() if k[0] in shown and v}, fail)
+        compare(f"{what}, {window}, processes of counters", {upid for upid, _ in read.last} <= shown, True, fail)
         between = dict(database.execute("SELECT s.place, d.seq FROM send s JOIN record d ON d.place = s.delivery"))
         tracks = {s.track for s in read.slices}
-        compare(f"{what}, {window}, flows", sorted(read.flows),
-                sorted(send for send, ends in whole.flows.items() if all(end[1].track in tracks for end in ends)
-                       and begun[send] >= window.get("first", 0) and between[send] <= window.get("last", last)), fail)
+        flows = sorted(pair[0].args["place"] for pair in read.flows.values())
+        compare(f"{what}, {window}, flows", flows,
+                sorted(ends[0].args["place"] for ends in whole.flows.values()
+                       if all(end.track in tracks for end in ends)
+                       and begun[ends[0].args["place"]] >= window.get("first", 0)
+                       and between[ends[0].args["place"]] <= window.get("last", last)), fail)
 
 
 # ---- a small capture
@@ -398,13 +239,14 @@ def small_capture() -> bytes:
 def check_small(folder: pathlib.Path, room: pathlib.Path, fail: Fail) -> None:
     (room / "small.cap").write_bytes(small_capture())
     database = loaded(folder, room / "small.db", [room / "small.cap"], None)
-    read = check_all("the small capture", database, traced(database, room / "small.gz"), fail)
+    json, packets = check_formats("the small capture", database, room, fail)
     compare("the small capture, pairs that are not certain",
             database.execute("SELECT count(*) FROM send WHERE delivery NOTNULL AND NOT certain").fetchone(), (2,), fail)
-    came = [(s.name, s.begin // 1000, s.end // 1000, s.args.get("end")) for s in read.slices if s.track[1] == 21]
-    compare("the small capture, slices", came,
-            [("serve oneway code 5", 5, 6, None), ("serve oneway code 5", 6, 11, None), ("call code 7", 8, 11, None),
-             ("serve oneway code 6", 10, 11, "the call around it ended")], fail)
+    for read in (json, packets):
+        came = [(s.name, s.begin // 1000, s.end // 1000, s.args.get("end")) for s in read.slices if s.track[1] == 21]
+        compare("the small capture, slices", came,
+                [("serve oneway code 5", 5, 6, None), ("serve oneway code 5", 6, 11, None),
+                 ("call code 7", 8, 11, None), ("serve oneway code 6", 10, 11, "the call around it ended")], fail)
     database.close()
 
 
@@ -433,20 +275,28 @@ def due_in(database: sqlite3.Connection, window: dict[str, int]) -> list[int]:
 
 def check_words(folder: pathlib.Path, room: pathlib.Path, fail: Fail) -> None:
     capture, *_ = stored("leaks")
-    for words in (("--trace",), ("--process", 1), ("--from", 1, "-o", "a.html"), ("--trace", "a.gz", "--to", "x"),
-                  ("--trace", "a.gz", "--process", -1), ("--trace", "a.gz", "--thread", 2**64)):
+    for words in (("--trace",), ("--process", 1), ("--from", 1, "-o", "a.html"), ("--trace", "a.json.gz", "--to", "x"),
+                  ("--trace", "a.json.gz", "--process", -1), ("--trace", "a.json.gz", "--thread", 2**64),
+                  ("--trace", "a.json"), ("--trace", "a.gz"), ("--names", "android"),
+                  ("--trace", "a.json.gz", "--names", "android"), ("--trace", "a.pftrace", "--names", "linux")):
         compare(f"words {words}", view(folder, room, capture, *words)[0], 64, fail)
-    (room / "there.gz").write_text("kept")
-    compare("an existing file", view(folder, room, capture, "--trace", "there.gz"),
-            (1, "", "view: there.gz exists already\n"), fail)
-    compare("a folder that is not there", view(folder, room, capture, "--trace", "no/a.gz")[0], 4, fail)
-    status, out, told = view(folder, room, *stored("leaks"), "--trace", "a.gz", "--process", 1)
-    compare("no such process", (status, out, told), (0, "", "view: the capture has no thread that is asked for, so the"
-                                                     " timeline is empty\n"), fail)
-    compare("its events", timeline_of(room / "a.gz").get("traceEvents"), [], fail)
-    compare("who can read it", (room / "a.gz").stat().st_mode & 0o777, 0o600, fail)
-    compare("what is left", sorted(path.name for path in room.iterdir()), ["a.gz", "there.gz"], fail)
-    compare("the existing file", (room / "there.gz").read_text(), "kept", fail)
+    (room / "there.json.gz").write_text("kept")
+    compare("an existing file", view(folder, room, capture, "--trace", "there.json.gz"),
+            (1, "", "view: there.json.gz exists already\n"), fail)
+    compare("a folder that is not there", view(folder, room, capture, "--trace", "no/a.json.gz")[0], 4, fail)
+    due = ["there.json.gz"]
+    for name, begin in (("a.json.gz", b"\x1f\x8b"), ("a.pftrace", b"\x0a"), ("a.pftrace.gz", b"\x1f\x8b")):
+        told = view(folder, room, *stored("leaks"), "--trace", name, "--process", 1)
+        compare(f"no such process, {name}", told, (0, "", "view: the capture has no thread that is asked for, so the"
+                                                   " timeline is empty\n"), fail)
+        compare(f"the beginning of {name}", (room / name).read_bytes()[:len(begin)], begin, fail)
+        compare(f"who can read {name}", (room / name).stat().st_mode & 0o777, 0o600, fail)
+        due.append(name)
+    compare("its events", timeline_of(room / "a.json.gz").get("traceEvents"), [], fail)
+    view(folder, room, *stored("leaks"), "--trace", "b.pftrace", "--names", "android")
+    compare("names", b"binder transaction" in (room / "b.pftrace").read_bytes(), True, fail)
+    compare("what is left", sorted(path.name for path in room.iterdir()), sorted([*due, "b.pftrace"]), fail)
+    compare("the existing file", (room / "there.json.gz").read_text(), "kept", fail)
 
 
 def check_malformed(folder: pathlib.Path, room: pathlib.Path, fail: Fail) -> None:
@@ -455,13 +305,13 @@ def check_malformed(folder: pathlib.Path, room: pathlib.Path, fail: Fail) -> Non
     for name, data in (("cut", whole[:len(whole) // 2 + 3]), ("none", b"no capture"),
                        ("bad", whole[:len(whole) // 2 // 4 * 4])):
         (room / f"{name}.cap").write_bytes(data)
-        status, _, _ = view(folder, room, f"{name}.cap", "--trace", f"{name}.gz", "--database", f"{name}.db")
+        status, _, _ = view(folder, room, f"{name}.cap", "--trace", f"{name}.pftrace", "--database", f"{name}.db")
         compare(f"{name}, status", status, 2, fail)
         database = open_database(room / f"{name}.db")
-        told = timeline_of(room / f"{name}.gz")
-        read = check_all(name, database, told, fail)
-        compare(f"{name}, the fault", told["otherData"].get("malformed", "").split(" ")[0], "malformed", fail)
-        compare(f"{name}, slices", bool(read.slices), name != "none", fail)
+        check_packets(name, database, ReadPackets(room / f"{name}.pftrace", database, fail), fail)
+        for read in check_formats(name, database, room, fail):
+            compare(f"{name}, the fault", str(read.told.get("malformed")).split(" ")[0], "malformed", fail)
+            compare(f"{name}, slices", bool(read.slices), name != "none", fail)
         database.close()
 
 
@@ -473,30 +323,115 @@ def check_hostile(folder: pathlib.Path, room: pathlib.Path, fail: Fail) -> None:
     (room / "hostile.side").write_text(re.sub("name=(manager|service)$", lambda _: "name=" + HOSTILE, side,
                                               flags=re.MULTILINE))
     database = loaded(folder, room / "hostile.db", [DRIVER / "leaks/capture-1.cap"], room / "hostile.side")
-    read = check_all("hostile names", database, traced(database, room / "hostile.gz"), fail)
+    json, packets = check_formats("hostile names", database, room, fail)
+    compare("a sign that is written as two", b"\\ud83d" in gzip.decompress((room / "out.json.gz").read_bytes()), False,
+            fail)
     name = HOSTILE.replace("\\x09", "\t").replace("\\x0a", "\n")
-    compare("hostile names", sorted(pid for (kind, pid, _), told in read.names.items()
+    compare("hostile names", sorted(pid for (kind, pid, _), told in json.names.items()
                                     if told == name and kind == "process_name"), [143, 146], fail)
+    compare("hostile names of threads", sorted(tid for (_, tid), told in packets.tids.items() if told == name),
+            [143, 146], fail)
     database.close()
 
 
+AHEAD, SLEPT = 5_000_000_123, 50_000_000_000
+
+
 def check_clock(folder: pathlib.Path, room: pathlib.Path, fail: Fail) -> None:
-    """With CLOCK_BOOTTIME in the side list all times are on that clock, and nothing else is another."""
-    ahead, side = 5_000_000_123, texts_stored("leaks")[1]
-    (room / "clock.side").write_text(re.sub(
-        r"^(\d+) begin ", lambda found: f"{found[0]}boottime={int(found[1]) + ahead} ", side, flags=re.MULTILINE))
-    told = []
-    for name in (DRIVER / "leaks/capture.side", room / "clock.side"):
-        database = loaded(folder, room / f"{name.stem}.db", [DRIVER / "leaks/capture-1.cap"], name)
-        told.append(traced(database, room / "clock.gz"))
+    """With CLOCK_BOOTTIME in the side list all times of JSON are on that clock, as far as it was ahead then: more after
+    a sleep. Nothing else is another. In Perfetto's format the times stay, and it says what the clocks showed."""
+    lines = texts_stored("leaks")[1].splitlines()
+    begin = next(int(line.split()[0]) for line in lines if " begin " in line)
+    woke = begin + 800_000_000
+    for name, more in (("awake", []), ("slept", [f"{woke} clocks realtime=7 boottime={woke + AHEAD + SLEPT}",
+                                                 f"{woke + 1} later words=of a newer list"])):
+        told = [line.replace(" begin ", f" begin boottime={begin + AHEAD} ") for line in lines]
+        (room / f"{name}.side").write_text("\n".join(told[:-1] + more + told[-1:]) + "\n")
+    read: dict[str, tuple[ReadJson, ReadPackets]] = {}
+    for name, side in (("plain", DRIVER / "leaks/capture.side"), ("awake", room / "awake.side"),
+                       ("slept", room / "slept.side")):
+        database = loaded(folder, room / f"{name}.db", [DRIVER / "leaks/capture-1.cap"], side)
+        read[name] = ReadJson(written(database, room / "clock.json.gz"), database, fail), \
+            ReadPackets(written(database, room / "clock.pftrace"), database, fail)
         database.close()
-    events = [[{**event, "ts": nanoseconds(event["ts"])} if "ts" in event else event for event in one["traceEvents"]]
-              for one in told]
-    due = [{**event, "ts": event["ts"] + ahead} if "ts" in event else event for event in events[0]]
-    compare("times on CLOCK_BOOTTIME", [now for now, then in zip(events[1], due) if now != then][:1], [], fail)
-    compare("events on CLOCK_BOOTTIME", len(events[1]), len(due), fail)
-    compare("the axis", [one["otherData"]["axis"].split()[0] for one in told], ["CLOCK_MONOTONIC", "CLOCK_BOOTTIME"],
+    plain = [event for event in read["plain"][0].events]
+    for name, slept in (("awake", 0), ("slept", SLEPT)):
+        came = read[name][0].events
+        at = [nanoseconds(event["ts"]) if "ts" in event else 0 for event in plain]
+        due = [ns + (ns > 0) * (AHEAD + (slept if ns >= woke else 0)) for ns in at]
+        compare(f"times on CLOCK_BOOTTIME, {name}",
+                [nanoseconds(event["ts"]) if "ts" in event else 0 for event in came], due, fail)
+        compare(f"events on CLOCK_BOOTTIME, {name}", [{**event, "ts": 0} for event in came],
+                [{**event, "ts": 0} for event in plain], fail)
+        compare(f"the axis, {name}", str(read[name][0].told["axis"]).split()[0], "CLOCK_BOOTTIME", fail)
+        compare(f"times in Perfetto's format, {name}", [(s.begin, s.end) for s in read[name][1].slices],
+                [(s.begin, s.end) for s in read["plain"][1].slices], fail)
+    compare("some are before and after the sleep", len({nanoseconds(event["ts"]) < woke for event in plain
+                                                        if "ts" in event}), 2, fail)
+    clocks = [[clock.get(6) for clock in packets.clocks] for _, packets in read.values()]
+    compare("what the clocks showed", clocks,
+            [[None], [begin + AHEAD], [begin + AHEAD, woke + AHEAD + SLEPT]], fail)
+
+
+def check_early(folder: pathlib.Path, room: pathlib.Path, fail: Fail) -> None:
+    """A delivery of a certain pair that was timed before its send is put at the time of its send, and counted."""
+    database = loaded(folder, room / "early.db", *WITH_FILES["threads"])
+    pairs = database.execute(
+        "SELECT s.place, s.ts, d.seq, (SELECT max(ts) FROM frame f WHERE f.utid = d.utid AND f.seq < d.seq) FROM send s"
+        f" JOIN record d ON d.place = s.delivery WHERE s.place IN ({CERTAIN}) ORDER BY s.place").fetchall()
+    # Not those of which the thread did something else after the send: their times are raised anyway.
+    moved = [(place, ts, seq) for place, ts, seq, before in pairs if before is not None and before < ts - 2000][::2]
+    database.executemany("UPDATE side_time SET ts = ? WHERE seq = ?", [(ts - 2000, seq) for _, ts, seq in moved])
+    for name in ("early.json.gz", "early.pftrace"):
+        read = read_of(database, room / name, fail)
+        compare(f"{name}: deliveries that were raised", read.told["deliveries_before_their_send"] >= len(moved) > 3,
+                True, fail)
+        begins = {pair[0].args["place"]: [end.begin for end in pair] for pair in read.flows.values()}
+        compare(f"{name}: flows", sorted(begins), [place for place, *_ in pairs], fail)
+        compare(f"{name}: flows that go back", [pair for pair in begins.values() if pair[0] > pair[1]], [], fail)
+        compare(f"{name}: when these came", {begins[place][1] - begins[place][0] for place, *_ in moved}, {0}, fail)
+    database.close()
+
+
+def check_instants_last(folder: pathlib.Path, room: pathlib.Path, fail: Fail) -> None:
+    """A finding in a frame before a send of that frame has no flow of the send: in JSON it is written after it."""
+    database = loaded(folder, room / "last.db", *WITH_FILES["threads"])
+    found, = database.execute("SELECT min(f.id) FROM finding f WHERE utid NOTNULL").fetchone()
+    send, seq, utid = database.execute(
+        f"SELECT s.place, s.seq, s.utid FROM send s WHERE s.place IN ({CERTAIN}) AND s.place > (SELECT min(place) FROM"
+        " record r WHERE r.seq = s.seq) ORDER BY s.place").fetchone()
+    database.execute("UPDATE finding SET place = (SELECT min(place) FROM record WHERE seq = :seq), seq = :seq,"
+                     " utid = :utid, lead = NULL, rule = 'U2' WHERE id = :found",
+                     {"seq": seq, "utid": utid, "found": found})
+    read = ReadJson(written(database, room / "last.json.gz"), database, fail)
+    compare("the slice of the flow", [getattr(end, "args", {}).get("place") for end in read.flows[send]][:1], [send],
             fail)
+    compare("the finding of its frame", [i.cat for i in read.instants if i.args.get("rule") == "U2"
+                                         and i.args["place"] < send][-1:], ["finding,real"], fail)
+    database.close()
+
+
+def check_reused(folder: pathlib.Path, room: pathlib.Path, fail: Fail) -> None:
+    """A process that opens a device again is one process of the system, whose threads are one thread each. If the first
+    one and its threads had ended before, it is another process that got its number."""
+    for ended, count in ((False, 1), (True, 2)):
+        side = texts_stored("leaks")[1]
+        pid, other = re.findall(r" process 0 (\d+) pid", side)[1:3]
+        side = re.sub(rf"(process 0 {other}) pid={other} ", rf"\1 pid={pid} ", side)
+        side = re.sub(rf"(thread 0 {other} {other}) pid={other} tid={other} ", rf"\1 pid={pid} tid={pid} ", side)
+        if not ended:
+            side = re.sub(rf"^\d+ end (thread 0 {pid} .*|opening 0 {pid} .*|pid {pid} .*)\n", "", side, flags=re.M)
+        else:
+            opened = re.search(rf"^(\d+) process 0 {other} ", side, re.M)
+            side = re.sub(rf"^\d+ (end (?:thread 0 {pid}|opening 0 {pid}|pid {pid}) )", rf"{opened[1]} \1", side,
+                          flags=re.M)
+        (room / "reused.side").write_text(side)
+        database = loaded(folder, room / f"reused-{count}.db", [DRIVER / "leaks/capture-1.cap"], room / "reused.side")
+        read = ReadPackets(written(database, room / "reused.pftrace"), database, fail)
+        compare(f"a number again, ended {ended}", len(read.pids[int(pid)]), count, fail)
+        compare(f"a number again, ended {ended}, slices", len(read.slices),
+                database.execute("SELECT count(*) FROM call").fetchone()[0], fail)
+        database.close()
 
 
 def check_order(folder: pathlib.Path, room: pathlib.Path, fail: Fail) -> None:
@@ -508,25 +443,26 @@ def check_order(folder: pathlib.Path, room: pathlib.Path, fail: Fail) -> None:
     (room / "odd.side").write_text("".join(lines))
     database = loaded(folder, room / "odd.db", [DRIVER / "nested/capture-1.cap"], room / "odd.side")
     database.execute("DELETE FROM side_time WHERE seq % 11 = 5")
-    told = traced(database, room / "odd.gz")
-    read = Read(told, fail)
-    compare("odd times: slices", len(read.slices), database.execute("SELECT count(*) FROM call").fetchone()[0], fail)
-    odd = [told["otherData"][f"frames_with{which}_time"] > 0 for which in ("out", "_earlier")]
-    compare("odd times: frames", odd, [True, True], fail)
+    for name in ("odd.json.gz", "odd.pftrace"):
+        read = read_of(database, room / name, fail)
+        compare(f"{name}: slices", len(read.slices), database.execute("SELECT count(*) FROM call").fetchone()[0], fail)
+        odd = [read.told[f"frames_with{which}_time"] > 0 for which in ("out", "_earlier")]
+        compare(f"{name}: frames", odd, [True, True], fail)
     database.close()
 
 
-# Runs ./view, which gets SIGTERM when a file is written that has these bytes.
+# Runs ./view, which gets SIGTERM when so many times something was handed over to the file.
 STOPPED_AT = """
 import os, runpy, signal, sys
-from viewer.timeline import trace
-at, written = int(sys.argv[1]), trace.Out.text
-def text(self, text):
-    written(self, text)
-    trace.Out.count = getattr(trace.Out, "count", 0) + 1
-    if trace.Out.count == at:
+from viewer.timeline import packed
+at, count, written = int(sys.argv[1]), 0, packed.File.add
+def add(self, data):
+    global count
+    written(self, data)
+    count += 1
+    if count == at:
         os.kill(os.getpid(), signal.SIGTERM)
-trace.Out.text = text
+packed.File.add = add
 sys.argv = sys.argv[2:]
 runpy.run_path(sys.argv[0], run_name="__main__")
 """
@@ -535,12 +471,12 @@ runpy.run_path(sys.argv[0], run_name="__main__")
 def check_stopped(folder: pathlib.Path, room: pathlib.Path, fail: Fail) -> None:
     """SIGTERM while a timeline is written leaves nothing, neither beside it nor in TMPDIR."""
     (room / "tmp").mkdir()
-    for at in (1, 3):
-        words = [folder / "view", DRIVER / "gaps/capture-1.cap", "--trace", "stopped.gz"]
+    for at, name in ((1, "stopped.json.gz"), (2, "stopped.json.gz"), (1, "stopped.pftrace")):
+        words = [folder / "view", DRIVER / "gaps/capture-1.cap", "--trace", name]
         ended = subprocess.run([sys.executable, "-c", STOPPED_AT, str(at), *words], cwd=room,
                                env={**os.environ, "TMPDIR": str(room / "tmp")})
-        compare(f"stopped at {at}", (ended.returncode, sorted(path.name for path in room.rglob("*"))), (143, ["tmp"]),
-                fail)
+        left = sorted(path.name for path in room.rglob("*"))
+        compare(f"{name}, stopped at {at}", (ended.returncode, left), (143, ["tmp"]), fail)
 
 
 def has_child() -> bool:
@@ -556,11 +492,11 @@ def check_reader(folder: pathlib.Path, room: pathlib.Path, fail: Fail) -> None:
     of a database that lacks a table, which ends with an error."""
     database = loaded(folder, room / "reader.db", [DRIVER / "gaps/capture-1.cap"], None)
     first, = database.execute("SELECT first_seq FROM raw_capture").fetchone()
-    traced(database, room / "narrow.gz", last=first)
+    written(database, room / "narrow.json.gz", last=first)
     compare("a process after a narrowed timeline", has_child(), False, fail)
     database.execute("DROP TABLE raw_send")
     try:
-        traced(database, room / "lacks.gz")
+        written(database, room / "lacks.json.gz")
         came = "a timeline"
     except sqlite3.Error as error:
         came = str(error)
@@ -572,15 +508,15 @@ def check_reader(folder: pathlib.Path, room: pathlib.Path, fail: Fail) -> None:
 
 
 def samples() -> Iterator[tuple[list[pathlib.Path], pathlib.Path | None]]:
-    yield from (([DRIVER / name / "capture-1.cap"], DRIVER / name / "capture.side") for name in WITH_SIDE)
+    yield from WITH_FILES.values()
     yield from (([ROOT / "samples" / name for name in names], None) for names in WITHOUT_SIDE)
     yield [DRIVER / "ends/capture-1.cap"], None
 
 
 def picture_of_sample(room: pathlib.Path, viewer: str, picture: pathlib.Path) -> None:
     """The picture in docs/VIEW.md."""
-    view(built_programs(room, AUDITOR), room, *stored(PICTURED.name), "--trace", "out.gz")
-    make_picture(room, viewer, room / "out.gz", PICTURED, picture)
+    view(built_programs(room, AUDITOR), room, *stored(PICTURED.name), "--trace", "out.json.gz")
+    make_picture(room, viewer, room / "out.json.gz", PICTURED, picture)
 
 
 def judge(given: argparse.Namespace, room: pathlib.Path, fail: Fail) -> None:
@@ -590,13 +526,16 @@ def judge(given: argparse.Namespace, room: pathlib.Path, fail: Fail) -> None:
         picture_of_sample(room, given.picture[0], pathlib.Path(given.picture[1]))
     elif given.cost:
         print_cost(room, *given.cost)
+    elif given.perfetto:
+        ask_perfetto(built_programs(room, given.programs[0]), room, given.perfetto, fail)
     else:
         folder = built_programs(room, given.programs[0])
         for files, side in samples():
             check_sample(folder, room, files, side, fail)
-        run_parts((check_small, check_words, check_malformed, check_hostile, check_clock, check_order, check_stopped,
-                   check_reader), folder, room, fail)
+        run_parts((check_small, check_words, check_malformed, check_hostile, check_clock, check_early,
+                   check_instants_last, check_reused, check_order, check_stopped, check_reader), folder, room, fail)
 
 
 if __name__ == "__main__":
-    check(judge, viewer={"nargs": "+"}, picture={"nargs": 2}, cost={"nargs": "+", "type": int})
+    check(judge, viewer={"nargs": "+"}, picture={"nargs": 2}, cost={"nargs": "+", "type": int},
+          perfetto={"type": pathlib.Path})

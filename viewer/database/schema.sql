@@ -8,9 +8,10 @@
 -- needs: nothing
 -- makes: tables: raw_capture, raw_process, raw_thread, raw_frame, raw_record, raw_interface, raw_service, raw_object,
 --   raw_call, raw_generation, raw_send, raw_delivery, raw_level, side_device, side_process, side_thread, side_time,
---   side_lost, interface, service, method, call_interface, object_interface, object_service, status, side_missed,
---   side_calls, side_handle, book, book_opening, book_handle, book_node, book_buffer, book_call, book_process,
---   book_open, disagreement, side_call, side_pc, side_map, side_unstacked, symbol, capture, report, finding; indexes:
+--   side_clock, side_lost, interface, service, method, call_interface, object_interface, object_service, status,
+--   side_missed, side_calls, side_handle, book, book_opening, book_handle, book_node, book_buffer, book_call,
+--   book_process, book_open, disagreement, side_call, side_pc, side_map, side_unstacked, symbol, capture, report, finding;
+--   indexes:
 --   side_process_of_pid, side_thread_of_tid
 
 PRAGMA user_version = 7;
@@ -279,6 +280,8 @@ CREATE TABLE side_thread(device INTEGER, process INTEGER, thread INTEGER, tid IN
 CREATE INDEX side_process_of_pid ON side_process(pid);
 CREATE INDEX side_thread_of_tid ON side_thread(tid);
 CREATE TABLE side_time(seq INTEGER PRIMARY KEY, ts INTEGER NOT NULL) STRICT;
+-- What other clocks showed at a time after the beginning: after each sleep of the system, and at the end.
+CREATE TABLE side_clock(ts INTEGER PRIMARY KEY, realtime INTEGER NOT NULL, boottime INTEGER NOT NULL) STRICT;
 CREATE TABLE side_lost(seq INTEGER PRIMARY KEY, device INTEGER, process INTEGER, thread INTEGER, why TEXT) STRICT;
 -- The names in raw_interface and in raw_service, put together.
 CREATE TABLE interface(id INTEGER PRIMARY KEY, name TEXT NOT NULL) STRICT;

@@ -178,6 +178,10 @@ class SideList:
                           machine=keyed["machine"], payloads=keyed.get("payloads"),
                           boottime=number(keyed["boottime"]) if "boottime" in keyed else None)
 
+    def take_clocks(self, time: int, _: list[str], keyed: dict[str, str]) -> None:
+        self.database.execute("INSERT OR REPLACE INTO side_clock VALUES (?, ?, ?)",
+                              (time, number(keyed["realtime"]), number(keyed["boottime"])))
+
     def take_device(self, _: int, positional: list[str], keyed: dict[str, str]) -> None:
         self.database.execute("INSERT OR REPLACE INTO side_device VALUES (?, ?)",
                               (*numbers(positional, 1), keyed["name"]))

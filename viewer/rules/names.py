@@ -61,6 +61,14 @@ class Names:
         told, name = f"code {code_name(code)}", self.named(code, upid, ptr, own)
         return told if name is None else f"{name[0]} ({told})" if name[1] else f"{name[0]} {told}"
 
+    def meant(self, code: int, upid: int | None, ptr: int | None, own: int | None = None
+              ) -> tuple[str | None, str | None]:
+        """The interface and the method of a call, as far as they are known."""
+        interface, _ = (own, 0) if own is not None else self.called.get((code, upid, ptr), (None, 0))
+        full = self.full[interface] if interface is not None else \
+            BINDER if code in LETTERS and (BINDER, code) in self.methods else None
+        return full, self.methods.get((full, code))
+
     def without_methods(self, path: str) -> str:
         """A path in which calls are named by interface and code alone, without packages: what is alike in AIDL and in
         HIDL, in two versions, and with a table of methods or without."""

@@ -1,15 +1,32 @@
 """What a timeline shows that is not a record: ends of threads and processes, and frames that are missing."""
 
 import sqlite3
-from typing import Iterator
+from typing import Iterator, NamedTuple
 
-from viewer.timeline.tracks import MARK, Mark, Tracks
+from viewer.timeline.rows import MARK
+from viewer.timeline.tracks import Tracks
 
 # A place after all others.
 LAST = 2**64
 
 # The place of the first frame after one.
 NEXT_FRAME = "coalesce((SELECT f.place FROM raw_frame f WHERE f.seq > {} ORDER BY f.seq LIMIT 1), 9223372036854775807)"
+
+
+class Mark(NamedTuple):
+    """What is not a record: the end of something, or something that is missing. It comes after the frame `seq`; what
+    `threads` are in ends there, and so does all that `processes` hold."""
+    seq: int
+    ts: int | None
+    name: str
+    category: str
+    fields: dict[str, object]
+    utid: int | None = None
+    upid: int | None = None
+    why: str = ""
+    threads: tuple[int, ...] = ()
+    processes: tuple[int, ...] = ()
+
 
 # A place before which a mark comes, what the row is about, and the mark.
 Row = tuple[int, int, Mark]
@@ -35,8 +52,8 @@ def ends_of(database: sqlite3.Connection, tracks: Tracks) -> list[Row]:
 
 def lost_of(database: sqlite3.Connection, tracks: Tracks) -> Iterator[Row]:
     """The frames that the recorder lost, as the side list tells."""
-    threads = {numbers: utid for utid, _, *numbers_, _ in tracks.threads for numbers in [tuple(numbers_)]}
-    processes = {(device, process): upid for upid, device, _, process, *_ in tracks.processes}
+    threads = {(row.device, row.process, row.thread): row.utid for row in tracks.threads}
+    processes = {(row.device, row.process): row.upid for row in tracks.processes}
     for seq, device, process, thread, why, place in database.execute(
             f"SELECT l.seq, l.device, l.process, l.thread, l.why, {NEXT_FRAME.format('l.seq')} FROM side_lost l,"
             " raw_capture c WHERE l.seq BETWEEN c.first_seq AND c.last_seq ORDER BY l.seq"):

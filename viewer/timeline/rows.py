@@ -10,29 +10,27 @@ import sqlite3
 from typing import BinaryIO, Iterator, NoReturn
 
 from viewer.database.sqlite import named_numbers
-from viewer.timeline.tracks import MARK
 
-# What a row is about, and its order among rows of one place.
-SEND, DELIVERY, RECORD, FINDING = range(MARK + 1, MARK + 5)
+# What a row is about, and its order among rows of one place. A mark is no row of the database.
+MARK, SEND, DELIVERY, RECORD, FINDING = range(5)
 
 # How many bytes of the capture are read at a time.
 STRETCH = 2**18
 
 # The rows of a stretch of the capture.
 QUERIES = {
-    # A send, its call, its delivery if each names the other, and the node that its handle leads to.
+    # A send, its call, its delivery if each names the other, the node that its handle leads to, and its stack.
     SEND: """
 SELECT s.place, :what, s.seq, x.ts, s.utid, r.code, r.data_size, r.handle, c.verdict, c.closer, s.refused, s.certain,
-  s.fits, e.place, e.utid, e.seq, n.upid, n.certain, n.ptr, r.interface
+  s.fits, e.place, e.utid, e.seq, n.upid, n.certain, n.ptr, r.interface, k.stack
 FROM raw_send s CROSS JOIN raw_record r ON r.place = s.place LEFT JOIN side_time x ON x.seq = s.seq
   LEFT JOIN raw_call c ON c.place = s.place LEFT JOIN raw_delivery e ON e.place = s.delivery AND e.send = s.place
-  LEFT JOIN node_of n ON n.generation = s.generation
+  LEFT JOIN node_of n ON n.generation = s.generation LEFT JOIN side_call k ON k.seq = s.seq
 WHERE s.place >= :begin AND s.place < :end ORDER BY s.place""",
     # A delivery, its call, and its send if each names the other.
     DELIVERY: """
 SELECT d.place, :what, d.seq, x.ts, d.utid, r.kind, r.code, r.flags, r.data_size, r.ptr, r.cookie, r.sender_pid,
-  d.freed_by, c.verdict, c.closer, p.place, p.utid, p.seq, p.certain, p.fits,
-  iif(r.flags & :TF_ONE_WAY, (SELECT y.ts FROM side_time y WHERE y.seq = p.seq), NULL), r.interface
+  d.freed_by, c.verdict, c.closer, p.place, p.utid, p.seq, p.certain, p.fits, r.interface
 FROM raw_delivery d CROSS JOIN raw_record r ON r.place = d.place LEFT JOIN side_time x ON x.seq = d.seq
   LEFT JOIN raw_call c ON c.place = d.place LEFT JOIN raw_send p ON p.place = d.send AND p.delivery = d.place
 WHERE d.place >= :begin AND d.place < :end ORDER BY d.place""",
@@ -46,7 +44,8 @@ WHERE r.kind IN (:BC_FREE_BUFFER, :BC_ACQUIRE, :BC_RELEASE, :BR_ERROR, :BR_DEAD_
   AND r.place >= :begin AND r.place < :end ORDER BY r.place"""}
 
 FINDINGS = """
-SELECT f.place, :what, f.seq, x.ts, f.utid, u.verdict, g.title, f.section, f.path, f.rule, u.text, f.note
+SELECT f.place, :what, f.seq, x.ts, f.utid, u.verdict, g.title, f.section, f.path, f.rule, u.text, f.note,
+  coalesce(f.lead, f.id)
 FROM finding f JOIN rule u ON u.id = f.rule JOIN finding_head h ON h.id = f.id JOIN finding_group g ON g.grp = h.grp
   LEFT JOIN side_time x ON x.seq = f.seq
 WHERE f.utid NOTNULL AND f.place NOTNULL AND u.verdict <> 'normal' ORDER BY f.place, f.id"""

@@ -69,14 +69,14 @@ def check_methods(folder: pathlib.Path, room: pathlib.Path, fail: Fail) -> None:
     make_table(room, "forms", "table")
     capture = written(session(), room, "named")
     words = *capture, "--methods", "table"
-    made = view(folder, room, *words, "-o", "named.html", "--database", "named.db", "--trace", "named.gz")
+    made = view(folder, room, *words, "-o", "named.html", "--database", "named.db", "--trace", "named.json.gz")
     compare("--methods", made, (0, "", ""), fail)
     text = texts_of(room / "named.html")
     compare("names that the page lacks", [one for one in ON_PAGE if one not in text], [], fail)
     database = sqlite3.connect(room / "named.db")
     for query, due in QUESTIONS.items():
         compare(query, database.execute(query).fetchall(), due, fail)
-    events = timeline_of(room / "named.gz")["traceEvents"]
+    events = timeline_of(room / "named.json.gz")["traceEvents"]
     compare("names that the timeline lacks", SLICES - {one.get("name") for one in events}, set(), fail)
     _, lines, _ = view(folder, room, *words, "--groups")
     _, plain, _ = view(folder, room, *capture, "--groups")
@@ -130,11 +130,12 @@ def check_hostile_methods(folder: pathlib.Path, room: pathlib.Path, fail: Fail) 
     (room / "harm").write_text("".join(f"check.forms.IIds\t{code}\t{harm}\t{harm}\n" for code in (1, 3, 10))
                                + f"check.forms.IPlain\t1\t{'a' * 2**20}\t-\n<b>.I\t1\tf\t-\n")
     words = ("harm.cap", "--side", "harm.side", "--methods", "harm")
-    compare("hostile methods, status", view(folder, room, *words, "-o", "harm.html", "--trace", "harm.gz")[0], 0, fail)
+    made = view(folder, room, *words, "-o", "harm.html", "--trace", "harm.json.gz")
+    compare("hostile methods, status", made[0], 0, fail)
     text = (room / "harm.html").read_text()
     check_harmless("hostile methods", text, fail)
     compare("hostile methods: the page stays small", len(text) < 2**18, True, fail)
-    compare("hostile methods: a timeline", bool(timeline_of(room / "harm.gz")), True, fail)
+    compare("hostile methods: a timeline", bool(timeline_of(room / "harm.json.gz")), True, fail)
     _, lines, _ = view(folder, room, *words, "--groups")
     compare("hostile methods: fields of a line", {line.count("\t") for line in lines.splitlines()}, {10}, fail)
 

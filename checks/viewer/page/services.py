@@ -41,7 +41,7 @@ ON_PAGE = (
 def check_services(folder: pathlib.Path, room: pathlib.Path, fail: Fail) -> None:
     """A session with services: on the page, in the database, in groups and in the timeline."""
     words = written(session(), room, "served")
-    made = view(folder, room, *words, "-o", "served.html", "--database", "served.db", "--trace", "served.gz")
+    made = view(folder, room, *words, "-o", "served.html", "--database", "served.db", "--trace", "served.json.gz")
     compare("services", made, (0, "", ""), fail)
     text = texts_of(room / "served.html")
     compare("services that the page lacks", [one for one in ON_PAGE if one not in text], [], fail)
@@ -49,7 +49,7 @@ def check_services(folder: pathlib.Path, room: pathlib.Path, fail: Fail) -> None
     compare("node_service", database.execute("SELECT service, interface, ptr, n, others, rests_on FROM node_service"
                                              " ORDER BY ptr").fetchall(),
             [("hello", "check.forms.IIds", 0x9000, 2, 0, "bytes"), (None, None, 0x9100, 1, 0, "bytes")], fail)
-    events = timeline_of(room / "served.gz")["traceEvents"]
+    events = timeline_of(room / "served.json.gz")["traceEvents"]
     named = {one["name"] for one in events if one.get("args", {}).get("service") == "hello"}
     compare("services in the timeline", named,
             {f"{side} IIds code {code}" for side in ("call", "serve") for code in (10, 11)}, fail)
@@ -69,7 +69,7 @@ def check_hostile_names(folder: pathlib.Path, room: pathlib.Path, fail: Fail) ->
     client.main.sends(0, 3, body=marked(MANAGER) + string16("<script>window.bad=1</script>"))
     s.wait(300)
     capture, *_ = written(s, room, "harmful")
-    made = view(folder, room, capture, "-o", "harmful.html", "--database", "harmful.db", "--trace", "harmful.gz")
+    made = view(folder, room, capture, "-o", "harmful.html", "--database", "harmful.db", "--trace", "harmful.json.gz")
     compare("hostile payloads", made, (0, "", ""), fail)
     database = sqlite3.connect(room / "harmful.db")
     known = {name for name, in database.execute("SELECT name FROM interface")}

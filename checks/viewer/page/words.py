@@ -93,8 +93,8 @@ def check_no_engine(folder: pathlib.Path, room: pathlib.Path, fail: Fail) -> Non
     words = [sys.executable, "-c", NO_ENGINE, folder / "view", here / "capture-1.cap", "--side", here / "capture.side"]
     missing = "view: jinja2 is missing to make the page; this installs it: apt-get install python3-jinja2\n"
     for more, due, made in ((("-o", "none.html", "--database", "none.db"), (1, missing), []),
-                            (("--groups", "--database", "some.db", "--trace", "some.gz"), (0, ""),
-                             ["some.db", "some.gz"])):
+                            (("--groups", "--database", "some.db", "--trace", "some.json.gz"), (0, ""),
+                             ["some.db", "some.json.gz"])):
         ended = subprocess.run([*words, *more], cwd=room, capture_output=True, text=True)
         compare(f"no engine, {more}", (ended.returncode, told_by(ended.stderr)), due, fail)
         compare(f"no engine, {more}: what is made", [one for one in more if (room / one).exists()], made, fail)

@@ -1,4 +1,4 @@
-"""What a timeline of many transactions takes, and what its database."""
+"""What timelines of many transactions take, and what their database."""
 
 import pathlib
 import sqlite3
@@ -20,7 +20,7 @@ import pathlib, sys
 from viewer.database.sqlite import open_database
 from viewer.timeline import trace
 from viewer.timeline.tracks import Window
-trace.write(open_database(pathlib.Path(sys.argv[1])), pathlib.Path(sys.argv[2]), Window())
+trace.write(open_database(pathlib.Path(sys.argv[1])), pathlib.Path(sys.argv[2]), Window(), sys.argv[2])
 """
 
 
@@ -77,7 +77,7 @@ def took(what: str, words: list[object]) -> None:
     status, used = measured_run(list(map(str, words)), stdout=subprocess.DEVNULL)
     if status:
         sys.exit(f"checks/trace: {words[0]} ended with status {status}")
-    print(f"{what:34}{used.processor:8.1f} s of the processor {used.clock:8.1f} s {used.peak / 1024:8.0f} MiB",
+    print(f"{what:38}{used.processor:8.1f} s of the processor {used.clock:8.1f} s {used.peak / 1024:8.0f} MiB",
           flush=True)
 
 
@@ -89,15 +89,17 @@ def text_bytes(path: pathlib.Path) -> int:
 
 
 def print_cost(room: pathlib.Path, most: int, times: int) -> None:
-    """Prints what a timeline of so many bytes of traffic takes, and what it has. The traffic comes so many times."""
-    capture, side, made, out = (room / name for name in ("traffic.cap", "traffic.side", "traffic.db", "trace.gz"))
+    """Prints what timelines of so many bytes of traffic take, and what they have. The traffic comes so many times."""
+    capture, side, made = (room / name for name in ("traffic.cap", "traffic.side", "traffic.db"))
     write_traffic(capture, side, most)
     took("the database, by ./view", [ROOT / "view", capture, "--side", side, "--groups", "--database", made])
     if times > 1:
         repeat(made, times)
-    took("the timeline of it", [sys.executable, "-c", TIMELINE, made, out])
+    outs = [room / name for name in ("out.json.gz", "out.pftrace", "out.pftrace.gz")]
+    for out in outs:
+        took(f"the timeline of it, {out.name}", [sys.executable, "-c", TIMELINE, made, out])
     database = sqlite3.connect(made)
     sends, = database.execute("SELECT count(*) FROM send WHERE kind LIKE 'BC_TRANSACTION%'").fetchone()
     records, = database.execute("SELECT records FROM raw_capture").fetchone()
-    print(f"{times} times {capture.stat().st_size} bytes, {records} records, {sends} transactions;"
-          f" a timeline of {text_bytes(out)} bytes, {out.stat().st_size} packed")
+    print(f"{times} times {capture.stat().st_size} bytes, {records} records, {sends} transactions; JSON of"
+          f" {text_bytes(outs[0])} bytes; files of", *(f"{out.stat().st_size}, {out.name};" for out in outs))

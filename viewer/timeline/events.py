@@ -1,0 +1,136 @@
+"""What a timeline is made of, in whatever format: tracks of threads, and what is on them."""
+
+from typing import Mapping, NamedTuple, Protocol
+
+from viewer.timeline.tracks import Track
+
+# What a slice of a thread is: a call that it makes, a call that it serves, a oneway transaction that it sends, and one
+# that came to it.
+CALL, SERVED, SENT, CAME = SORTS = range(4)
+CATEGORIES = "call", "served", "oneway", "oneway"
+VERBS = "call", "serve", "send oneway", "serve oneway"
+
+# The arguments of each, in the order in which values are handed over. A value of None is left out. Those of what is
+# called come after them.
+ARGUMENTS = (("place", "seq", "handle", "to", "data_size", "delivery", "fits", "verdict", "closer"),
+             ("place", "seq", "ptr", "cookie", "sender_pid", "data_size", "from", "send", "fits", "verdict", "closer"),
+             ("place", "seq", "handle", "to", "data_size", "delivery", "fits", "refused"),
+             ("place", "seq", "ptr", "cookie", "sender_pid", "data_size", "from", "send", "fits"))
+TEXTS = "to", "from", "verdict"
+ADDRESSES = "ptr", "cookie"
+PLACES = "place", "seq", "delivery", "closer", "send", "refused"
+
+
+class Called(NamedTuple):
+    """What a transaction is for: its name, its code, and what is known of the object."""
+    label: str
+    code: int
+    interface: str | None
+    method: str | None
+    service: str | None
+
+    def fields(self) -> dict[str, object]:
+        return {name: value for name, value in zip(self._fields[1:], self[1:]) if value is not None}
+
+
+class Lane(Track):
+    """The track of a thread of the system: what that is in, the innermost last."""
+    __slots__ = "stack",
+
+    def __init__(self) -> None:
+        super().__init__()
+        self.stack: list[Open] = []
+
+
+class Process(Track):
+    """What a process holds: the values of its counters now, and as they are shown, and its strong references by handle.
+    `head` is how events name it in the format; None if it is not shown."""
+    __slots__ = "upid", "head", "now", "shown", "strong"
+
+    def __init__(self, upid: int, counters: int):
+        super().__init__()
+        self.upid = upid
+        self.head: object = None
+        self.now, self.shown = [0] * counters, [0] * counters
+        self.strong: dict[int, int] = {}
+
+
+class Thread:
+    """A thread of the capture. `entries` are those of its lane that are its own, and `serving` those of them that it
+    serves. `head` is how events name it in the format; None if it is not shown."""
+    __slots__ = "utid", "upid", "process", "lane", "head", "entries", "serving"
+
+    def __init__(self, utid: int, process: Process, lane: Lane):
+        self.utid, self.upid, self.process, self.lane = utid, process.upid, process, lane
+        self.head: object = None
+        self.entries = self.serving = 0
+
+
+class Open:
+    """What a thread is in. `values` are its arguments, None once it is written."""
+    __slots__ = "place", "closer", "sort", "thread", "called", "values"
+
+    def __init__(self, place: int, closer: int | None, sort: int, thread: Thread, called: object,
+                 values: tuple | None):
+        self.place, self.closer, self.sort, self.thread = place, closer, sort, thread
+        self.called, self.values = called, values
+
+
+class Finding(NamedTuple):
+    """A finding at its record. `one` is the number of the finding that it is one with, or its own."""
+    verdict: str
+    title: str
+    one: int
+    fields: dict[str, object]
+
+
+# The counters of a process: the name, and what is counted.
+COUNTERS = (("buffers", "held"), ("bytes", "held"), ("async bytes", "held"), ("references", "strong"),
+            ("calls", "open"), ("threads", "busy"))
+BUFFERS, BYTES, ASYNC, REFERENCES, CALLS, BUSY = ALL_COUNTERS = range(len(COUNTERS))
+
+
+class Format(Protocol):
+    """Writes the events of a timeline. Times are in nanoseconds of the axis. What it makes of `Called` is handed back
+    to it with each event."""
+
+    # What the axis is.
+    clock: str
+
+    def lane_of(self, utid: int) -> object:
+        """What two threads of the capture have in common if they are one thread of the system, and so one track."""
+
+    def head_of_thread(self, thread: Thread) -> object: ...
+
+    def head_of_process(self, process: Process) -> object: ...
+
+    def called(self, called: Called) -> object: ...
+
+    def begin(self, thread: Thread, ns: int, sort: int, called: object, values: tuple, flow: int | None,
+              stack: int | None, why: str) -> None:
+        """The begin of a slice. `flow` is the place of the send, if the pair is shown. `why` says why it begins later
+        than its record."""
+
+    def end(self, thread: Thread, ns: int, sort: int, called: object, why: str, stack: int | None) -> None: ...
+
+    def instant(self, where: Thread | Process | None, ns: int, category: str, name: str,
+                fields: Mapping[str, object]) -> None:
+        """Something that takes no time, on the track of a thread or of a process, or of all."""
+
+    def finding(self, thread: Thread, ns: int, finding: Finding) -> None: ...
+
+    def count(self, process: Process, ns: int) -> int:
+        """The counters of a process that were changed. Returns how many."""
+
+    def queue(self, thread: Thread, called: object, place: int, begin: int, end: int,
+              fields: Mapping[str, object]) -> None:
+        """How long a oneway transaction waited, in the process that gets it."""
+
+    def end_frame(self) -> None:
+        """All that a frame has was told."""
+
+    def flush(self) -> None:
+        """Hands what was made over to the file."""
+
+    def finish(self, told: dict[str, object]) -> None:
+        """The end, and what the timeline says of itself."""

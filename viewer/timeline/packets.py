@@ -1,0 +1,308 @@
+"""Perfetto's own format: packets, one after another, as `perfetto` writes them on a phone.
+
+Messages and fields have the names that they have in `protos/perfetto/trace` of Perfetto's sources.
+"""
+
+import hashlib
+import heapq
+import itertools
+import sqlite3
+from typing import Mapping
+
+from viewer.timeline.call_stacks import CallStacks
+from viewer.timeline.clocks import Moment
+from viewer.timeline.events import ARGUMENTS, CATEGORIES, SORTS, VERBS, Called, Finding, Process, Thread
+from viewer.timeline.interned import CATEGORY, CATEGORY_NAMES, EVENT_NAME, EVENT_NAMES, Interned
+from viewer.timeline.packed import File
+from viewer.timeline.system import System
+from viewer.timeline.tracks import Axis, ProcessRow, Tracks
+from viewer.timeline.wire import LENGTH, LENGTHS, PAIRS, VARINT, fixed, key, message, number, text, varint
+
+# The only field of Trace, and those of TracePacket.
+PACKET = 1
+CLOCK_SNAPSHOT, TIMESTAMP, SEQUENCE, TRACK_EVENT, INTERNED_DATA, FLAGS = 6, 8, 10, 11, 12, 13
+CLOCK_ID, DEFAULTS, TRACK_DESCRIPTOR, FIRST_ON_SEQUENCE, ATTRIBUTES = 58, 59, 60, 87, 126
+STATE_CLEARED, NEEDS_STATE = 1, 2
+PACKET_HEADS = [key(PACKET, LENGTH) + length for length in LENGTHS]
+LENGTH_BYTES = len(LENGTHS[0])
+
+# TrackEvent.
+TYPE, TRACK, COUNTER_VALUE, EXTRA_TRACKS, EXTRA_VALUES, FLOWS, CORRELATION = 9, 11, 30, 31, 12, 47, 52
+BEGIN, END, INSTANT, COUNTER = (number(TYPE, which) for which in range(1, 5))
+CORRELATED = key(CORRELATION, VARINT)
+
+# TrackDescriptor, ProcessDescriptor, ThreadDescriptor and CounterDescriptor.
+UUID, NAME, OF_PROCESS, OF_THREAD, PARENT, OF_COUNTER, OWN_TRACK = 1, 2, 3, 4, 5, 8, 9
+PROCESS_PID, PROCESS_NAME, PROCESS_LABELS = 1, 6, 8
+THREAD_PID, THREAD_TID, THREAD_NAME = 1, 2, 5
+UNIT, UNIT_COUNT, UNIT_BYTES = 3, 2, 3
+
+# ClockSnapshot, and the numbers of clocks.
+CLOCKS, PRIMARY_CLOCK, CLOCK, CLOCK_TIME = 1, 2, 1, 2
+REALTIME, MONOTONIC, BOOTTIME = 1, 3, 6
+
+# TraceAttributes.
+ATTRIBUTE, ATTRIBUTE_KEY, ATTRIBUTE_NUMBER, ATTRIBUTE_TEXT = 1, 1, 2, 3
+
+# The counters of a process.
+COUNTER_TRACKS = (("binder buffers held", UNIT_COUNT), ("binder buffer bytes", UNIT_BYTES),
+                  ("binder async bytes", UNIT_BYTES), ("binder strong references", UNIT_COUNT),
+                  ("binder calls open", UNIT_COUNT), ("binder threads busy", UNIT_COUNT))
+
+# The tracks above those of the processes.
+FINDINGS, OTHERS = "binder_audit: {}", "binder_audit: of no process"
+
+# The number of this sequence of packets: "BIND". Those of `traced` count from 1.
+SEQUENCE_NUMBER = 0x42494E44
+
+# What comes before the time of an event, and before the event.
+EVENT_BEGIN = number(SEQUENCE, SEQUENCE_NUMBER) + number(FLAGS, NEEDS_STATE) + key(TIMESTAMP, VARINT)
+EVENT_KEY = key(TRACK_EVENT, LENGTH)
+
+# So many bytes are handed to the file at a time.
+CHUNK = 2**18
+
+# Numbers of tracks, and of flows of findings, of one recording.
+BITS_OF_NUMBERS = 21
+FLOWS_OF_FINDINGS = 2**62
+
+
+class PacketCalled:
+    """What is called: the begin of a slice of each sort, with its other arguments, and its name."""
+    __slots__ = "begins", "label", "called"
+
+    def __init__(self, called: Called, begins: list[bytes]):
+        self.label, self.called, self.begins = called.label, called, begins
+
+
+class Packets:
+    """Writes a timeline as packets. Threads of the capture that are one thread of the system have one track."""
+
+    clock = "CLOCK_MONOTONIC of the recorded system, in nanoseconds"
+
+    def __init__(self, file: File, axis: Axis, tracks: Tracks, database: sqlite3.Connection):
+        self.file, self.axis, self.tracks = file, axis, tracks
+        self.system = System(tracks)
+        self.interned = Interned()
+        self.stacks = CallStacks(database, self.interned)
+        # What tells the tracks and flows of this recording from those of others in one trace.
+        facts = database.execute("SELECT key, value FROM capture WHERE key IN ('begin_ts', 'realtime', 'bytes',"
+                                 " 'records') ORDER BY key").fetchall()
+        self.recording = int.from_bytes(hashlib.blake2b(repr(facts).encode(), digest_size=8).digest(), "little")
+        self.uuids = itertools.count(self.recording % 2**BITS_OF_NUMBERS << BITS_OF_NUMBERS)
+        self.parts: list[bytes] = []
+        self.size = 0
+        self.new = self.interned.new
+        self.ns, self.at, self.around = -1, b"", 0
+        self.arguments = [[self.interned.writer(name) for name in names] for names in ARGUMENTS]
+        self.processes: dict[int, int] = {}
+        self.lanes: dict[tuple[int, int], bytes] = {}
+        self.counters: dict[int, list[tuple[bytes, bytes]]] = {}
+        self.queues: dict[int, list[tuple[int, bytes]]] = {}
+        self.others: dict[str, bytes] = {}
+        self.tell_clocks(axis.moments)
+
+    # -- packets
+
+    def packet(self, *parts: bytes) -> None:
+        made = message(PACKET, *parts, number(SEQUENCE, SEQUENCE_NUMBER))
+        self.parts.append(made)
+        self.size += len(made)
+
+    def event(self, ns: int, body: bytes) -> None:
+        """A packet with a TrackEvent."""
+        if ns != self.ns:
+            self.ns, self.at = ns, EVENT_BEGIN + varint(ns) + EVENT_KEY
+            self.around = len(self.at) + LENGTH_BYTES
+        if self.new:
+            self.packet(message(INTERNED_DATA, *self.new), number(FLAGS, NEEDS_STATE))
+            self.new.clear()
+        length = len(body)
+        size = length + self.around
+        if size < PAIRS:
+            self.parts += PACKET_HEADS[size], self.at, LENGTHS[length], body
+            self.size += size
+        else:
+            self.parts.append(message(PACKET, self.at + varint(length) + body))
+            self.size += size
+
+    def tell_clocks(self, moments: list[Moment]) -> None:
+        """What the clocks showed, and that times are of CLOCK_MONOTONIC if they are times. The wall clock goes on as it
+        began: where it was set back, Perfetto would count an error."""
+        for moment in moments:
+            passed = moment.boottime - moments[0].boottime if moment.boottime is not None and \
+                moments[0].boottime is not None else moment.monotonic - moments[0].monotonic
+            shown = {BOOTTIME: moment.boottime, MONOTONIC: moment.monotonic, REALTIME: moments[0].realtime + passed}
+            clocks = [message(CLOCKS, number(CLOCK, clock), number(CLOCK_TIME, time))
+                      for clock, time in shown.items() if time is not None]
+            first = number(PRIMARY_CLOCK, MONOTONIC if moment.boottime is None else BOOTTIME)
+            self.packet(message(CLOCK_SNAPSHOT, *clocks, first))
+        defaults = message(DEFAULTS, number(CLOCK_ID, MONOTONIC)) if moments else b""
+        self.packet(number(FLAGS, STATE_CLEARED), number(FIRST_ON_SEQUENCE, 1), defaults)
+
+    # -- tracks
+
+    def track(self, *parts: bytes) -> int:
+        """A new track."""
+        uuid = next(self.uuids)
+        self.packet(message(TRACK_DESCRIPTOR, number(UUID, uuid), *parts))
+        return uuid
+
+    def process_track(self, upid: int) -> int:
+        """The track of a process of the system, by one of its openings."""
+        one = self.system.process_of[upid]
+        if one not in self.processes:
+            rows = self.system.openings[one]
+            labels = [text(PROCESS_LABELS, label) for label in dict.fromkeys(map(self.label_of, rows))]
+            name = next((row.name for row in rows if row.name), "process")
+            self.processes[one] = self.track(message(
+                OF_PROCESS, number(PROCESS_PID, self.system.pid(rows[0])), text(PROCESS_NAME, name), *labels))
+        return self.processes[one]
+
+    def label_of(self, row: ProcessRow) -> str:
+        """The device of an opening, and the number that it has in the capture, if that is another one."""
+        other = f", process {row.process} of the capture" if row.pid not in (None, row.process) else ""
+        return row.device_name + other
+
+    def lane_of(self, utid: int) -> tuple[int, int]:
+        return self.system.lane_of[utid]
+
+    def head_of_thread(self, thread: Thread) -> bytes:
+        lane = self.lane_of(thread.utid)
+        if lane not in self.lanes:
+            upid, tid = lane
+            parent = self.process_track(upid)
+            name = self.system.names.get(lane)
+            described = message(OF_THREAD, number(THREAD_PID, self.system.pid_of(upid)), number(THREAD_TID, tid),
+                                text(THREAD_NAME, name) if name else b"")
+            self.lanes[lane] = number(TRACK, self.track(number(PARENT, parent), described, number(OWN_TRACK, 1)))
+        return self.lanes[lane]
+
+    def head_of_process(self, process: Process) -> bytes:
+        return number(TRACK, self.process_track(process.upid))
+
+    def counter_tracks(self, process: Process) -> list[tuple[bytes, bytes]]:
+        """What comes before the value of each counter of a process: as the counter of an event, and as an extra one."""
+        parent, of, made = self.process_track(process.upid), self.system.opening_of(process.upid), []
+        for name, unit in COUNTER_TRACKS:
+            uuid = self.track(number(PARENT, parent), text(NAME, name + of), message(OF_COUNTER, number(UNIT, unit)))
+            made.append((COUNTER + number(TRACK, uuid) + key(COUNTER_VALUE, VARINT),
+                         number(EXTRA_TRACKS, uuid) + key(EXTRA_VALUES, VARINT)))
+        return made
+
+    def other_track(self, name: str) -> bytes:
+        """A track above those of the processes."""
+        if name not in self.others:
+            self.others[name] = number(TRACK, self.track(text(NAME, name)))
+        return self.others[name]
+
+    def queue_track(self, process: Process, begin: int, end: int) -> bytes:
+        """A track of a process that is free for a slice of this time. All of them have one name, so Perfetto shows them
+        as one."""
+        free = self.queues.setdefault(self.system.process_of[process.upid], [])
+        if free and free[0][0] < begin:
+            _, head = heapq.heappop(free)
+        else:
+            head = number(TRACK, self.track(number(PARENT, self.process_track(process.upid)),
+                                            text(NAME, "binder queue")))
+        heapq.heappush(free, (end, head))
+        return head
+
+    # -- what the walk hands over
+
+    def name(self, category: str, name: str) -> bytes:
+        return self.interned.text(EVENT_NAMES, EVENT_NAME, name) + \
+            self.interned.text(CATEGORY_NAMES, CATEGORY, category)
+
+    def fields(self, fields: Mapping[str, object]) -> bytes:
+        return b"".join(self.interned.argument(name, value) for name, value in fields.items() if value is not None)
+
+    def called(self, called: Called) -> PacketCalled:
+        fields = self.fields(called.fields())
+        return PacketCalled(called, [self.name(CATEGORIES[sort], self.name_of(sort, called)) + fields
+                                     for sort in SORTS])
+
+    def name_of(self, sort: int, called: Called) -> str:
+        """The name of a slice."""
+        return f"{VERBS[sort]} {called.label}"
+
+    def begin(self, thread: Thread, ns: int, sort: int, called: PacketCalled, values: tuple, flow: int | None,
+              stack: int | None, why: str) -> None:
+        body = BEGIN + thread.head + called.begins[sort] + b"".join(
+            [write(value) for write, value in zip(self.arguments[sort], values) if value is not None])
+        if flow is not None:
+            body += fixed(FLOWS, self.recording + flow) + CORRELATED + varint(flow)
+        if stack is not None:
+            body += self.stacks.of(stack)
+        if why:
+            body += self.interned.argument("begin", why)
+        self.event(ns, body)
+
+    def end(self, thread: Thread, ns: int, sort: int, called: PacketCalled, why: str, stack: int | None) -> None:
+        body = END + thread.head
+        if why:
+            body += self.interned.argument("end", why)
+        if stack is not None:
+            body += self.stacks.of(stack)
+        self.event(ns, body)
+
+    def instant(self, where: Thread | Process | None, ns: int, category: str, name: str,
+                fields: Mapping[str, object], flow: bytes = b"") -> None:
+        head = self.other_track(OTHERS) if where is None else where.head
+        self.event(ns, INSTANT + head + self.name(category, name) + self.fields(fields) + flow)
+
+    def finding(self, thread: Thread, ns: int, finding: Finding) -> None:
+        """A finding is on a track above the processes, and at its record. A flow goes through both, and through the
+        findings that are one with it, in the order of their times."""
+        category = f"finding,{finding.verdict}"
+        flow = fixed(FLOWS, self.recording + FLOWS_OF_FINDINGS + finding.one)
+        if finding.verdict in ("real", "maybe"):
+            self.event(ns, INSTANT + self.other_track(FINDINGS.format(finding.verdict)) +
+                       self.name(category, f"{finding.title}: {self.tracks.certain[thread.upid]}") +
+                       self.fields(finding.fields) + flow)
+        self.instant(thread, ns, category, f"{finding.verdict}: {finding.title}", finding.fields, flow)
+
+    def count(self, process: Process, ns: int) -> int:
+        """One event has all counters that were changed. Extra ones of 0 come last: after one of them Perfetto 56 takes
+        all others for 0."""
+        tracks = self.counters.get(process.upid)
+        if tracks is None:
+            tracks = self.counters[process.upid] = self.counter_tracks(process)
+        body, zeros, changed = b"", b"", 0
+        for value, before, (own, extra) in zip(process.now, process.shown, tracks):
+            if value != before:
+                changed += 1
+                if not body:
+                    body = own + varint(value)
+                elif value:
+                    body += extra + varint(value)
+                else:
+                    zeros += extra + b"\0"
+        self.event(ns, body + zeros)
+        return changed
+
+    def queue(self, thread: Thread, called: PacketCalled, place: int, begin: int, end: int,
+              fields: Mapping[str, object]) -> None:
+        head = self.queue_track(thread.process, begin, end)
+        self.event(begin, BEGIN + head + self.name("queue", f"queue {called.label}") +
+                   self.fields({"place": place, **fields}))
+        self.event(end, END + head)
+
+    def end_frame(self) -> None:
+        """A flow is a field of its event here, so nothing has to wait for the end of a frame."""
+
+    def flush(self) -> None:
+        if self.size > CHUNK:
+            self.hand_over()
+
+    def hand_over(self) -> None:
+        self.file.add(b"".join(self.parts))
+        self.parts.clear()
+        self.size = 0
+
+    def finish(self, told: dict[str, object]) -> None:
+        made = [message(ATTRIBUTE, text(ATTRIBUTE_KEY, name), number(ATTRIBUTE_NUMBER, value)
+                        if isinstance(value, int) else text(ATTRIBUTE_TEXT, str(value)))
+                for name, value in told.items()]
+        self.packet(message(ATTRIBUTES, *made))
+        self.hand_over()
