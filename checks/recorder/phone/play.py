@@ -303,7 +303,7 @@ def detached(stage: Stage) -> None:
 def full(stage: Stage) -> None:
     """On a full device the recording ends with the last whole frame, and is fetched."""
     with mounted(stage, "/data/local/tmp", "12m"):
-        came = stage.record(stage.serials[0], "-o", "full", "--", "/system-programs/system", "fill")
+        came = stage.record(stage.serials[0], "-o", "full", "--", "/system-programs/system", "fill", FOLDER)
         stage.must("the status is not 1", came.status == 1)
         stage.must("it is not said that the device is full", re.search(
             r"^record: 127\.\S+ is full, with \d+ bytes free in \S+: the recording ends early$", came.said,
