@@ -1,4 +1,4 @@
-"""table.py FOLDER GUEST..: prints what recording costs, from the consoles and counts that checks/cost left in FOLDER."""
+"""table.py FOLDER GUEST..: prints what recording costs, from what checks/cost left in FOLDER."""
 
 import pathlib
 import statistics
@@ -22,17 +22,25 @@ class Run(NamedTuple):
     instructions: int | None
 
 
+def console(folder: pathlib.Path, guest: str) -> list[str]:
+    return (folder / f"{guest}.console").read_text(errors="replace").splitlines()
+
+
 def runs_of(folder: pathlib.Path, guest: str) -> Iterator[Run]:
     counts = folder / f"{guest}.counts"
     marks = [int(line.split()[0]) for line in counts.read_text().splitlines()] if counts.exists() else None
-    lines = [line.split()[1:] for line in (folder / f"{guest}.console").read_text(errors="replace").splitlines()
-             if line.startswith("cost: ")]
+    lines = [line.split()[1:] for line in console(folder, guest) if line.startswith("cost: ")]
     if marks is not None and len(marks) != 2 * len(lines):
         sys.exit(f"cost: {guest} has {len(lines)} runs and {len(marks)} counts")
     for index, (kind, how, *numbers) in enumerate(lines):
         size, count, nanoseconds, *more = map(int, numbers)
         instructions = marks[2 * index + 1] - marks[2 * index] if marks else None
         yield Run(kind, how, size, count, nanoseconds, tuple(more), instructions)
+
+
+def longest_stack(folder: pathlib.Path, guests: tuple[str, ...]) -> int:
+    lines = (line for guest in guests for line in console(folder, guest) if line.startswith("stack: "))
+    return max((int(line.split()[1]) for line in lines), default=0)
 
 
 def told(guest: str) -> str:
@@ -68,7 +76,7 @@ def print_loader(all_runs: dict[str, list[Run]]) -> None:
             for run in (it for it in runs if it.kind == "rate"):
                 loader, idle, *_ = run.more
                 print(f"    {told(guest):22} {run.size:11}{run.how:>12}{(loader - idle) / run.count:12,.0f}"
-                      f"{idle / (run.count / 1000):12,.0f}")
+                      f"{idle / (run.count / 1000 + 1):12,.0f}")
 
 
 def print_bytes(all_runs: dict[str, list[Run]]) -> None:
@@ -99,6 +107,7 @@ def print_times(all_runs: dict[str, list[Run]]) -> None:
 
 def main(folder: str, *guests: str) -> None:
     all_runs = {guest: list(runs_of(pathlib.Path(folder), guest)) for guest in guests}
+    print(f"stacks have up to {longest_stack(pathlib.Path(folder), guests)} functions\n")
     for printed in (print_calls, print_loader, print_bytes, print_times):
         printed(all_runs)
         print()
