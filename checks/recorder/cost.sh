@@ -6,13 +6,13 @@
 #            recorder's loader is stopped, on one processor and on four. On one, the guest's clock counts instructions
 #            too, so the processor time of the loader is a number of instructions. Other work on this machine changes
 #            nothing.
-#   timed    the same by the clock, with KVM
+#   timed    the same by the clock, on the guest with KVM, which needs processors that nothing else wants
 #
 #     checks/run cost [-- OPTION..]    fetches, builds, boots, prints: some minutes a guest
 #
 #     --room FOLDER      where packages and results are kept; by default a temporary folder that is removed
-#     --guest NAME       only this guest; may be given several times: aarch64-1, aarch64-4, x86_64-1, x86_64-4 and
-#                        x86_64-kvm, each with so many processors; by default aarch64-1, aarch64-4 and x86_64-kvm
+#     --guest NAME       only this guest; may be given several times: aarch64-1, aarch64-4, x86_64-1, x86_64-4, each
+#                        with so many processors, and x86_64-kvm; by default aarch64-1 and aarch64-4
 #     --limit SECONDS    how long a guest may take; by default 1800
 #
 # The status is 1 if a guest did not come to its end, or lost frames.
@@ -21,7 +21,7 @@ set -euo pipefail
 here=$(readlink -f -- "${BASH_SOURCE[0]}")
 root=${here%/*/*/*}
 scenarios=$root/checks/recorder/scenarios cost=$root/checks/recorder/cost check=cost
-room= limit=1800 chosen=() guests=(aarch64-1 aarch64-4 x86_64-kvm)
+room= limit=1800 chosen=() guests=(aarch64-1 aarch64-4)
 acceleration=
 # shellcheck source=checks/recorder/guests.sh
 source "$root/checks/recorder/guests.sh"
