@@ -321,8 +321,9 @@ def no_room(stage: Stage) -> None:
 
 def fetched_wrong(stage: Stage) -> None:
     """What can't be written here stays on the device."""
-    stage.line(stage.record(stage.serials[0], "--detach", "-o", "wrong"), 0, READY,
-               r"record: the files that are kept, .*", r"record: 127\.\S+ records, also without the connection; .*")
+    space = r"record: the files that are kept, .* can take \d+ bytes, and \. has \d+ free"  # said by --check too
+    stage.line(stage.record(stage.serials[0], "--detach", "-o", "wrong"), 0, space, READY, space,
+               r"record: 127\.\S+ records, also without the connection; .*")
     came = stage.record(stage.serials[0], "--fetch", "-o", "/dev/full/wrong")
     stage.line(came, 1, "record: /dev/full is not a folder in which files can be made")
     (stage.given.out / "wrong-1.cap").touch()
