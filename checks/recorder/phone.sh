@@ -141,6 +141,7 @@ print(*(it.getsockname()[1] for it in made))' "$1"
 boot() { # KERNEL SHELL CONSOLE
   local forward='' port
   make_initramfs "$1" "$2" "$room/initramfs.gz"
+  : >"$3"	# without what a guest before said
   read -ra ports < <(free_ports 5)
   for port in 0 1 2 3; do forward+=",hostfwd=tcp:127.0.0.1:${ports[port]}-:$((5555 + port))"; done
   # shellcheck disable=SC2086

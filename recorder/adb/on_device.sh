@@ -6,10 +6,11 @@
 #     sh on_device.sh detach NAMES [OPTION..] [-- PROGRAM ARGUMENT..]
 #         begins the same, and returns when the recording has begun, or has failed.
 #     sh on_device.sh end
-#         ends what was begun so, waits for that, and passes on what was said.
+#         ends what was begun so, waits for that, and passes on what was said since.
 #
 # The folder has `state`: `recording`, and then the status of the recorder, or nothing if the device is full; `pid`; and
-# `messages`, what the recorder says. The recorder does not write to the connection itself: that one may stall.
+# `messages`, what the recorder says, of which so many bytes as `told` has were passed on when it began. The recorder
+# does not write to the connection itself: that one may stall.
 # It uses what toybox, mksh and busybox have.
 umask 077
 
@@ -100,8 +101,10 @@ detach)
 	while kill -0 $runner 2>/dev/null && [ ! -e pid ]; do sleep 0.1; done
 	while is_recording && ! has_begun; do sleep 0.2; done
 	tell
+	echo $told >told
 	;;
 end)
+	told=$(cat told 2>/dev/null)
 	while is_recording; do		# a second signal ends the wait for a program that does not end
 		interrupt
 		for _ in 1 2 3 4 5 6 7 8 9 10; do is_recording && sleep 1; done

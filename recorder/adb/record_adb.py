@@ -11,6 +11,7 @@ from the device. So whatever fails, it is in one of the two places, and a line n
 import contextlib
 import os
 import shlex
+import shutil
 import signal
 import subprocess
 import sys
@@ -256,10 +257,16 @@ def command_of(name: str, given: list[str]) -> Command:
     return Command(name, asked, device.folder_of(connection))
 
 
+def as_typed(record: str) -> str:
+    """The script by the name that the user typed, who may have had it found in PATH: then it knows its whole path."""
+    name = os.path.basename(record)
+    return name if shutil.which(name) == record else record
+
+
 def main(name: str, given: list[str]) -> int:
     signal.signal(signal.SIGTERM, signal.default_int_handler)
     try:
-        return run(command_of(name, given))
+        return run(command_of(as_typed(name), given))
     except (Stopped, Lost, OSError) as failure:
         tell(failure_line(failure))
         return failure.status if isinstance(failure, Stopped) else 1

@@ -303,7 +303,7 @@ def detached(stage: Stage) -> None:
 def full(stage: Stage) -> None:
     """On a full device the recording ends with the last whole frame, and is fetched."""
     with mounted(stage, "/data/local/tmp", "12m"):
-        came = stage.record(stage.serials[0], "-o", "full", "--", "/system-programs/system", "fill")
+        came = stage.record(stage.serials[0], "-o", "full", "--", "/system-programs/system", "fill", FOLDER)
         stage.must("the status is not 1", came.status == 1)
         stage.must("it is not said that the device is full", re.search(
             r"^record: 127\.\S+ is full, with \d+ bytes free in \S+: the recording ends early$", came.said,
@@ -321,7 +321,9 @@ def no_room(stage: Stage) -> None:
 
 def fetched_wrong(stage: Stage) -> None:
     """What can't be written here stays on the device."""
-    stage.record(stage.serials[0], "--detach", "-o", "wrong")
+    space = r"record: the files that are kept, .* can take \d+ bytes, and \. has \d+ free"  # said by --check too
+    stage.line(stage.record(stage.serials[0], "--detach", "-o", "wrong"), 0, space, READY, space,
+               r"record: 127\.\S+ records, also without the connection; .*")
     came = stage.record(stage.serials[0], "--fetch", "-o", "/dev/full/wrong")
     stage.line(came, 1, "record: /dev/full is not a folder in which files can be made")
     (stage.given.out / "wrong-1.cap").touch()

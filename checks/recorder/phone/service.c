@@ -5,18 +5,18 @@
 #include <sys/mman.h>
 #include "names.h"
 
-static struct exchange exchange;
+static struct exchange *exchange;
 
 static uint32_t check_service(const char *name)
 {
 	transaction reply;
 	struct parcel parcel = parcel_of_manager();
 	put_string(&parcel, name);
-	if (send_parcel(&exchange, MANAGER, CHECK_SERVICE, 0, &parcel, &reply) != BR_REPLY) fail("check");
+	if (send_parcel(exchange, MANAGER, CHECK_SERVICE, 0, &parcel, &reply) != BR_REPLY) fail("check");
 	uint32_t handle = handle_in(&reply);
-	if (handle) number_command(&exchange, BC_ACQUIRE, handle);
-	free_buffer(&exchange, &reply);
-	turn(&exchange, false);
+	if (handle) number_command(exchange, BC_ACQUIRE, handle);
+	free_buffer(exchange, &reply);
+	turn(exchange, false);
 	return handle;
 }
 
@@ -24,10 +24,10 @@ static void interface_of(uint32_t handle, char *interface)
 {
 	transaction reply;
 	interface[0] = 0;
-	if (!handle || send_parcel(&exchange, handle, INTERFACE_TRANSACTION, 0, NULL, &reply) != BR_REPLY) return;
+	if (!handle || send_parcel(exchange, handle, INTERFACE_TRANSACTION, 0, NULL, &reply) != BR_REPLY) return;
 	string_at(&reply, 0, interface);
-	free_buffer(&exchange, &reply);
-	turn(&exchange, false);
+	free_buffer(exchange, &reply);
+	turn(exchange, false);
 }
 
 int main(int words, char **word)
@@ -38,10 +38,9 @@ int main(int words, char **word)
 	char name[MOST_NAME_BYTES], interface[MOST_NAME_BYTES];
 	shared = mmap(NULL, SHARED_SIZE, PROT_READ | PROT_WRITE, MAP_SHARED | MAP_ANONYMOUS, -1, 0);
 	if (words != 2 || strcmp(word[1], "list") || shared == MAP_FAILED) return 64;
-	struct opening opening = open_device("binder");
-	begin(&exchange, &opening);
+	exchange = opened("binder");
 	put_number(&parcel, 15);		/* of all priorities */
-	if (send_parcel(&exchange, MANAGER, LIST_SERVICES, 0, &parcel, &reply) != BR_REPLY) fail("list");
+	if (send_parcel(exchange, MANAGER, LIST_SERVICES, 0, &parcel, &reply) != BR_REPLY) fail("list");
 	memcpy(&count, (const uint8_t *)reply.data.ptr.buffer + 4, sizeof count);
 	printf("Found %u services:\n", count);
 	size_t at = 8;

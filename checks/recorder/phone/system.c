@@ -1,10 +1,11 @@
 /* system: a small Android for a guest: a manager of names, services that register with it, and an app that calls them.
- * All are there long before a recording. The service `notes` never frees what comes with code 2. `system fill` calls it
- * with as much data as it can, for a disk that is to be full. */
+ * All are there long before a recording. The service `notes` never frees what comes with code 2. `system fill FOLDER`
+ * calls one with much data, until the file system of a folder is full, and somewhat longer. */
 #include <stdio.h>
 #include <string.h>
 #include <sys/ioctl.h>
 #include <sys/mman.h>
+#include <sys/statvfs.h>
 #include <unistd.h>
 #include "names.h"
 
@@ -82,12 +83,10 @@ static void serve_with(struct exchange *exchange)
 
 static void manager(void)
 {
-	struct exchange exchange;
-	struct opening opening = open_device("binder");
-	if (ioctl(opening.descriptor, BINDER_SET_CONTEXT_MGR, 0) < 0) fail("context manager");
-	opening.serve = manage;
-	begin(&exchange, &opening);
-	serve_with(&exchange);
+	struct exchange *exchange = opened("binder");
+	if (ioctl(exchange->opening->descriptor, BINDER_SET_CONTEXT_MGR, 0) < 0) fail("context manager");
+	exchange->opening->serve = manage;
+	serve_with(exchange);
 }
 
 /* ---- the services */
@@ -104,18 +103,16 @@ static void serve(struct exchange *exchange, transaction *delivered)
 
 static void service(void)
 {
-	struct exchange exchange;
-	struct opening opening = open_device("binder");
+	struct exchange *exchange = opened("binder");
 	struct parcel parcel = parcel_of_manager();
-	opening.serve = serve;
-	begin(&exchange, &opening);
+	exchange->opening->serve = serve;
 	put_string(&parcel, own->name);
 	put_flat(&parcel, BINDER_TYPE_BINDER, 0x1000, 0x2000, 0x7f | FLAT_BINDER_FLAG_ACCEPTS_FDS);
 	put_number(&parcel, 0xc);
 	put_number(&parcel, 0);			/* not for isolated processes */
 	put_number(&parcel, 8);			/* when it is dumped */
-	if (send_parcel(&exchange, MANAGER, ADD_SERVICE, 0, &parcel, NULL) != BR_REPLY) fail("register");
-	serve_with(&exchange);
+	if (send_parcel(exchange, MANAGER, ADD_SERVICE, 0, &parcel, NULL) != BR_REPLY) fail("register");
+	serve_with(exchange);
 }
 
 /* ---- the app */
@@ -143,15 +140,13 @@ static void ask(struct exchange *exchange, uint32_t handle, const struct service
 
 static void app(void)
 {
-	struct exchange exchange;
-	struct opening opening = open_device("binder");
+	struct exchange *exchange = opened("binder");
 	uint32_t handles[SERVICES];
-	begin(&exchange, &opening);
-	for (int i = 0; i < SERVICES; i++) handles[i] = look_up(&exchange, services[i].name);
+	for (int i = 0; i < SERVICES; i++) handles[i] = look_up(exchange, services[i].name);
 	shared->ready++;
 	for (uint32_t round = 0;; round++) {
-		for (int i = 0; i < SERVICES; i++) ask(&exchange, handles[i], services + i, ECHO, 4);
-		if (round % 4 == 0) ask(&exchange, handles[NOTES], services + NOTES, KEEP, 16);
+		for (int i = 0; i < SERVICES; i++) ask(exchange, handles[i], services + i, ECHO, 4);
+		if (round % 4 == 0) ask(exchange, handles[NOTES], services + NOTES, KEEP, 16);
 		usleep(500000);
 	}
 }
@@ -174,19 +169,27 @@ static void begin_system(void)
 
 /* ---- a disk that is to be full */
 
-static void fill(void)
+enum { FEW_BYTES = 1 << 16, LONGER = 4000 };
+
+static bool is_full(const char *folder)
 {
-	struct exchange exchange;
-	struct opening opening = open_device("binder");
-	begin(&exchange, &opening);
-	uint32_t handle = look_up(&exchange, services[0].name);
-	for (;;) ask(&exchange, handle, services, ECHO, 512);
+	struct statvfs found;
+	if (statvfs(folder, &found)) fail(folder);
+	return found.f_bavail * found.f_frsize < FEW_BYTES;
+}
+
+static void fill(const char *folder)
+{
+	struct exchange *exchange = opened("binder");
+	uint32_t handle = look_up(exchange, services[0].name);
+	while (!is_full(folder)) ask(exchange, handle, services, ECHO, 512);
+	for (int i = 0; i < LONGER; i++) ask(exchange, handle, services, ECHO, 512);
 }
 
 int main(int words, char **word)
 {
 	shared = mmap(NULL, SHARED_SIZE, PROT_READ | PROT_WRITE, MAP_SHARED | MAP_ANONYMOUS, -1, 0);
 	if (shared == MAP_FAILED) fail("mmap");
-	if (words > 1 && !strcmp(word[1], "fill")) fill();
-	begin_system();
+	if (words > 2 && !strcmp(word[1], "fill")) fill(word[2]);
+	else begin_system();
 }
