@@ -8,7 +8,7 @@
 --   listing, came_to, sent_to, node_interface, stack, node_service
 
 CREATE VIEW device AS
-SELECT DISTINCT p.device, s.name FROM raw_process p LEFT JOIN side_device s USING (device);
+SELECT DISTINCT p.device, s.name, s.driver FROM raw_process p LEFT JOIN side_device s USING (device);
 
 CREATE VIEW process AS
 SELECT p.upid, p.device, p.process, coalesce(s.pid, iif(p.process < :NO_PID, p.process, NULL)) AS pid, s.name,
