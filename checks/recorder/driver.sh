@@ -22,7 +22,8 @@
 #     --cost             also measures what recording costs: bare, with the recorder, and with the witness
 #     --arm64            also plays a few scenarios on Debian's kernel for arm64, with a recorder built for it
 #     --sanitize         runs the recorder under the address and undefined-behaviour sanitizers; they must find nothing
-#     --store            also renews samples/driver from the results of the 6.1 kernel
+#     --store            also renews samples/driver from the results of the newest kernel; with --rust some of them, as
+#                        NAME-rust
 #     --blind            records the sessions of the blind test set instead, and judges nothing: blind/play.sh
 #
 # If a comparison fails, it says which one and ends with status 1.
@@ -37,6 +38,7 @@ cost= store= arm64= rust= sanitize= blind=
 acceleration='-accel tcg,thread=single -cpu max'
 series=(6.1 6.12 newest)
 only=()
+stored_of_rust=(clean leaks objects deaths threads oneway errors freeze before cut outsider two-drivers)
 # shellcheck source=checks/recorder/guests.sh
 source "$root/checks/recorder/guests.sh"
 # shellcheck source=checks/recorder/rust_kernel.sh
@@ -132,6 +134,13 @@ build_programs() {
     gcc -m32 -isystem /usr/include/x86_64-linux-gnu "${flags[@]}" -Wno-pointer-to-int-cast -Wno-int-to-pointer-cast \
       -static -o "$programs/scenarios.32" "${source[@]}" -lpthread
   fi
+}
+
+# What is measured with --cost, and needs the recorder's programs for the kernel.
+build_opens() {
+  "$root/recorder/build.sh" "$room/skeleton" &&
+    gcc -O2 -std=gnu11 -static -Wall -Wextra -Werror "-I$root/recorder" -isystem "$room/skeleton" \
+      -o "$programs/opens" "$scenarios/opens.c" -lbpf -lelf -lz
 }
 
 # libgbinder of Debian sid, what it needs, and a service and a client on it: a library that was not written for the
@@ -231,6 +240,7 @@ if [[ -n $built ]]; then take_programs "$(readlink -f -- "$built")"; fi
 if [[ -z $auditor ]]; then auditor=$root/crates/binder_audit/out/binder_audit; fi
 build_programs
 build_clients || stop 'the clients on libgbinder were not built'
+if [[ -n $cost ]]; then build_opens || stop 'the program that opens files was not built'; fi
 
 # What is refused before a kernel is needed: a side list that is in the way, be it a FIFO that nobody writes to, and a
 # build by root in a folder of another user.
@@ -278,8 +288,13 @@ for one in "${series[@]}"; do
   if ((found == 1)) || [[ $one == newest ]]; then
     try plan-preempt.txt "preempt-$one" "preempt=full $append" ''
   fi
+  if [[ -n $store && $one == newest ]]; then
+    python3 -m checks.recorder.driver.store "$auditor" "$room/out-$one" "$root/samples/driver"
+  elif [[ -n $store && $one == rust ]]; then
+    python3 -m checks.recorder.driver.store "$auditor" "$room/out-$one" "$root/samples/driver" \
+      -rust "${stored_of_rust[@]}"
+  fi
   if ((found > 1)); then continue; fi
-  if [[ -n $store ]]; then python3 -m checks.recorder.driver.store "$auditor" "$room/out-$one" "$root/samples/driver"; fi
   if [[ -n $cost ]]; then
     plan plan-cost.txt >"$room/plan"
     emulator=${emulator/thread=single/thread=multi}	# so that recorder and load run at once, as on a real machine

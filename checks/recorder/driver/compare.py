@@ -320,7 +320,7 @@ MOST_CUT = 8192		# bytes of a last frame of the load that a killed recorder may 
 
 class Scenario:
     def __init__(self, auditor, folder):
-        self.name, self.folder = folder.name, folder
+        self.name, self.folder = folder.name.removesuffix("-rust"), folder	# as store.py calls some
         self.recording = Recording(folder)
         status = folder / "status"
         self.status, self.how = status.read_text().split()[:2] if status.exists() else ("0", "stored")

@@ -17,6 +17,7 @@
 #   drivers  by a recorder that seems to find two drivers, after one that seems to find only the one that is not there
 #   untraced  by a recorder that finds the driver's tracepoints, after one that does not
 #   two-drivers  where the device hwbinder is of the driver in C, and the others are of the one in Rust
+#   opens    no scenario: what the recorder costs any file of the system that is opened; SCENARIO is how many a round
 #   narrow   by the recorder only, with a small ring, and the scenario itself makes it lose frames
 #   redact   by the recorder only, which redacts payloads
 #   stacks   by the recorder only, which takes stacks, with programs that keep frame pointers; `program` is that program
@@ -186,6 +187,7 @@ play() {
 	frameless) with_stacks /scenarios;;
 	flight) newest_files 131072 count_files;;
 	hoard) newest_files 8388608 watch_memory;;
+	opens) /opens $scenario $number;;
 	bare) /scenarios $scenario $here $number;;
 	late) background TERM;;
 	before) before /scenarios.static;;

@@ -16,7 +16,8 @@ def counts(s, threads, free=None, driver="C"):
     s.tell(f"books end stats from={s.sequence} after={s.sequence} bytes={len(text)}")
 
 
-@case("C6:1 C7:1 A1:2", "; of at most 15 threads that the driver asks it for, 15 have come", threads="0+15/15")
+@case("C6:1 C7:1 A1:2", "nothing since; of at most 15 threads that the driver asks it for, 15 have come",
+      threads="0+15/15")
 @case("C6:1 C7:1 A1:2", "that the driver asks it for, 1 has come, and 1 has not", threads="1+1/15")
 @case("C6:1 C7:1 A1:2", "; the driver asks it for no threads", threads="0+0/0")
 @case("C6:1 C7:1 A1:2", "of at most 1 thread that the driver asks it for, 0 have come", threads="0+0/1", driver="Rust")
