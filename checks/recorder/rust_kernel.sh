@@ -32,15 +32,15 @@ build_rust_kernel() {
   cp -- "$out/.config" "$kernel/boot/config"
   (cd -- "$kernel" && sha256sum boot/vmlinuz boot/config lib/modules/binder_linux.ko >checksums.new &&
     mv -- checksums.new checksums)
-  umount -- "$sid/proc"
   rm -rf -- "$sid"
 }
 
 build_in_sid() { # FOLDER: a new sid, in which it is built
   debootstrap --variant=minbase sid "$1" http://deb.debian.org/debian || return 1
-  mount -t proc proc "$1/proc" || return 1
   cp -- "$root/checks/recorder/rust_kernel.config" "$1/usr/src/fragment"
-  DEBIAN_FRONTEND=noninteractive chroot "$1" sh -euxc '
+  # In a namespace of its own, so that nothing stays mounted.
+  DEBIAN_FRONTEND=noninteractive unshare --mount sh -euc 'mount -t proc proc "$1/proc"; exec chroot "$@"' \
+    sh "$1" sh -euxc '
     apt-get install -y --no-install-recommends "$@"
     package=$(apt-cache search --names-only "^linux-source-[0-9.]+\$" | awk "{ print \$1 }" | sort -V | tail -n 1)
     apt-get install -y --no-install-recommends "$package"
