@@ -1,24 +1,38 @@
 #include "begin.h"
 #include "clocks.h"
+#include "devices.h"
 #include "met.h"
 #include "names.h"
 #include "side.h"
 #include "stacks.h"
 #include <stdio.h>
+#include <string.h>
 #include <sys/utsname.h>
 
-static char line[1024];		/* empty before the recording has begun */
+static char line[LONGEST_LINE];	/* empty before the recording has begun */
 static void (*tell_also)(u64 number);
+
+/* The devices, with their drivers, as many as have room in a line. */
+static char devices[LONGEST_LINE / 2];
+
+static void add_device(u32 device, enum driver driver)
+{
+	size_t used = strlen(devices);
+	if (used + 40 < sizeof devices)
+		snprintf(devices + used, sizeof devices - used, "%s%u:%u:%s", used ? "," : "", device_major(device),
+			 device_minor(device), driver_language(driver));
+}
 
 void begin_tell(const char *payloads)
 {
 	struct utsname name;
 	struct moment moment = clocks_read();
 	uname(&name);
+	devices_all(add_device);
 	snprintf(line, sizeof line,
-		 "%llu begin realtime=%lld%09ld boottime=%lld%09ld kernel=%s machine=%s payloads=%s\n",
+		 "%llu begin realtime=%lld%09ld boottime=%lld%09ld kernel=%s machine=%s payloads=%s drivers=%s\n",
 		 (unsigned long long)moment.time, (long long)moment.wall.tv_sec, moment.wall.tv_nsec,
-		 (long long)moment.boot.tv_sec, moment.boot.tv_nsec, name.release, name.machine, payloads);
+		 (long long)moment.boot.tv_sec, moment.boot.tv_nsec, name.release, name.machine, payloads, devices);
 	side_text(line);
 }
 

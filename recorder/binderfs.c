@@ -1,6 +1,20 @@
 #include "binderfs.h"
 #include <stdio.h>
 #include <string.h>
+#include <linux/magic.h>
+#include <sys/vfs.h>
+
+#define RUST_BINDERFS_SUPER_MAGIC 0x6c6f6f71	/* of the driver in Rust; in no header of user space yet */
+
+int binderfs_has(const char *path, enum driver *driver)
+{
+	struct statfs status;
+	if (statfs(path, &status) ||
+	    (status.f_type != BINDERFS_SUPER_MAGIC && status.f_type != RUST_BINDERFS_SUPER_MAGIC))
+		return 0;
+	*driver = status.f_type == BINDERFS_SUPER_MAGIC ? DRIVER_IN_C : DRIVER_IN_RUST;
+	return 1;
+}
 
 int binderfs_folder(u32 number, char *folder)
 {

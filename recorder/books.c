@@ -46,37 +46,46 @@ const char *books_in_the_way(const char *out)
 	return NULL;
 }
 
-/* The books of a binderfs are in its folder, if it is mounted with stats=global. They have the processes of all
- * devices, as those of debugfs have. Writes the path of one of them, and returns whether it can be read. */
-static int is_in_binderfs(char *path, const char *name)
+/* The books of a binderfs are in its folder, if it is mounted with stats=global. They have the processes of all devices
+ * of its driver, as those of debugfs have, where only the driver in C has some. Writes the path of one of them, and
+ * returns whether it can be read. */
+static int is_in_binderfs(char *path, enum driver driver, const char *name)
 {
 	char folder[BINDERFS_FOLDER_BYTES];
+	enum driver its_driver;
 	int is_found = 0;
 	for (u32 number = 0; !is_found && binderfs_folder(number, folder); number++) {
 		snprintf(path, LONGEST_PATH, "%s/binder_logs/%s", folder, name);
-		is_found = !access(path, R_OK);
+		is_found = binderfs_has(folder, &its_driver) && its_driver == driver && !access(path, R_OK);
 	}
 	return is_found;
 }
 
-/* Opens one of the books. Returns a descriptor, or one below 0. */
-static int open_book(const char *name)
+/* Opens one of a driver's books. Returns a descriptor, or one below 0. */
+static int open_book(enum driver driver, const char *name)
 {
 	char path[LONGEST_PATH];
-	if (!is_in_binderfs(path, name))
+	if (!driver_is_recorded(driver))
+		return -1;
+	if (!is_in_binderfs(path, driver, name)) {
+		if (driver != DRIVER_IN_C)
+			return -1;
 		snprintf(path, sizeof path, "/sys/kernel/debug/binder/%s", name);
+	}
 	return open(path, O_RDONLY | O_CLOEXEC);
 }
 
-/* Reads the whole of it into the file. The driver makes the text when its first bytes are read, and `after` is the last
+/* Adds the whole of it to the file. The driver makes the text when its first bytes are read, and `after` is the last
  * number that was taken by then. Returns 0, or an errno. */
 static int read_book(int book, struct file *to, u64 *after)
 {
 	static char piece[PIECE];
 	ssize_t count;
+	int is_first = 1;
 	while ((count = read(book, piece, sizeof piece)) > 0) {
-		if (!to->bytes)
+		if (is_first)
 			*after = kernel_last_number();
+		is_first = 0;
 		if (to->bytes + (u64)count > MOST_BYTES)
 			return EFBIG;
 		file_add(to, piece, (u64)count);
@@ -84,27 +93,33 @@ static int read_book(int book, struct file *to, u64 *after)
 	return count < 0 ? errno : 0;
 }
 
-/* Copies one of the books. */
+/* Copies one of the books. Of two drivers that of the one in C comes first in the file. */
 static void copy_book(const char *out, const char *when, const char *name)
 {
 	char path[LONGEST_PATH];
 	struct file to;
 	struct copy copy = { .when = when, .name = name, .time = now(), .from = kernel_last_number() };
-	int book = open_book(name);
-	if (book < 0)
+	int books[DRIVERS], has_some = 0;
+	for (enum driver driver = 0; driver < DRIVERS; driver++) {
+		books[driver] = open_book(driver, name);
+		has_some |= books[driver] >= 0;
+	}
+	if (!has_some)
 		return;
 	copy.after = copy.from;
 	path_of(path, out, when, name);
 	int error = file_create(&to, path);
-	if (!error)
-		error = read_book(book, &to, &copy.after);
+	for (enum driver driver = 0; driver < DRIVERS; driver++)
+		if (books[driver] >= 0) {
+			error = error ? error : read_book(books[driver], &to, &copy.after);
+			close(books[driver]);
+		}
 	if (!error)
 		error = file_flush(&to);
 	if (error)
 		file_remove(&to);
 	copy.bytes = to.bytes;
 	int end_error = file_close(&to);
-	close(book);
 	error = error ? error : end_error;
 	if (error)
 		complain("%s: %s; the driver's books are not copied", path, strerror(error));

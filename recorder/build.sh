@@ -45,5 +45,6 @@ done
   -c record.bpf.c -o "$folder/record.bpf.o")
 bpftool gen skeleton "$folder/record.bpf.o" name record >"$folder/record.skel.h"
 "$compiler" "${flags[@]}" -std=gnu11 -Wall -Wextra -Werror "-I$here" -isystem "$folder" "${sources[@]}" \
-  -o "$folder/record.new" "${link[@]}" -lbpf -lelf -lz 2>"$folder/errors" || { cat -- "$folder/errors" >&2; exit 1; }
+  -o "$folder/record.new" "${link[@]}" -lbpf -lelf -lz -lb2 2>"$folder/errors" ||
+  { cat -- "$folder/errors" >&2; exit 1; }
 mv -- "$folder/record.new" "$folder/record"

@@ -6,16 +6,14 @@
 #include <fcntl.h>
 #include <stdio.h>
 #include <string.h>
-#include <linux/magic.h>
 #include <sys/stat.h>
 #include <sys/sysmacros.h>
-#include <sys/vfs.h>
 
 #define MINOR_BITS 20
 #define MOST_NAME_BYTES 128u
 
 static const char *const folders[] = { "/dev", "/dev/binderfs" };
-static const char *const driver_names[] = {	/* name the devices that the driver makes without binderfs */
+static const char *const driver_names[] = {	/* name the devices that the driver in C makes without binderfs */
 	"/sys/module/binder_linux/parameters/devices",
 	"/sys/module/binder/parameters/devices",
 };
@@ -71,12 +69,6 @@ static int name_in_folder(const char *folder, u32 device, char *name)
 	return is_found;
 }
 
-static int is_in_binderfs(const char *path)
-{
-	struct statfs status;
-	return !statfs(path, &status) && status.f_type == BINDERFS_SUPER_MAGIC;
-}
-
 /* Whether the first line of the file has the name; its words are separated by commas. */
 static int has_word(const char *path, const char *name)
 {
@@ -104,7 +96,7 @@ static u32 number_in_sysfs(const char *name)
 	return is_read ? its_major << MINOR_BITS | its_minor : 0;
 }
 
-static void hear_words(const char *path, void (*hear)(u32 device))
+static void hear_words(const char *path, hear_device *hear)
 {
 	char line[4096], *rest = line;
 	FILE *file = fopen(path, "r");
@@ -112,19 +104,19 @@ static void hear_words(const char *path, void (*hear)(u32 device))
 		for (char *word; (word = strsep(&rest, ",\n")) != NULL;) {
 			u32 device = number_in_sysfs(word);
 			if (device)
-				hear(device);
+				hear(device, DRIVER_IN_C);
 		}
 	if (file)
 		fclose(file);
 }
 
-void devices_made_by_driver(void (*hear)(u32 device))
+void devices_made_by_driver(hear_device *hear)
 {
 	hear_words(driver_names[0], hear);
 	hear_words(driver_names[1], hear);
 }
 
-static void hear_folder(const char *folder, void (*hear)(u32 device))
+static void hear_folder(const char *folder, enum driver driver, hear_device *hear)
 {
 	DIR *all = opendir(folder);
 	struct dirent *entry;
@@ -132,16 +124,19 @@ static void hear_folder(const char *folder, void (*hear)(u32 device))
 	while (all && (entry = readdir(all)))
 		if (strcmp(entry->d_name, "binder-control") &&	/* makes devices, and is none */
 		    !fstatat(dirfd(all), entry->d_name, &status, AT_SYMLINK_NOFOLLOW) && number_of(&status))
-			hear(number_of(&status));
+			hear(number_of(&status), driver);
 	if (all)
 		closedir(all);
 }
 
-void devices_of_binderfs(void (*hear)(u32 device))
+void devices_all(hear_device *hear)
 {
 	char folder[BINDERFS_FOLDER_BYTES];
+	enum driver driver;
+	devices_made_by_driver(hear);
 	for (u32 number = 0; binderfs_folder(number, folder); number++)
-		hear_folder(folder, hear);
+		if (binderfs_has(folder, &driver))
+			hear_folder(folder, driver, hear);
 }
 
 static int is_made_by_driver(u32 device)
@@ -154,8 +149,9 @@ static int is_made_by_driver(u32 device)
 static u32 binder_device(const char *path)
 {
 	struct stat status;
+	enum driver driver;
 	u32 device = stat(path, &status) ? 0 : number_of(&status);
-	return device && (is_in_binderfs(path) || is_made_by_driver(device)) ? device : 0;
+	return device && (binderfs_has(path, &driver) || is_made_by_driver(device)) ? device : 0;
 }
 
 u32 device_by_name(const char *name)

@@ -1,5 +1,6 @@
 #include "kernel.h"
 #include "devices.h"
+#include "drivers.h"
 #include "messages.h"
 #include "names.h"
 #include "needs.h"
@@ -13,8 +14,11 @@
 #include <unistd.h>
 #include "record.skel.h"
 
+#define MOST_LINKS (8 * DRIVERS)
+
 static struct record *program;
-static struct bpf_link *opens, *releases;
+static struct bpf_link *links[MOST_LINKS];	/* to the drivers */
+static u32 link_count;
 static u64 end_number = UINT64_MAX;	/* with which the recording has ended */
 static char last_words[512];
 
@@ -52,8 +56,6 @@ static void set_up_tables(void)
 static void set_up(const struct options *options)
 {
 	set_up_tables();
-	bpf_program__set_autoattach(program->progs.at_open, false);
-	bpf_program__set_autoattach(program->progs.at_release, false);
 	bpf_program__set_autoattach(program->progs.meet_openings, false);
 	bpf_program__set_autoattach(program->progs.look_at_preemption, false);
 	bpf_map__set_max_entries(program->maps.ring, (u32)options->ring);
@@ -100,13 +102,61 @@ static void need_processor_kept(void)
 	need_no_preemption(program->bss->preemption);
 }
 
-/* Without these two the beginnings and ends of openings are not seen; everything else is. */
-static void attach_probes(void)
+/* Returns 0, or an error. */
+static int keep_link(struct bpf_link *link)
 {
-	opens = bpf_program__attach(program->progs.at_open);
-	releases = bpf_program__attach(program->progs.at_release);
-	if (!opens || !releases)
+	if (!link)
+		return -errno;
+	links[link_count++] = link;
+	return 0;
+}
+
+static int attach_tracepoint(enum driver driver, struct bpf_program *to, const char *name)
+{
+	return keep_link(bpf_program__attach_tracepoint(to, driver_system(driver), name));
+}
+
+/* Returns 0, or an error. */
+static int attach_tracepoints(enum driver driver)
+{
+	int error = attach_tracepoint(driver, program->progs.at_command, "binder_command");
+	error = error ? error : attach_tracepoint(driver, program->progs.at_write_done, "binder_write_done");
+	error = error ? error : attach_tracepoint(driver, program->progs.at_return, "binder_ioctl_done");
+	return error ? error : attach_tracepoint(driver, program->progs.at_entry, "binder_ioctl");
+}
+
+static int attach_probe(struct bpf_program *to, const char *function)
+{
+	return keep_link(bpf_program__attach_kprobe(to, false, function));
+}
+
+/* The beginnings and ends of openings are seen at functions of the driver, or else at functions that each file passes.
+ * Without them all else is seen. */
+static void attach_probes(enum driver driver)
+{
+	char opens[FUNCTION_BYTES], releases[FUNCTION_BYTES];
+	int is_bad;
+	if (driver_function(driver, "open", opens) && driver_function(driver, "release", releases)) {
+		is_bad = attach_probe(program->progs.at_open, opens) != 0;
+		is_bad |= attach_probe(program->progs.at_release, releases) != 0;
+	} else {
+		is_bad = attach_probe(program->progs.at_any_open, "security_file_open") != 0;
+		is_bad |= attach_probe(program->progs.at_any_release, "locks_remove_file") != 0;
+	}
+	if (is_bad)
 		complain("no kprobes: the beginnings and ends of openings are not recorded");
+}
+
+/* Returns 0, or an error. */
+static int attach_to_drivers(void)
+{
+	int error = 0;
+	for (enum driver driver = 0; driver < DRIVERS && !error; driver++)
+		if (driver_is_recorded(driver)) {
+			attach_probes(driver);
+			error = attach_tracepoints(driver);
+		}
+	return error;
 }
 
 /* Returns 0, or an error. */
@@ -136,8 +186,8 @@ void kernel_load(const struct options *options, struct ring *ring)
 		fail_to_load("load the recorder's program", error);
 	name_wanted(options);
 	need_processor_kept();
-	attach_probes();
 	error = record__attach(program);
+	error = error ? error : attach_to_drivers();
 	if (error == -ENOENT)
 		fail("%s", need_driver_words);
 	if (error)
@@ -147,8 +197,9 @@ void kernel_load(const struct options *options, struct ring *ring)
 		fail_to_load("map the ring", error);
 }
 
-static void add_device(u32 device)
+static void add_device(u32 device, enum driver driver)
 {
+	(void)driver;
 	u32 one = 1;
 	bpf_map__update_elem(program->maps.driver_devices, &device, sizeof device, &one, sizeof one, BPF_ANY);
 }
@@ -192,9 +243,8 @@ u64 kernel_stop(void)
 void kernel_detach(void)
 {
 	record__detach(program);
-	bpf_link__destroy(opens);
-	bpf_link__destroy(releases);
-	opens = releases = NULL;
+	while (link_count)
+		bpf_link__destroy(links[--link_count]);
 }
 
 u64 kernel_last_number(void)

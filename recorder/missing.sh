@@ -20,8 +20,9 @@ lacks_header() {
 
 # Whether the compiler for another machine finds the libraries, which it has from packages of that machine.
 links() {
-  printf '#include <bpf/libbpf.h>\n#include <libelf.h>\n#include <zlib.h>\nint main(void) { return 0; }\n' |
-    "$compiler" -static -x c - -o /dev/null -lbpf -lelf -lz 2>/dev/null
+  printf '#include <%s>\n' bpf/libbpf.h libelf.h zlib.h blake2.h |
+    sed '$aint main(void) { return 0; }' |
+    "$compiler" -static -x c - -o /dev/null -lbpf -lelf -lz -lb2 2>/dev/null
 }
 
 # Prints what is missing, a line each: what it is, a space, the package that has it.
@@ -33,12 +34,11 @@ missing() {
   for each in stdio.h:libc6-dev linux/android/binder.h:linux-libc-dev; do
     if lacks_header "${each%:*}"; then printf '%s %s%s\n' "${each%:*}" "${each#*:}" "$cross"; fi
   done
-  for each in bpf/libbpf.h:libbpf-dev libelf.h:libelf-dev zlib.h:zlib1g-dev; do
+  for each in bpf/libbpf.h:libbpf-dev libelf.h:libelf-dev zlib.h:zlib1g-dev blake2.h:libb2-dev; do
     if [[ -z $cross ]] && lacks_header "${each%:*}"; then printf '%s %s\n' "${each%:*}" "${each#*:}"; fi
   done
   if [[ -n $cross ]] && ! links; then
-    printf '%s:%s %s:%s\n' libbpf "$architecture" libbpf-dev "$architecture" libelf "$architecture" libelf-dev \
-      "$architecture" zlib "$architecture" zlib1g-dev "$architecture"
+    printf "%s:$architecture %s:$architecture\n" libbpf libbpf-dev libelf libelf-dev zlib zlib1g-dev libb2 libb2-dev
   fi
 }
 

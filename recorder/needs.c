@@ -1,6 +1,8 @@
 #include "needs.h"
 #include "devices.h"
+#include "drivers.h"
 #include "lack.h"
+#include "tracefs.h"
 #include <errno.h>
 #include <linux/capability.h>
 #include <stdio.h>
@@ -93,68 +95,92 @@ void need_no_lockdown(void)
 
 int need_driver(void)
 {
-	int is_in_c = !access("/sys/module/binder_linux", F_OK) || !access("/sys/module/binder", F_OK);
-	int is_in_rust = !access("/sys/module/rust_binder", F_OK);
-	if (!is_in_c && is_in_rust)
-		lack("the kernel's Binder driver is the one in Rust, and only the one in C is recorded");
-	else if (!is_in_c)
-		lack("%s", need_driver_words);
-	else if (is_in_rust)
-		complain("the kernel has two Binder drivers: calls of the one in C are recorded,"
-			 " and those of the one in Rust are not");
-	return is_in_c;
+	if (driver_is_recorded(DRIVER_IN_C) || driver_is_recorded(DRIVER_IN_RUST))
+		return 1;
+	lack("%s", need_driver_words);
+	return 0;
 }
 
 /* What the programs in record.bpf.c read of each tracepoint, as its `format` file says where that is. */
-static const struct tracepoint {
+struct tracepoint {
 	const char *name, *fields[2];
-} tracepoints[] = {
-	{ "binder/binder_ioctl",
-	  { "unsigned int cmd;\toffset:8;\tsize:4;", "unsigned long arg;\toffset:16;\tsize:8;" } },
-	{ "binder/binder_command", { " cmd;\toffset:8;\tsize:4;", "" } },
-	{ "binder/binder_write_done", { "int ret;\toffset:8;\tsize:4;", "" } },
-	{ "binder/binder_ioctl_done", { "int ret;\toffset:8;\tsize:4;", "" } },
-	{ "sched/sched_process_exec", { "pid_t old_pid;\toffset:16;\tsize:4;", "" } },
-	{ "sched/sched_process_exit", { "", "" } },
 };
 
-/* libbpf attaches through the same of the two folders. */
-static const char *tracing_folder(void)
+static const struct tracepoint of_scheduler[] = {
+	{ "sched_process_exec", { "pid_t old_pid;\toffset:16;\tsize:4;", "" } },
+	{ "sched_process_exit", { "", "" } },
+	{ 0 },
+};
+
+static const struct tracepoint of_driver[] = {
+	{ "binder_ioctl", { "unsigned int cmd;\toffset:8;\tsize:4;", "unsigned long arg;\toffset:16;\tsize:8;" } },
+	{ "binder_command", { " cmd;\toffset:8;\tsize:4;", "" } },
+	{ "binder_write_done", { "int ret;\toffset:8;\tsize:4;", "" } },
+	{ "binder_ioctl_done", { "int ret;\toffset:8;\tsize:4;", "" } },
+	{ 0 },
+};
+
+static int has_fields(const struct tracepoint *tracepoint, FILE *file)
 {
-	return access("/sys/kernel/debug/tracing", F_OK) ? "/sys/kernel/tracing" : "/sys/kernel/debug/tracing";
+	char text[4096];
+	text[fread(text, 1, sizeof text - 1, file)] = 0;
+	return strstr(text, tracepoint->fields[0]) && strstr(text, tracepoint->fields[1]);
 }
 
-static void need_tracepoint(const struct tracepoint *tracepoint)
+/* Whether the tracepoints of a system of events are there with the fields that are read. Writes what is wrong with the
+ * first one that is not into `why`. */
+static int has_tracepoints(const char *system, const struct tracepoint *each, char *why, size_t room)
 {
-	char path[160], text[4096];
-	snprintf(path, sizeof path, "%s/events/%s/format", tracing_folder(), tracepoint->name);
-	FILE *file = fopen(path, "r");
-	if (!file) {
-		lack("%s: %s; the driver in C has this tracepoint", path, strerror(errno));
-		return;
+	char path[TRACEFS_PATH_BYTES], name[TRACEFS_PATH_BYTES / 2];
+	int is_good = 1;
+	for (; each->name && is_good; each++) {
+		snprintf(name, sizeof name, "events/%s/%s/format", system, each->name);
+		tracefs_path(path, name);
+		FILE *file = fopen(path, "r");
+		is_good = file && has_fields(each, file);
+		if (!file)
+			snprintf(why, room, "%s: %s", path, strerror(errno));
+		else if (!is_good)
+			snprintf(why, room, "%s has other fields than the recorder knows", path);
+		if (file)
+			fclose(file);
 	}
-	text[fread(text, 1, sizeof text - 1, file)] = 0;
-	fclose(file);
-	for (int i = 0; i < 2; i++)
-		if (!strstr(text, tracepoint->fields[i]))
-			lack("%s has other fields than the recorder knows: this kernel is not recorded", path);
+	return is_good;
 }
 
 int need_tracefs(void)
 {
-	char path[80];
-	snprintf(path, sizeof path, "%s/events", tracing_folder());
+	char path[TRACEFS_PATH_BYTES];
+	tracefs_path(path, "events");
 	if (!access(path, R_OK | X_OK))
 		return 1;
 	lack("%s cannot be read: it takes root, or a mount for this user; if it is not there:"
-	     " mount -t tracefs tracefs %s", path, tracing_folder());
+	     " mount -t tracefs tracefs %s", path, tracefs_folder());
 	return 0;
+}
+
+/* Of two drivers one is enough: then the calls of the other one are left out. */
+static void need_driver_tracepoints(enum driver driver, enum driver other)
+{
+	char why[512];
+	if (!driver_is_recorded(driver) || has_tracepoints(driver_system(driver), of_driver, why, sizeof why))
+		return;
+	if (!driver_is_recorded(other))
+		lack("the Binder driver in %s is not recorded: %s%s", driver_language(driver), why,
+		     driver == DRIVER_IN_RUST ? "; in later kernels it has all that is needed" : "");
+	else
+		complain("calls of the Binder driver in %s are not recorded, and those of the one in %s are: %s",
+			 driver_language(driver), driver_language(other), why);
+	driver_leave_out(driver);
 }
 
 void need_tracepoints(void)
 {
-	for (size_t i = 0; i < sizeof tracepoints / sizeof *tracepoints; i++)
-		need_tracepoint(tracepoints + i);
+	char why[512];
+	need_driver_tracepoints(DRIVER_IN_RUST, DRIVER_IN_C);
+	need_driver_tracepoints(DRIVER_IN_C, DRIVER_IN_RUST);
+	if (!has_tracepoints("sched", of_scheduler, why, sizeof why))
+		lack("%s: this kernel is not recorded", why);
 }
 
 /* Whether the kernel may take the processor from its own code; if that can't be read, it may. */

@@ -5,9 +5,13 @@
 #include <stdio.h>
 #include <sys/utsname.h>
 
-static void tell_device(u32 device)
+static enum driver told;	/* of which the devices are told */
+
+static void tell_device(u32 device, enum driver driver)
 {
 	char name[CLEAN_NAME_BYTES];
+	if (driver != told)
+		return;
 	device_name(device, name);
 	printf(" %s", name);
 }
@@ -15,9 +19,14 @@ static void tell_device(u32 device)
 void ready_tell(void)
 {
 	struct utsname name;
+	const char *between = ", ";
 	uname(&name);
-	printf("ready: kernel %s, driver in C, devices", name.release);
-	devices_made_by_driver(tell_device);
-	devices_of_binderfs(tell_device);
+	printf("ready: kernel %s", name.release);
+	for (told = 0; told < DRIVERS; told++)
+		if (driver_is_recorded(told)) {
+			printf("%sdriver in %s, devices", between, driver_language(told));
+			devices_all(tell_device);
+			between = "; ";
+		}
 	printf("\n");
 }

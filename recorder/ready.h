@@ -2,6 +2,6 @@
 #ifndef RECORDER_READY_H
 #define RECORDER_READY_H
 
-/* Writes a line to standard output: the kernel, its driver, and the Binder devices that are there. */
+/* Writes a line to standard output: the kernel, and each Binder driver with the devices that are there. */
 void ready_tell(void);
 #endif

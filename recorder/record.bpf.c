@@ -2,9 +2,12 @@
 #include "command.bpf.h"
 #include "stacks.bpf.h"
 
-extern const void binder_fops __ksym __weak;
+/* The functions of an opening: of the driver in C, and of the one in Rust. */
+extern const void binder_fops __ksym __weak, rust_binder_fops __ksym __weak;
 
-/* The fields of the tracepoints that are read here. needs.c compares them with the `format` files of tracefs. */
+/* The fields of the tracepoints that are read here. needs.c compares them with the `format` files of tracefs. Both
+ * drivers have the same tracepoints with the same fields, in systems of events of their own. So kernel.c attaches the
+ * programs below whose section is only `tp` or `kprobe` to each driver that is there. */
 struct ioctl_fields { u64 common; u32 command, unused; u64 argument; };
 struct number_fields { u64 common; u32 number; };
 struct exec_fields { u64 common; u32 path, id, old_id; };
@@ -41,10 +44,9 @@ static __always_inline void describe(struct opening *o, struct task_struct *task
 	describe_space(o, task);
 }
 
-/* When the driver opens a device. An opening that is met without this is from before the recording. */
-SEC("kprobe/binder_open") int at_open(struct pt_regs *registers)
+/* An opening that is met without this is from before the recording. */
+static __always_inline int begin_opening(struct file *file)
 {
-	struct file *file = (void *)PT_REGS_PARM2(registers);
 	u64 key = (u64)file;
 	struct opening o = {};
 	o.born = 1;
@@ -53,20 +55,58 @@ SEC("kprobe/binder_open") int at_open(struct pt_regs *registers)
 	return 0;
 }
 
-#define BINDER_AS_NUMBER 0x7265646e6962ull	/* the bytes of the name of the file system of binderfs */
+static __always_inline int end_opening(u64 key)
+{
+	struct opening *o = bpf_map_lookup_elem(&openings, &key);
+	if (!o)
+		return 0;
+	if (o->told)
+		say(MESSAGE_CLOSED, 0, o->id, last_number, 0, 0, 0, 0);
+	bpf_map_delete_elem(&openings, &key);
+	return 0;
+}
+
+/* When a driver opens a device, and when it releases an opening. */
+SEC("kprobe") int at_open(struct pt_regs *registers)
+{
+	return begin_opening((void *)PT_REGS_PARM2(registers));
+}
+
+SEC("kprobe") int at_release(struct pt_regs *registers)
+{
+	return end_opening(PT_REGS_PARM2(registers));
+}
+
+#define BINDER_AS_NUMBER 0x7265646e6962ull	/* the bytes of the name of the file system of binderfs, of both drivers */
 
 /* Whether the file is an opening. Where kallsyms hides addresses, its device tells: one of those that the driver made
  * itself, or any in a binderfs but binder-control, which has no `flush`. */
 static __always_inline int is_opening(struct file *file)
 {
 	char name[8] __attribute__((aligned(8))) = {};
-	if (&binder_fops)
-		return (const void *)file->f_op == &binder_fops;
+	const void *functions = BPF_CORE_READ(file, f_op);
+	if (&binder_fops || &rust_binder_fops)
+		return functions && (functions == &binder_fops || functions == &rust_binder_fops);
 	u32 device = BPF_CORE_READ(file, f_inode, i_rdev);
-	if (device && bpf_map_lookup_elem(&driver_devices, &device))
+	if (!device)
+		return 0;
+	if (bpf_map_lookup_elem(&driver_devices, &device))
 		return 1;
 	bpf_probe_read_kernel_str(name, sizeof name, BPF_CORE_READ(file, f_inode, i_sb, s_type, name));
-	return device && BPF_CORE_READ(file, f_op, flush) && *(u64 *)name == BINDER_AS_NUMBER;
+	return BPF_CORE_READ(file, f_op, flush) && *(u64 *)name == BINDER_AS_NUMBER;
+}
+
+/* Where the driver's own functions can't be probed: when any file is opened, and when any file is released. */
+SEC("kprobe") int at_any_open(struct pt_regs *registers)
+{
+	struct file *file = (void *)PT_REGS_PARM1(registers);
+	return is_opening(file) ? begin_opening(file) : 0;
+}
+
+SEC("kprobe") int at_any_release(struct pt_regs *registers)
+{
+	struct file *file = (void *)PT_REGS_PARM1(registers);
+	return is_opening(file) ? end_opening((u64)file) : 0;
 }
 
 /* Goes once over the open files of all tasks, before the recording begins. */
@@ -166,7 +206,7 @@ static __noinline int begin_call(struct thread *t, u64 call, u32 told)
 	t->read_buffer = s->call.read_buffer;
 	t->consumed = t->write_number = t->copied = t->attached = t->spent = 0;
 	t->commands = t->has_late = t->attachments = t->is_over = 0;
-	t->write_told = t->has_chunk = 0;
+	t->write_told = t->write_failed = t->has_chunk = 0;
 	t->call_is = CALL_RECORDED;
 	if (s->call.write_consumed >= s->call.write_size)
 		return 0;
@@ -303,7 +343,7 @@ static __noinline u64 file_of(struct task_struct *task, u32 descriptor)
 	return (u64)file;
 }
 
-SEC("tp/binder/binder_ioctl") int at_entry(struct ioctl_fields *fields)
+SEC("tp") int at_entry(struct ioctl_fields *fields)
 {
 	if (stopped)
 		return 0;
@@ -342,7 +382,7 @@ static __noinline int take_command(struct thread *t, u32 record, u32 word)
 	return 0;
 }
 
-SEC("tp/binder/binder_command") int at_command(struct number_fields *fields)
+SEC("tp") int at_command(struct number_fields *fields)
 {
 	u32 id = bpf_get_current_pid_tgid(), word = fields->number;
 	struct thread *t = bpf_map_lookup_elem(&threads, &id);
@@ -378,12 +418,14 @@ static __noinline int end_write(struct thread *t, u64 consumed)
 
 /* When the driver has finished the write. After an error the last command that it began is not consumed, or the next
  * code word could not be read; then the return of the call says what it consumed. */
-SEC("tp/binder/binder_write_done") int at_write_done(struct number_fields *fields)
+SEC("tp") int at_write_done(struct number_fields *fields)
 {
 	u32 id = bpf_get_current_pid_tgid();
 	struct thread *t = bpf_map_lookup_elem(&threads, &id);
 	struct scratch *s = scratch();
-	if (s && t && t->call_is == CALL_RECORDED && t->write_number && !t->write_told && (int)fields->number >= 0) {
+	if (t && (int)fields->number < 0)
+		t->write_failed = 1;
+	else if (s && t && t->call_is == CALL_RECORDED && t->write_number && !t->write_told) {
 		begin_run(s);
 		end_write(t, t->consumed);
 		if (!t->write_told)	/* no room to report it: at the return it is tried once more */
@@ -433,7 +475,19 @@ static __noinline int meet_return(u32 id, u32 process)
 	return 0;
 }
 
-SEC("tp/binder/binder_ioctl_done") int at_return(struct number_fields *fields)
+/* Whether the first command of a write was the one that failed, so that nothing was consumed. Otherwise the driver
+ * would have begun the next command, or the write has none, and would not have failed. It could not begin one whose code
+ * word can't be read. */
+static __noinline int failed_at_once(struct thread *t)
+{
+	u32 word;
+	if (!t || !t->write_failed || t->commands != 1)
+		return 0;
+	return t->consumed >= t->write_bytes ||
+	       !bpf_probe_read_user(&word, sizeof word, (void *)(t->write_from + t->consumed));
+}
+
+SEC("tp") int at_return(struct number_fields *fields)
 {
 	u64 both = bpf_get_current_pid_tgid();
 	u32 id = both;
@@ -461,7 +515,7 @@ SEC("tp/binder/binder_ioctl_done") int at_return(struct number_fields *fields)
 	if (t->write_number && t->write_told == 2)
 		say(MESSAGE_WRITTEN, t->id, t->opening, t->write_number, t->consumed, 0, 0, 0);
 	if (t->write_number && !t->write_told) {	/* the write failed, and nothing was read */
-		if (unknown && t->commands)
+		if (unknown && t->commands && !failed_at_once(t))
 			lose(t, t->write_number, REASON_EFAULT);
 		else
 			end_write(t, unknown ? 0 : written);
@@ -473,18 +527,6 @@ SEC("tp/binder/binder_ioctl_done") int at_return(struct number_fields *fields)
 	} else if (read > 0) {
 		end_read(t, read);
 	}
-	return 0;
-}
-
-SEC("kprobe/binder_release") int at_release(struct pt_regs *registers)
-{
-	u64 key = PT_REGS_PARM2(registers);
-	struct opening *o = bpf_map_lookup_elem(&openings, &key);
-	if (!o)
-		return 0;
-	if (o->told)
-		say(MESSAGE_CLOSED, 0, o->id, last_number, 0, 0, 0, 0);
-	bpf_map_delete_elem(&openings, &key);
 	return 0;
 }
 

@@ -1,22 +1,23 @@
 #define _GNU_SOURCE
 #include "redact.h"
-#include "blake2s.h"
 #include "token.h"
+#include <blake2.h>
 #include <linux/android/binder.h>
 #include <stddef.h>
 #include <string.h>
 #include <sys/random.h>
 
 static int is_for_all;
-static struct blake2s keyed;		/* has taken the key, and nothing else */
+static blake2s_state keyed;		/* has taken the key, and nothing else */
 
 void redact_begin(int all)
 {
-	u8 key[BLAKE2S_BYTES];
+	u8 key[BLAKE2S_KEYBYTES];
 	is_for_all = all;
 	if (getrandom(key, sizeof key, 0) != (ssize_t)sizeof key)
 		fail("no random bytes for the key that redacts");
-	blake2s_begin(&keyed, key, sizeof key);
+	if (blake2s_init_key(&keyed, BLAKE2S_OUTBYTES, key, sizeof key))
+		fail("the hash that redacts could not be made");
 	explicit_bzero(key, sizeof key);
 }
 
@@ -43,9 +44,9 @@ struct walk {
 	struct entry *entry;
 	u64 at;				/* up to here everything is taken or kept */
 	void (*take)(struct walk *walk, u8 *bytes, u64 count);
-	struct blake2s hash;
-	u8 digest[BLAKE2S_BYTES];	/* of all that is redacted */
-	u8 stream[BLAKE2S_BYTES];	/* made of the digest */
+	blake2s_state hash;
+	u8 digest[BLAKE2S_OUTBYTES];	/* of all that is redacted */
+	u8 stream[BLAKE2S_OUTBYTES];	/* made of the digest */
 	u64 blocks, left;		/* how many blocks of the stream were made; bytes left of the last one */
 };
 
@@ -92,22 +93,27 @@ static void take_gaps(struct walk *walk, u64 token)
 	take_rest(walk, offset);
 }
 
+static void add(blake2s_state *hash, const void *bytes, u64 count)
+{
+	blake2s_update(hash, bytes, count);
+}
+
 static void into_hash(struct walk *walk, u8 *bytes, u64 count)
 {
 	u64 where[2] = { walk->at, count };
-	blake2s_take(&walk->hash, where, sizeof where);
-	blake2s_take(&walk->hash, bytes, count);
+	add(&walk->hash, where, sizeof where);
+	add(&walk->hash, bytes, count);
 }
 
 /* The stream is the hashes of the digest and 0, 1, 2 and so on. */
 static void next_block(struct walk *walk)
 {
-	struct blake2s hash = keyed;
+	blake2s_state hash = keyed;
 	static const u8 purpose = 's';
-	blake2s_take(&hash, &purpose, 1);
-	blake2s_take(&hash, walk->digest, sizeof walk->digest);
-	blake2s_take(&hash, &walk->blocks, sizeof walk->blocks);
-	blake2s_end(&hash, walk->stream);
+	add(&hash, &purpose, 1);
+	add(&hash, walk->digest, sizeof walk->digest);
+	add(&hash, &walk->blocks, sizeof walk->blocks);
+	blake2s_final(&hash, walk->stream, sizeof walk->stream);
 	walk->blocks++;
 	walk->left = sizeof walk->stream;
 }
@@ -148,11 +154,11 @@ void redact(const struct frame *frame, struct entry *entry)
 	static const u8 purpose = 'd';
 	u64 token = kept_token(frame, entry);
 	struct walk walk = { .entry = entry, .take = into_hash, .hash = keyed };
-	blake2s_take(&walk.hash, &purpose, 1);
-	blake2s_take(&walk.hash, &entry->data, sizeof entry->data);
-	blake2s_take(&walk.hash, entry->bytes, token);
+	add(&walk.hash, &purpose, 1);
+	add(&walk.hash, &entry->data, sizeof entry->data);
+	add(&walk.hash, entry->bytes, token);
 	take_gaps(&walk, token);
-	blake2s_end(&walk.hash, walk.digest);
+	blake2s_final(&walk.hash, walk.digest, sizeof walk.digest);
 	walk.take = out_of_stream;
 	take_gaps(&walk, token);
 	explicit_bzero(&walk, sizeof walk);

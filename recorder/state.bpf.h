@@ -25,6 +25,7 @@ enum call { NO_CALL, CALL_RECORDED, CALL_NOT_RECORDED };
 struct thread {
 	u32 id, opening;
 	u8 told, call_is, write_told;
+	u8 write_failed;		/* the driver ended the write with an error */
 	u8 has_chunk;			/* a chunk of the write is in the ring */
 	u32 commands;			/* how many the driver began in this call */
 	u64 write_number;		/* 0 if the call writes nothing */

@@ -25,4 +25,4 @@ for source in "$recorder"/*.c; do
 done
 objects=$(mktemp -d -- "$folder/objects.XXXXXX")
 (cd -- "$objects" && cc "${flags[@]}" -c "${sources[@]}" && ar rc loader.a ./*.o)
-cc "${flags[@]}" "$here/$program.c" "$objects/loader.a" -o "$folder/$program"
+cc "${flags[@]}" "$here/$program.c" "$objects/loader.a" -o "$folder/$program" -lb2

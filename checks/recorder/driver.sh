@@ -1,8 +1,7 @@
 #!/usr/bin/env bash
 # Tests the recorder and the report on the real Binder driver. It boots Debian's kernels in QEMU and plays scenarios in
 # raw Binder, under the recorder and a second witness. It compares the two recordings with each other, and the report on
-# each capture with the driver's own books in /sys/kernel/debug/binder. It is run by hand; `.ci/run` runs only
-# `checks/run stored`.
+# each capture with the driver's own books. It is run by hand; `.ci/run` runs only `checks/run stored`.
 #
 #     checks/run driver [-- OPTION..]  fetches, builds, boots, compares: some minutes a kernel, more on a busy machine
 #
@@ -12,6 +11,7 @@
 #     --built CHECKOUT   takes ./audit and ./listing as another checkout has built them from the same sources; by default
 #                        they are built here, which takes long if nothing is proved yet
 #     --kernel SERIES    only 6.1, 6.12 or newest, which is Debian sid's; by default all that the registry has
+#     --rust             only a kernel with the driver in Rust, which is built if there is none yet: rust_kernel.sh
 #     --only NAME        only this scenario; may be given several times
 #     --limit SECONDS    how long a guest may take; by default 900
 #     --flight SECONDS   how long the flight recorder runs under load; by default 20
@@ -22,7 +22,8 @@
 #     --cost             also measures what recording costs: bare, with the recorder, and with the witness
 #     --arm64            also plays a few scenarios on Debian's kernel for arm64, with a recorder built for it
 #     --sanitize         runs the recorder under the address and undefined-behaviour sanitizers; they must find nothing
-#     --store            also renews samples/driver from the results of the 6.1 kernel
+#     --store            also renews samples/driver from the results of the newest kernel; with --rust some of them, as
+#                        NAME-rust
 #     --blind            records the sessions of the blind test set instead, and judges nothing: blind/play.sh
 #
 # If a comparison fails, it says which one and ends with status 1.
@@ -31,13 +32,17 @@ set -euo pipefail
 here=$(readlink -f -- "${BASH_SOURCE[0]}")
 root=${here%/*/*/*}
 scenarios=$root/checks/recorder/scenarios check=driver
-limit=900 flight=20 room= recorder= auditor= built= append= cost= store= arm64= sanitize= words_of_recorder= blind=
+limit=900 flight=20 room= recorder= auditor= built= append= words_of_recorder=
+cost= store= arm64= rust= sanitize= blind=
 # One thread for all processors: with a thread for each, the kernel 6.12 died of a breakpoint that it had removed.
 acceleration='-accel tcg,thread=single -cpu max'
 series=(6.1 6.12 newest)
 only=()
+stored_of_rust=(clean leaks objects deaths threads oneway errors freeze before cut outsider two-drivers)
 # shellcheck source=checks/recorder/guests.sh
 source "$root/checks/recorder/guests.sh"
+# shellcheck source=checks/recorder/rust_kernel.sh
+source "$root/checks/recorder/rust_kernel.sh"
 
 while (($#)); do
   case $1 in
@@ -46,6 +51,7 @@ while (($#)); do
   --auditor) auditor=$2 && shift ;;
   --built) built=$2 && shift ;;
   --kernel) series=("$2") && shift ;;
+  --rust) rust=1 && series=(rust) ;;
   --only) only+=("$2") && shift ;;
   --limit) limit=$2 && shift ;;
   --flight) flight=$2 && shift ;;
@@ -115,7 +121,7 @@ take_programs() { # CHECKOUT
 build_programs() {
   local flags=(-O2 -Wall -Wextra -Werror) source=(
     "$scenarios"/{scenarios,raw,send,processes,service,calls,held,ends,odd,many,faults,gaps,greedy,clients,crowd}.c
-    "$scenarios"/{secret,hoard,people,before,forgetful}.c)
+    "$scenarios"/{secret,hoard,people,before,forgetful,apart}.c)
   programs=$room/programs-$architecture
   mkdir -p -- "$programs"
   "$compiler" "${flags[@]}" -shared -fPIC -o "$programs/witness.so" "$scenarios/witness.c" -lpthread
@@ -128,6 +134,13 @@ build_programs() {
     gcc -m32 -isystem /usr/include/x86_64-linux-gnu "${flags[@]}" -Wno-pointer-to-int-cast -Wno-int-to-pointer-cast \
       -static -o "$programs/scenarios.32" "${source[@]}" -lpthread
   fi
+}
+
+# What is measured with --cost, and needs the recorder's programs for the kernel.
+build_opens() {
+  "$root/recorder/build.sh" "$room/skeleton" &&
+    gcc -O2 -std=gnu11 -static -Wall -Wextra -Werror "-I$root/recorder" -isystem "$room/skeleton" \
+      -o "$programs/opens" "$scenarios/opens.c" -lbpf -lelf -lz
 }
 
 # libgbinder of Debian sid, what it needs, and a service and a client on it: a library that was not written for the
@@ -178,6 +191,7 @@ make_initramfs() { # KERNEL PLAN TO
     file=${file##*/} && file=${file%.xz}
     if [[ $file != binder_linux.ko ]]; then printf '%s\n' "$file" >>"$top/modules/order"; fi
   done
+  touch -- "$top/modules/order"
   [[ -e $top/modules/binder_linux.ko ]] || stop 'the kernel has no module of the Binder driver'
   (cd -- "$top" && find . | cpio -o -H newc 2>/dev/null | gzip -1) >"$3"
 }
@@ -226,6 +240,7 @@ if [[ -n $built ]]; then take_programs "$(readlink -f -- "$built")"; fi
 if [[ -z $auditor ]]; then auditor=$root/crates/binder_audit/out/binder_audit; fi
 build_programs
 build_clients || stop 'the clients on libgbinder were not built'
+if [[ -n $cost ]]; then build_opens || stop 'the program that opens files was not built'; fi
 
 # What is refused before a kernel is needed: a side list that is in the way, be it a FIFO that nobody writes to, and a
 # build by root in a folder of another user.
@@ -259,19 +274,27 @@ try() { # PLANS OUT WORDS WHOLE: boots the kernel, plays the plans, compares
 }
 
 for one in "${series[@]}"; do
-  if ! fetch_kernel "$one"; then
+  if [[ $one == rust ]]; then
+    use_rust_kernel || stop 'there is no kernel with the driver in Rust'
+  elif ! fetch_kernel "$one"; then
     printf 'checks/driver: the registry has no kernel %s\n' "$one"
     continue
   fi
   found=$((found + 1))
   plans=plan.txt
   if ((found == 1)) || [[ $one == newest ]]; then plans='plan.txt plan-clients.txt'; fi
+  if [[ -n $rust ]]; then plans+=' plan-rust.txt'; fi
   try "$plans" "out-$one" "$append" "$whole"
   if ((found == 1)) || [[ $one == newest ]]; then
     try plan-preempt.txt "preempt-$one" "preempt=full $append" ''
   fi
+  if [[ -n $store && $one == newest ]]; then
+    python3 -m checks.recorder.driver.store "$auditor" "$room/out-$one" "$root/samples/driver"
+  elif [[ -n $store && $one == rust ]]; then
+    python3 -m checks.recorder.driver.store "$auditor" "$room/out-$one" "$root/samples/driver" \
+      -rust "${stored_of_rust[@]}"
+  fi
   if ((found > 1)); then continue; fi
-  if [[ -n $store ]]; then python3 -m checks.recorder.driver.store "$auditor" "$room/out-$one" "$root/samples/driver"; fi
   if [[ -n $cost ]]; then
     plan plan-cost.txt >"$room/plan"
     emulator=${emulator/thread=single/thread=multi}	# so that recorder and load run at once, as on a real machine

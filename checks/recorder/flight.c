@@ -2,6 +2,7 @@
  * unless GOES_ON is in the environment. It is through with its only write after that: so nearly all frames are written
  * after its books were copied. And it does more then, which is not in the recording. See loader. */
 #define _GNU_SOURCE
+#include "drivers.h"
 #include "kernel.h"
 #include "kit.h"
 #include "names.h"
@@ -143,6 +144,8 @@ void need_no_lockdown(void) {}
 int need_driver(void) { return 1; }
 int need_tracefs(void) { return 1; }
 void need_tracepoints(void) {}
+int driver_is_recorded(enum driver driver) { return driver == DRIVER_IN_C; }
+const char *driver_language(enum driver driver) { return driver == DRIVER_IN_C ? "C" : "another language"; }
 
 void kernel_load(const struct options *options, struct ring *ring) { (void)options, (void)ring; }
 void kernel_start(void) {}

@@ -80,7 +80,7 @@ fetch_kernel() { # SERIES, or newest
 build_recorder_for_arm64() {
   local folder=$room/libraries-arm64
   [[ -e $folder/opened ]] || { use_lists bookworm && open_packages "$folder" busybox-static libbpf-dev libelf-dev \
-    zlib1g-dev; } || return 1
+    zlib1g-dev libb2-dev; } || return 1
   {
     printf '#!/bin/sh\n'
     printf 'exec %s -isystem %s -isystem %s -L%s "$@"\n' "$compiler" "$folder/usr/include" \

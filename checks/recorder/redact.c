@@ -2,9 +2,9 @@
  * Writes a capture again with the frames of the recorder, as `./record --redact` would have written it.
  *
  *     redact all|flagged CAPTURE OUT    writes OUT-1.cap and OUT.side; all: as with --redact, flagged: as without it
- *     redact hash KEY                   the digest of standard input, with a key in hexadecimal digits
+ *
+ * If KEY is in the environment, its bytes are the key, over and over again, in place of random ones.
  */
-#include "blake2s.h"
 #include "frame.h"
 #include "kit.h"
 #include "parts.h"
@@ -12,6 +12,7 @@
 #include <stdio.h>
 #include <stdlib.h>
 #include <string.h>
+#include <sys/random.h>
 
 #define FRAME_HEAD 32u
 
@@ -64,33 +65,25 @@ static void again(const char *path, const char *out)
 		fail("%s can't be written", out);
 }
 
-static void hash(const char *digits)
+/* In place of the one of the C library. */
+ssize_t getrandom(void *to, size_t bytes, unsigned flags)
 {
-	u8 key[BLAKE2S_BYTES], digest[BLAKE2S_BYTES], *bytes;
-	u32 key_bytes = 0;
-	unsigned byte;
-	u64 count;
-	struct blake2s made;
-	for (; key_bytes < sizeof key && sscanf(digits + 2 * key_bytes, "%2x", &byte) == 1; key_bytes++)
-		key[key_bytes] = (u8)byte;
-	bytes = all_of(stdin, &count);
-	blake2s_begin(&made, key, key_bytes);
-	for (u64 at = 0; at < count; at += 7)		/* in pieces, as it is used */
-		blake2s_take(&made, bytes + at, count - at < 7 ? count - at : 7);
-	blake2s_end(&made, digest);
-	for (u32 i = 0; i < sizeof digest; i++)
-		printf("%02x", digest[i]);
-	free(bytes);
+	const char *key = getenv("KEY");
+	FILE *file = key ? NULL : fopen("/dev/urandom", "r");
+	(void)flags;
+	for (size_t i = 0; key && i < bytes; i++)
+		((char *)to)[i] = key[i % strlen(key)];
+	if (file && fread(to, 1, bytes, file) != bytes)
+		bytes = 0;
+	if (file)
+		fclose(file);
+	return (ssize_t)bytes;
 }
 
 int main(int count, char **words)
 {
-	if (count == 3 && !strcmp(words[1], "hash")) {
-		hash(words[2]);
-		return 0;
-	}
 	if (count != 4)
-		fail("usage: redact all|flagged CAPTURE OUT, or redact hash KEY");
+		fail("usage: redact all|flagged CAPTURE OUT");
 	redact_begin(!strcmp(words[1], "all"));
 	again(words[2], words[3]);
 	redact_end();

@@ -5,7 +5,7 @@
 It builds the part of the recorder that writes frames, and gives it the captures of samples/ and made ones as if they
 were just being recorded. What must hold:
 
-- The hash is BLAKE2s: it gives the published digests.
+- With a key that is known, the bytes are those that docs/RECORDER.md describes, by the BLAKE2s of Python.
 - The report on a redacted capture, and all rows of `./listing --tables`, are those of the capture, byte for byte, but
   for names of services, of which it has none. So sizes, objects and offsets stay, and each send still fits its
   delivery. Made captures have random offsets and sorts, with all causes of bad objects.
@@ -18,6 +18,7 @@ If all is well it prints nothing. Otherwise it prints what is wrong, and ends wi
 
 import argparse
 import hashlib
+import os
 import pathlib
 import random
 import re
@@ -89,10 +90,11 @@ def build(room: pathlib.Path) -> pathlib.Path:
     return room / "redact"
 
 
-def redacted(programs: Programs, room: pathlib.Path, data: bytes, which: str = "all") -> bytes:
-    """The capture as the recorder would have written it."""
+def redacted(programs: Programs, room: pathlib.Path, data: bytes, which: str = "all", key: str | None = None) -> bytes:
+    """The capture as the recorder would have written it; with this key, or else with a random one."""
     (room / "in.cap").write_bytes(data)
-    subprocess.run([programs.redact, which, room / "in.cap", room / "out"], check=True)
+    subprocess.run([programs.redact, which, room / "in.cap", room / "out"], check=True,
+                   env={**os.environ, **({"KEY": key} if key else {})})
     made = (room / "out-1.cap").read_bytes()
     for path in room.glob("out*"):
         path.unlink()
@@ -146,18 +148,23 @@ def check_same(programs: Programs, room: pathlib.Path, name: str, data: bytes, f
 # ---- the checks
 
 
-def check_hash(programs: Programs, fail: Fail) -> None:
-    """The digests of RFC 7693 and of its authors' list, and those of Python for all lengths up to four blocks."""
-    published = [("", b"abc", "508c5e8c327c14e2e1a72ba34eeb452f37458b209ed63a294d999b4c86675982"),
-                 (bytes(range(32)).hex(), b"", "48a8997da407876b3d79c0d92325ad3b89cbb754d86ab71aee047ad345fd2c49"),
-                 (bytes(range(32)).hex(), b"\0", "40d15fee7c328830166ac3f918650f807e7e01e177258cdc0a39b11f598066f1")]
-    others = [(bytes(range(size)).hex(), bytes(range(length)),
-               hashlib.blake2s(bytes(range(length)), key=bytes(range(size))).hexdigest())
-              for length in (*range(1, 8), 63, 64, 65, 127, 128, 129, 255) for size in (0, 16, 32)]
-    for key, message, due in published + others:
-        came = subprocess.run([programs.redact, "hash", key], input=message, capture_output=True, check=True).stdout
-        if came.decode() != due:
-            fail(f"the hash of {message!r} with the key {key!r} is {came.decode()}, not {due}")
+def hashed(key: str, data: bytes) -> bytes:
+    """What replaces a payload without a token and without objects: hashes, with a key of 32 bytes, of the hash of all
+    that is replaced. `d` and `s` say which hash is meant; where the data begin and how long they are comes before."""
+    def digest(*parts: bytes) -> bytes:
+        return hashlib.blake2s(b"".join(parts), key=key.encode()).digest()
+    whole = digest(b"d", struct.pack("<I", len(data)), struct.pack("<QQ", 0, len(data)) if data else b"", data)
+    return b"".join(digest(b"s", whole, struct.pack("<Q", at)) for at in range(len(data) // 32 + 1))[:len(data)]
+
+
+def check_key(programs: Programs, room: pathlib.Path, fail: Fail) -> None:
+    """Recordings of one key redact alike, for payloads of all lengths around those of the hash's blocks."""
+    for key in ("k" * 32, bytes(range(33, 65)).decode()):
+        for length in (*range(1, 8), 31, 32, 33, 63, 64, 65, 127, 128, 129, 255, 5000):
+            data = bytes(at * 7 & 255 for at in range(length))
+            one, two = payloads_in(redacted(programs, room, crossing([(Payload(data), 0)]), key=key))
+            if not one.data == two.data == hashed(key, data):
+                fail(f"with the key {key!r}, {length} bytes are redacted otherwise")
 
 
 def is_token(data: bytes) -> bool:
@@ -287,8 +294,7 @@ def check_secrets(programs: Programs, room: pathlib.Path, fail: Fail) -> None:
 
 def judge(given: argparse.Namespace, room: pathlib.Path, fail: Fail) -> None:
     programs = Programs(build(room), given.programs[0], LISTING)
-    check_hash(programs, fail)
-    for part in (check_tokens, check_secrets, check_random, check_samples):
+    for part in (check_key, check_tokens, check_secrets, check_random, check_samples):
         part(programs, room, fail)
 
 

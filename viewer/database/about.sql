@@ -6,7 +6,7 @@ CREATE TABLE about(name TEXT PRIMARY KEY, rests_on TEXT NOT NULL
   CHECK (rests_on IN ('bytes', 'rule', 'proved', 'side', 'inferred')), text TEXT NOT NULL) STRICT;
 INSERT INTO about VALUES
   ('capture', 'bytes', 'what the capture is: a key and a value each'),
-  ('device', 'side', 'a Binder device of the capture; its name is from the side list'),
+  ('device', 'side', 'a Binder device of the capture; its name and its driver are from the side list'),
   ('process', 'side',
     'a device and a process number, as upid; pid, name, command, uid, opening, ends: of the side list'),
   ('thread', 'side', 'a thread of a process, as utid; tid, name and end are from the side list'),
@@ -22,6 +22,7 @@ INSERT INTO about VALUES
   ('book_call', 'side', 'a call that a thread had open in such a copy'),
   ('book_process', 'side', 'a process that has no frame, and a call that was open throughout'),
   ('book_open', 'side', 'a call that both copies have: it was open throughout the recording'),
+  ('book_stats', 'side', 'the threads and the free oneway space of an opening in such a copy'),
   ('disagreement', 'inferred', 'where the report and the books at the end differ'),
   ('side_call', 'side', 'the stack of the call that wrote a frame'),
   ('side_unstacked', 'side', 'stacks that the recorder did not have, and why'),

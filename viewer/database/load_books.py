@@ -7,7 +7,7 @@ import sqlite3
 from collections import Counter, defaultdict
 from typing import Iterator, NamedTuple
 
-from viewer.database.books import Opening, Transaction, state
+from viewer.database.books import Counts, Opening, Transaction, state, stats
 from viewer.units import signed
 
 
@@ -25,7 +25,7 @@ class Copy(NamedTuple):
 class Matched(NamedTuple):
     """An opening in the books that is one of the capture."""
     upid: int
-    opening: Opening
+    opening: Opening | Counts
 
 
 # ---- the files
@@ -55,26 +55,30 @@ def text_of(copy: Copy, sides: list[str]) -> tuple[str | None, str | None]:
 # ---- which opening is which
 
 
-def open_at(database: sqlite3.Connection, copy: Copy) -> dict[tuple[int, str], list[tuple[int, str]]]:
-    """The openings of the capture that were open when the copy was made, with how they were met, the first one first:
-    by the system's id of their process, and the name of their device. At the beginning only those that were met."""
-    found: dict[tuple[int, str], list[tuple[int, str]]] = defaultdict(list)
+# A device of a process: the system's id of that, the name of the device, and its driver if that is known.
+Device = tuple[int, str, str | None]
+
+
+def open_at(database: sqlite3.Connection, copy: Copy) -> dict[Device, list[tuple[int, str]]]:
+    """The openings of the capture that were open when the copy was made, with how they were met, the first one first,
+    by their device. At the beginning only those that were met."""
+    found: dict[Device, list[tuple[int, str]]] = defaultdict(list)
     rows = database.execute(
-        "SELECT p.upid, p.pid, d.name, p.met FROM process p JOIN side_device d USING (device)"
+        "SELECT p.upid, p.pid, d.name, d.driver, p.met FROM process p JOIN side_device d USING (device)"
         " WHERE p.met NOTNULL AND p.frames > 0 AND coalesce(p.ended > :ts, 1)"
         " AND iif(:begin, p.met = 'in-mid-life', p.first_seq <= :after) ORDER BY p.opening",
         {"ts": copy.ts, "begin": copy.moment == "begin", "after": copy.after})
-    for upid, pid, device, met in rows:
-        found[pid, device].append((upid, met))
+    for upid, pid, device, driver, met in rows:
+        found[pid, device, driver].append((upid, met))
     return found
 
 
-def matched(database: sqlite3.Connection, copy: Copy, openings: list[Opening]) -> list[Matched]:
+def matched(database: sqlite3.Connection, copy: Copy, openings: list[Opening] | list[Counts]) -> list[Matched]:
     """The openings of the books that are certainly some of the capture. Of several by one process, it is known in which
     order they were opened only if all were seen to be opened."""
-    books: dict[tuple[int, str], list[Opening]] = defaultdict(list)
+    books: dict[Device, list[Opening | Counts]] = defaultdict(list)
     for opening in reversed(openings):
-        books[opening.pid, opening.context].append(opening)
+        books[opening.pid, opening.context, opening.driver].append(opening)
     found = []
     for key, ours in open_at(database, copy).items():
         theirs = books[key]
@@ -137,19 +141,19 @@ def load_state(database: sqlite3.Connection, copy: Copy, openings: list[Opening]
         return
     found = matched(database, copy, openings)
     moment = copy.moment
-    owners = {number: (one.upid, *map(signed, node)) for one in found + silent for node, number in
-              one.opening.node_numbers.items()}
+    owners = {(one.opening.driver, number): (one.upid, *map(signed, node)) for one in found + silent
+              for node, number in one.opening.node_numbers.items()}
     threads = {(upid, tid): utid for upid, tid, utid in database.execute("SELECT upid, tid, utid FROM thread")}
     for upid, opening in found:
-        database.execute("INSERT INTO book_opening VALUES (?, ?, ?, ?, ?)",
+        database.execute("INSERT INTO book_opening VALUES (?, ?, ?, ?, ?, ?)",
                          (moment, upid, is_quiet(database, copy, upid), opening.deaths > 0,
-                          opening.clears + opening.cleared_and_dead))
+                          opening.clears + opening.cleared_and_dead, opening.driver))
         database.executemany("INSERT OR REPLACE INTO book_handle VALUES (?, ?, ?, ?, ?, ?, ?, ?, ?, ?)", (
-            (moment, upid, handle, ref.strong, ref.weak, ref.is_dead, handle in opening.requests,
-             *owners.get(ref.node, (None, None, None))) for handle, ref in opening.refs.items()))
+            (moment, upid, handle, ref.strong, ref.weak, ref.is_dead, opening.is_requested(handle),
+             *owners.get((opening.driver, ref.node), (None, None, None))) for handle, ref in opening.refs.items()))
         database.executemany("INSERT OR REPLACE INTO book_node VALUES (?, ?, ?, ?, ?, ?, ?, ?)", (
             (moment, upid, *map(signed, node), *counts) for node, counts in opening.nodes.items()))
-        unread = {item.number for item in opening.pending}
+        unread = opening.unread
         database.executemany("INSERT OR REPLACE INTO book_buffer VALUES (?, ?, ?, ?, ?, ?, ?)", (
             (moment, upid, number, signed(area.address), area.data, area.offsets, number in unread)
             for number, area in opening.areas.items()))
@@ -159,7 +163,18 @@ def load_state(database: sqlite3.Connection, copy: Copy, openings: list[Opening]
              for side, tid, item in sides_of(opening)))
 
 
+def load_stats(database: sqlite3.Connection, copy: Copy, text: str) -> None:
+    """For how many threads the driver asked, and may ask, by the book `stats`; and the free space for oneway sends."""
+    database.executemany("INSERT INTO book_stats VALUES (?, ?, ?, ?, ?, ?)", (
+        (copy.moment, upid, counts.requested, counts.started, counts.most, counts.oneway_free)
+        for upid, counts in matched(database, copy, stats(text)[1])))
+
+
 # ---- calls that were open throughout
+
+
+# The number of a call, with the driver that gave it.
+Number = tuple[str, int]
 
 
 class Place(NamedTuple):
@@ -170,11 +185,12 @@ class Place(NamedTuple):
     thread: int | None
 
 
-def places_of_calls(openings: list[Opening]) -> tuple[dict[int, Place], dict[int, Place]]:
-    """By the driver's number of a call, who makes it, and who serves it or should get it."""
-    made = {item.number: Place(one, item, item.thread) for one in openings for item in one.outgoing}
-    waits = {item.number: Place(one, item, None) for one in openings for item in one.pending if not item.is_reply}
-    served = {item.number: Place(one, item, item.thread) for one in openings for item in one.incoming}
+def places_of_calls(openings: list[Opening]) -> tuple[dict[Number, Place], dict[Number, Place]]:
+    """By the number of a call, who makes it, and who serves it or should get it."""
+    made = {(one.driver, item.number): Place(one, item, item.thread) for one in openings for item in one.outgoing}
+    waits = {(one.driver, item.number): Place(one, item, None) for one in openings for item in one.pending
+             if not item.is_reply}
+    served = {(one.driver, item.number): Place(one, item, item.thread) for one in openings for item in one.incoming}
     return made, waits | served
 
 
@@ -188,7 +204,7 @@ class Throughout:
         self.upids = {id(one.opening): one.upid for one in matched(database, copy, end)}
         self.numbers = Counter((one.pid, one.context) for one in end)
         made, served = places_of_calls(end)
-        numbers = {item.number for one in begin for item in one.outgoing} & made.keys() & served.keys()
+        numbers = {(one.driver, item.number) for one in begin for item in one.outgoing} & made.keys() & served.keys()
         self.calls = [(made[number], served[number]) for number in sorted(numbers)]
 
     def upid_of(self, opening: Opening) -> int | None:
@@ -208,7 +224,8 @@ class Throughout:
         device = self.database.execute("SELECT device FROM side_device WHERE name = ?", (opening.context,)).fetchone()
         if device is None:
             device = self.database.execute("SELECT coalesce(max(device), -1) + 1 FROM side_device").fetchone()
-            self.database.execute("INSERT INTO side_device VALUES (?, ?)", (*device, opening.context))
+            self.database.execute("INSERT INTO side_device VALUES (?, ?, ?)",
+                                  (*device, opening.context, opening.driver))
         self.database.execute("INSERT INTO book_process VALUES (?, ?, ?, ?)",
                               (upid, *device, opening.pid, self.names.get(opening.pid)))
         self.upids[id(opening)] = upid
@@ -268,6 +285,8 @@ def load(database: sqlite3.Connection, copies: list[Copy], sides: list[str], nam
             continue
         copy = widened(database, copy)
         database.execute("INSERT OR REPLACE INTO book VALUES (?, ?, ?, ?, ?)", copy[:5])
+        if copy.what == "stats" and copy.moment in ("begin", "end"):
+            load_stats(database, copy, text)
         if copy.what == "state" and copy.moment in ("begin", "end"):
             states[copy.moment] = copy, text
     wrong += load_states(database, states, names)

@@ -3,15 +3,16 @@
 -- Since version 4, method and node_interface are new.
 -- Since version 5, command and uid of process, the names that begin with book, disagreement, side_call, side_unstacked,
 -- stack, finding_stack, service and node_service are, and the column service of record.
--- Since version 7, program, call_text, defect, finding_defect, talk, book_process, book_open, and the columns fault of
--- rule and culprit of finding are new.
+-- Since version 7, program, call_text, defect, finding_defect, talk, book_process, book_open, book_stats, and the columns
+-- fault of rule, culprit of finding, and driver of device and of book_opening are new; what the driver in Rust does not
+-- tell is NULL.
 -- needs: nothing
 -- makes: tables: raw_capture, raw_process, raw_thread, raw_frame, raw_record, raw_interface, raw_service, raw_object,
 --   raw_call, raw_generation, raw_send, raw_delivery, raw_level, side_device, side_process, side_thread, side_time,
 --   side_clock, side_lost, interface, service, method, call_interface, object_interface, object_service, status,
 --   side_missed, side_calls, side_handle, book, book_opening, book_handle, book_node, book_buffer, book_call,
---   book_process, book_open, disagreement, side_call, side_pc, side_map, side_unstacked, symbol, capture, report, finding;
---   indexes:
+--   book_process, book_open, book_stats, disagreement, side_call, side_pc, side_map, side_unstacked, symbol, capture,
+--   report, finding; indexes:
 --   side_process_of_pid, side_thread_of_tid
 
 PRAGMA user_version = 7;
@@ -271,7 +272,7 @@ CREATE TABLE raw_level(upid INTEGER NOT NULL, slice INTEGER NOT NULL, buffers IN
 
 -- ---- what `./view` adds: the side list, the proved report, and the findings of the rules
 
-CREATE TABLE side_device(device INTEGER PRIMARY KEY, name TEXT NOT NULL) STRICT;
+CREATE TABLE side_device(device INTEGER PRIMARY KEY, name TEXT NOT NULL, driver TEXT) STRICT;
 CREATE TABLE side_process(device INTEGER, process INTEGER, pid INTEGER, opening INTEGER, met TEXT, name TEXT,
   opened INTEGER, ended_after INTEGER, ended INTEGER, command TEXT, uid INTEGER, PRIMARY KEY(device, process)) STRICT;
 CREATE TABLE side_thread(device INTEGER, process INTEGER, thread INTEGER, tid INTEGER, name TEXT, ended_after INTEGER,
@@ -308,22 +309,24 @@ CREATE TABLE side_handle(device INTEGER, process INTEGER, handle INTEGER, PRIMAR
 CREATE TABLE book(moment TEXT NOT NULL, what TEXT NOT NULL, from_seq INTEGER NOT NULL, after INTEGER NOT NULL,
   ts INTEGER NOT NULL, PRIMARY KEY(moment, what)) STRICT;
 CREATE TABLE book_opening(moment TEXT NOT NULL, upid INTEGER NOT NULL, quiet INTEGER NOT NULL, deaths INTEGER NOT NULL,
-  clears INTEGER NOT NULL, PRIMARY KEY(moment, upid)) STRICT;
+  clears INTEGER NOT NULL, driver TEXT NOT NULL, PRIMARY KEY(moment, upid)) STRICT;
 CREATE TABLE book_handle(moment TEXT NOT NULL, upid INTEGER NOT NULL, handle INTEGER NOT NULL, strong INTEGER NOT NULL,
-  weak INTEGER NOT NULL, dead INTEGER NOT NULL, requested INTEGER NOT NULL, node_upid INTEGER, ptr INTEGER,
+  weak INTEGER NOT NULL, dead INTEGER NOT NULL, requested INTEGER, node_upid INTEGER, ptr INTEGER,
   cookie INTEGER, PRIMARY KEY(moment, upid, handle)) STRICT;
 CREATE TABLE book_node(moment TEXT NOT NULL, upid INTEGER NOT NULL, ptr INTEGER NOT NULL, cookie INTEGER NOT NULL,
-  strong INTEGER NOT NULL, weak INTEGER NOT NULL, local_strong INTEGER NOT NULL, local_weak INTEGER NOT NULL,
+  strong INTEGER NOT NULL, weak INTEGER NOT NULL, local_strong INTEGER, local_weak INTEGER,
   PRIMARY KEY(moment, upid, ptr, cookie)) STRICT;
 CREATE TABLE book_buffer(moment TEXT NOT NULL, upid INTEGER NOT NULL, number INTEGER NOT NULL, address INTEGER NOT NULL,
-  data_size INTEGER NOT NULL, offsets_size INTEGER NOT NULL, unread INTEGER NOT NULL,
+  data_size INTEGER, offsets_size INTEGER, unread INTEGER NOT NULL,
   PRIMARY KEY(moment, upid, number)) STRICT;
 CREATE TABLE book_call(id INTEGER PRIMARY KEY, moment TEXT NOT NULL, upid INTEGER NOT NULL, utid INTEGER,
   tid INTEGER NOT NULL, side TEXT NOT NULL, number INTEGER, code INTEGER) STRICT;
 CREATE TABLE book_process(upid INTEGER PRIMARY KEY, device INTEGER NOT NULL, pid INTEGER NOT NULL, name TEXT) STRICT;
-CREATE TABLE book_open(number INTEGER PRIMARY KEY, upid INTEGER NOT NULL, utid INTEGER, tid INTEGER NOT NULL,
+CREATE TABLE book_open(number INTEGER NOT NULL, upid INTEGER NOT NULL, utid INTEGER, tid INTEGER NOT NULL,
   place INTEGER NOT NULL, server INTEGER NOT NULL, server_utid INTEGER, server_tid INTEGER, delivery INTEGER,
   code INTEGER NOT NULL, ptr INTEGER, cookie INTEGER) STRICT;
+CREATE TABLE book_stats(moment TEXT NOT NULL, upid INTEGER NOT NULL, requested INTEGER NOT NULL,
+  started INTEGER NOT NULL, most INTEGER NOT NULL, oneway_free INTEGER, PRIMARY KEY(moment, upid)) STRICT;
 CREATE TABLE disagreement(id INTEGER PRIMARY KEY, upid INTEGER NOT NULL, section TEXT NOT NULL, what TEXT NOT NULL,
   report INTEGER NOT NULL, books INTEGER NOT NULL) STRICT;
 -- The stacks of calls. A memory is that of a process, from its start or from exec on; idx 0 is the innermost function,

@@ -62,6 +62,15 @@ def line_of(line: str, path: str) -> tuple[int, str, list[str], dict[str, str]]:
     return int(time), word, positional, keyed
 
 
+def drivers_of(text: str) -> dict[tuple[int, int], str]:
+    """The driver of each device, by its numbers: MAJOR:MINOR:DRIVER, with commas between."""
+    found = {}
+    for word in filter(None, text.split(",")):
+        major, minor, driver = word.split(":")
+        found[number(major), number(minor)] = driver
+    return found
+
+
 def joined_sides(paths: list[str], to: pathlib.Path) -> str:
     """The side lists of the files of a flight recorder as one. Each of them begins with what was met before its file;
     of all but the first one, that is left out."""
@@ -99,6 +108,7 @@ class SideList:
         self.told = 0
         self.copies: list[load_books.Copy] = []
         self.met: dict[int, str] = {}
+        self.drivers: dict[tuple[int, int], str] | None = None
 
     def last(self) -> int:
         """The last number that has come in the list, of a frame or of a lost frame."""
@@ -177,14 +187,25 @@ class SideList:
         self.facts.update(begin_ts=time, realtime=number(keyed["realtime"]), kernel=keyed["kernel"],
                           machine=keyed["machine"], payloads=keyed.get("payloads"),
                           boottime=number(keyed["boottime"]) if "boottime" in keyed else None)
+        self.drivers = drivers_of(keyed["drivers"]) if "drivers" in keyed else None
 
     def take_clocks(self, time: int, _: list[str], keyed: dict[str, str]) -> None:
         self.database.execute("INSERT OR REPLACE INTO side_clock VALUES (?, ?, ?)",
                               (time, number(keyed["realtime"]), number(keyed["boottime"])))
 
+    def driver_of(self, major: int, minor: int) -> str | None:
+        """The driver of a device. One that was made later has the driver of others of its major number."""
+        if self.drivers is None:		# earlier recorders recorded only the driver in C
+            return "C"
+        if (major, minor) in self.drivers:
+            return self.drivers[major, minor]
+        near = {driver for key, driver in self.drivers.items() if key[0] == major}
+        return near.pop() if len(near) == 1 else None
+
     def take_device(self, _: int, positional: list[str], keyed: dict[str, str]) -> None:
-        self.database.execute("INSERT OR REPLACE INTO side_device VALUES (?, ?)",
-                              (*numbers(positional, 1), keyed["name"]))
+        self.database.execute("INSERT OR REPLACE INTO side_device VALUES (?, ?, ?)",
+                              (*numbers(positional, 1), keyed["name"],
+                               self.driver_of(number(keyed["major"]), number(keyed["minor"]))))
 
     def take_process(self, time: int, positional: list[str], keyed: dict[str, str]) -> None:
         self.database.execute(

@@ -9,7 +9,7 @@
 --   listing, came_to, sent_to, node_interface, stack, node_service, talk
 
 CREATE VIEW device AS
-SELECT DISTINCT p.device, s.name FROM raw_process p LEFT JOIN side_device s USING (device);
+SELECT DISTINCT p.device, s.name, s.driver FROM raw_process p LEFT JOIN side_device s USING (device);
 
 -- Also the processes that have no frame, and that the driver's books have.
 CREATE VIEW process AS

@@ -21,7 +21,13 @@ WHERE e.moment = 'end' AND e.quiet AND e.upid NOT IN (SELECT upid FROM lossy)
 
 # A buffer with objects holds references too. Where one was on its way, or was from before the recording, the references
 # of handles are not compared.
-CARRIERS = "SELECT upid FROM book_buffer WHERE offsets_size > 0 AND (unread OR moment = 'begin')"
+# The driver in Rust does not say whether a buffer has objects.
+CARRIERS = "SELECT upid FROM book_buffer WHERE offsets_size IS NOT 0 AND (unread OR moment = 'begin')"
+
+# The driver in Rust does not say how many bytes of a buffer are data, nor which buffer is which: of openings that had
+# some at the beginning it is not known which of them are left. Nor does it say which deaths are asked for.
+SAYS_LESS = "SELECT upid FROM book_opening WHERE driver = 'Rust'"
+HAD_BUFFERS = f"SELECT upid FROM book_buffer WHERE moment = 'begin' AND upid IN ({SAYS_LESS})"
 
 QUERIES = {
     # The driver ignores a release of what is not held; the report counts it, and its low makes up for that.
@@ -44,7 +50,7 @@ SELECT upid, 'node ' || printf('0x%x', ptr) || what, sum(report), sum(books) FRO
       - (moment = 'begin' AND ptr = 0 AND cookie = 0),
     iif(moment = 'end', iif(name = 'strong', strong, weak), 0) FROM book_node, way)
 GROUP BY upid, ptr, cookie, what""",
-    "buffers": """
+    "buffers": f"""
 SELECT upid, what, sum(iif(of = 'buffers', report_n, report_bytes)), sum(iif(of = 'buffers', books_n, books_bytes))
 FROM (SELECT upid, 1 AS report_n, number_in('buffers', text, 'data_size') AS report_bytes, 0 AS books_n,
     0 AS books_bytes FROM report JOIN process USING (device, process) WHERE section = 'buffers'
@@ -52,6 +58,7 @@ FROM (SELECT upid, 1 AS report_n, number_in('buffers', text, 'data_size') AS rep
     AND NOT EXISTS (SELECT 1 FROM book_buffer b WHERE b.moment = 'begin' AND (b.upid, b.number) = (e.upid, e.number)
       AND NOT b.unread)),
   (SELECT 'buffers' AS of, 'buffers' AS what UNION ALL SELECT 'bytes', 'bytes in buffers')
+WHERE upid NOT IN ({HAD_BUFFERS}) AND (of = 'buffers' OR upid NOT IN ({SAYS_LESS}))
 GROUP BY upid, what""",
     # A thread that left or ended has no calls any more. Of a call that was made before the recording it is not known
     # which answer is on its way.
@@ -72,7 +79,7 @@ SELECT upid, 'deaths not acknowledged', max(report), max(books) FROM (
 WHERE upid NOT IN (SELECT upid FROM book_opening WHERE moment = 'begin' AND deaths) GROUP BY upid""",
     # A request that waits for a death. The driver keeps it after it has told of the death, until nothing holds the
     # handle; then the number may mean another object, with a request of its own.
-    "requests": """
+    "requests": f"""
 SELECT upid, 'request for handle ' || handle, max(report), max(books) FROM (
   SELECT upid, handle, 1 AS report, 0 AS books FROM finding WHERE rule = 'D5'
   UNION ALL SELECT upid, handle, 0, 1 FROM book_handle b WHERE moment = 'end' AND requested
@@ -81,7 +88,7 @@ SELECT upid, 'request for handle ' || handle, max(report), max(books) FROM (
       > coalesce((SELECT max(place) FROM told_death t WHERE (t.upid, t.handle) = (b.upid, b.handle)), -1),
       NOT EXISTS (SELECT 1 FROM book_handle x WHERE x.moment = 'begin' AND (x.upid, x.handle) = (b.upid, b.handle)
         AND x.requested)))
-GROUP BY upid, handle"""}
+WHERE upid NOT IN ({SAYS_LESS}) GROUP BY upid, handle"""}
 
 
 INSERT = """WITH said(upid, what, report, books) AS ({query})

@@ -34,8 +34,9 @@ CREATE TEMP TABLE held_before AS
 SELECT h.id, h.begun, k.strong AS had_strong, k.weak AS had_weak,
   number_in(f.section, r.text, 'strong') + k.strong AS strong, number_in(f.section, r.text, 'weak') + k.weak AS weak,
   min(number_in(f.section, r.text, 'strong_low') + k.strong, number_in(f.section, r.text, 'weak_low') + k.weak,
-    iif(f.section = 'nodes', number_in(f.section, r.text, 'strong_due') + k.local_strong, 0),
-    iif(f.section = 'nodes', number_in(f.section, r.text, 'weak_due') + k.local_weak, 0)) AS least
+    -- The driver in Rust does not tell how many answers of the process it waits for.
+    iif(f.section = 'nodes', coalesce(number_in(f.section, r.text, 'strong_due') + k.local_strong, 0), 0),
+    iif(f.section = 'nodes', coalesce(number_in(f.section, r.text, 'weak_due') + k.local_weak, 0), 0)) AS least
 FROM handle_row h JOIN finding f USING (id) JOIN report r ON r.id = f.report
   JOIN (SELECT 'handles' AS section, upid, handle AS a, 0 AS b, strong, weak, 0 AS local_strong, 0 AS local_weak
       FROM book_handle WHERE moment = 'begin'

@@ -1,5 +1,4 @@
-"""The driver's books of a scenario, as it saved them from /sys/kernel/debug/binder. viewer/database/books.py reads
-them."""
+"""The driver's books of a scenario, as it saved them. viewer/database/books.py reads them."""
 
 import pathlib
 import re
@@ -29,7 +28,9 @@ NAMES = ("state", "stats", "stats.before", "failed_transaction_log", "failed_tra
 
 
 def texts(folder):
-    return {name: (pathlib.Path(folder) / name).read_text() for name in NAMES}
+    """The driver in Rust has no failed_transaction_log."""
+    paths = {name: pathlib.Path(folder) / name for name in NAMES}
+    return {name: path.read_text() if path.exists() or "log" not in name else "" for name, path in paths.items()}
 
 
 class Books:
@@ -39,14 +40,15 @@ class Books:
         self.openings = state(text["state"])
         before, _ = stats(text["stats.before"])
         whole, each = stats(text["stats"])
+        self.drivers = {opening.driver for opening in self.openings}
         self.codes = Counter({name: whole[name] - before[name] for name in whole if whole[name] != before[name]})
-        for opening, (pid, counts) in zip(self.openings, each, strict=True):
-            if opening.pid != pid:
+        for opening, counts in zip(self.openings, each, strict=True):
+            if (opening.driver, opening.pid, opening.context) != counts[:3]:
                 raise ValueError("stats and state list other processes")
-            opening.codes = counts
+            opening.codes = counts.codes
         old = {entry.number for entry in failed(text["failed_transaction_log.before"])}
         self.failed = [entry for entry in failed(text["failed_transaction_log"]) if entry.number not in old]
-        self.log_is_full = len(self.failed) >= 32
+        self.has_log = len(self.failed) < 32
         moment, *mappings = text["moment"].splitlines()
         self.moment = int(moment)
         self.mapping = {}

@@ -304,7 +304,12 @@ def bits_differences(how, recording):
 
 
 OPENINGS_BEFORE = 4	# of the load: manager, service and two clients
-SAYS = {"drivers": ["driver is the one in Rust", "rust alone: status 1", "two Binder drivers"]}
+# What the output of a guest has for these ways to record.
+SAYS = {
+    "drivers": ["is not recorded: ", "the absent one alone: status 1", " are not recorded, and those of "],
+    "untraced": ["the Binder driver in Rust is not recorded: ", "without tracepoints: status 1",
+                 "recorded without them: status 1"],
+    "two-drivers": ["driver in C, devices hwbinder; driver in Rust, devices "]}
 
 
 # How it is recorded if the recorder does not record all, from beginning to end.
@@ -315,7 +320,7 @@ MOST_CUT = 8192		# bytes of a last frame of the load that a killed recorder may 
 
 class Scenario:
     def __init__(self, auditor, folder):
-        self.name, self.folder = folder.name, folder
+        self.name, self.folder = folder.name.removesuffix("-rust"), folder	# as store.py calls some
         self.recording = Recording(folder)
         status = folder / "status"
         self.status, self.how = status.read_text().split()[:2] if status.exists() else ("0", "stored")
@@ -404,7 +409,7 @@ class Scenario:
 
 # ---- wrong books
 
-WRONG = {	# for each section a count in a file of the books
+WRONG_IN_C = {	# for each section a count in a file of the books
     "codes": ("stats", r"^(BC_REPLY: )(\d+)"),
     "codes by process": ("stats", r"^(  BC_FREE_BUFFER: )(\d+)"),
     "handles": ("state", r"(  ref \d+: desc \d+ (?:dead )?node \d+ s )(\d+)"),
@@ -419,11 +424,23 @@ WRONG = {	# for each section a count in a file of the books
     "refused": ("failed_transaction_log", r"^(\d+: async from \d+:)(\d+)"),
     "oneway": ("state", r"(pending async transaction .* flags )(\d+)"),
 }
+# The driver in Rust has other lines of these, and no counts of what is left out.
+WRONG_IN_RUST = {
+    **{section: where for section, where in WRONG_IN_C.items() if section not in ("due", "requests", "refused")},
+    "nodes": ("state", r"(  node \d+: u[0-9a-f]*[1-9a-f]0* c\w+ hs )(true)"),
+    "buffers": ("state", r"(  buffer(?: \d+)?: )(\d+)(?= size .* allocated)"),
+}
 
 
-def wrong(text, section):
+def wrong_of(scenarios):
+    """Where the books of a guest can be made wrong, by its driver."""
+    in_rust = all("need_return false" in scenario.books["state"] for scenario in scenarios if scenario.books)
+    return WRONG_IN_RUST if in_rust else WRONG_IN_C
+
+
+def wrong(text, section, where):
     """The books with one count of the section changed; None if they have no such count."""
-    name, pattern = WRONG[section]
+    name, pattern = where
 
     def change(found):
         return found[1] + (str(int(found[2], 16) + 1) if re.fullmatch(r"[0-9a-f]+", found[2]) else "lost")
@@ -443,12 +460,12 @@ def wrong(text, section):
 
 def unfound(scenarios):
     """For each section: in how many scenarios its books were made wrong, and in how many that was found."""
-    for section in WRONG:
+    for section, where in wrong_of(scenarios).items():
         tried = found = 0
         for scenario in scenarios:
             if tried == 3 or not scenario.report or not scenario.books or scenario.how in PARTIAL:
                 continue
-            texts = wrong(scenario.books, section)
+            texts = wrong(scenario.books, section, where)
             if texts is None:
                 continue
             right = scenario.differences()[0]

@@ -1,4 +1,5 @@
-"""store.py AUDITOR FROM TO: stores the small scenarios of a guest, with their books and the report on each."""
+"""store.py AUDITOR FROM TO [SUFFIX NAME..]: stores the small scenarios of a guest, with their books and the report on
+each; with NAMEs only these, each in a folder with the SUFFIX."""
 
 import pathlib
 import shutil
@@ -9,7 +10,7 @@ from checks.recorder.driver import books
 from checks.recorder.driver.recording import Recording, report_on
 
 LARGEST = 200_000	# bytes of a capture with its side list
-WAYS = ("both", "record", "redact", "narrow", "before", "stacks", "frameless")	# to record a scenario
+WAYS = ("both", "record", "redact", "narrow", "before", "stacks", "frameless", "two-drivers")	# to record a scenario
 
 
 def store_symbols(program, folder):
@@ -19,12 +20,14 @@ def store_symbols(program, folder):
     (folder / "program.debug").chmod(0o644)
 
 
-def main(auditor, source, to):
+def main(auditor, source, to, suffix="", *names):
     to = pathlib.Path(to)
     if to.resolve() == pathlib.Path(source).resolve():
         sys.exit("store.py: FROM and TO are the same folder")
     for folder in sorted(pathlib.Path(source).iterdir()):
-        captures = Recording(folder).captures if folder.is_dir() else []
+        if not folder.is_dir() or names and folder.name not in names:
+            continue
+        captures = Recording(folder).captures
         files = [*captures, folder / "capture.side"]
         if len(captures) != 1 or sum(path.stat().st_size for path in files) > LARGEST:
             continue
@@ -33,7 +36,7 @@ def main(auditor, source, to):
         status, text = report_on(auditor, captures)
         if status:
             sys.exit(f"store.py: {folder}: {text}")
-        kept = to / folder.name
+        kept = to / (folder.name + suffix)
         shutil.rmtree(kept, ignore_errors=True)
         kept.mkdir(parents=True)
         for path in (*files, *folder.glob("capture.*.*"), *(folder / name for name in books.NAMES)):

@@ -14,7 +14,10 @@
 #   killed   by a recorder that is killed while the scenario is at work
 #   stopped  by a recorder that is stopped for some seconds while the scenario is at work
 #   full     the same with a small ring, so that numbers are lost for lack of room
-#   drivers  by a recorder that seems to find two drivers, after one that seems to find only the one in Rust
+#   drivers  by a recorder that seems to find two drivers, after one that seems to find only the one that is not there
+#   untraced  by a recorder that finds the driver's tracepoints, after one that does not
+#   two-drivers  where the device hwbinder is of the driver in C, and the others are of the one in Rust
+#   opens    no scenario: what the recorder costs any file of the system that is opened; SCENARIO is how many a round
 #   narrow   by the recorder only, with a small ring, and the scenario itself makes it lose frames
 #   redact   by the recorder only, which redacts payloads
 #   stacks   by the recorder only, which takes stacks, with programs that keep frame pointers; `program` is that program
@@ -33,7 +36,16 @@ mount -t debugfs debug /sys/kernel/debug
 mount -t tracefs trace /sys/kernel/tracing 2>/dev/null
 mount -t tmpfs -o size=80% out /out
 for module in $(cat /modules/order); do insmod /modules/$module || echo "init: $module was not loaded"; done
-insmod /modules/binder_linux.ko devices=binder,hwbinder,vndbinder debug_mask=3 || echo "init: no driver"
+if [ -e /sys/module/rust_binder ]; then
+	mkdir /dev/binderfs
+	mount -t binder -o stats=global binder /dev/binderfs
+	for device in binder hwbinder vndbinder; do ln -s binderfs/$device /dev/$device; done
+	driver=rust_binder other=binder_linux
+else
+	insmod /modules/binder_linux.ko devices=binder,hwbinder,vndbinder debug_mask=3
+	driver=binder_linux other=rust_binder
+fi
+[ -e /sys/module/$driver ] || echo "init: no driver"
 echo 1 >/proc/sys/kernel/kptr_restrict
 uname -r >/out/kernel
 cp /proc/cmdline /out/cmdline
@@ -117,18 +129,38 @@ with_stacks() { # PROGRAM
 	return $status
 }
 
-# Runs the recorder where sysfs seems to have the driver in Rust alone, and then that one and the driver in C. The
-# real sysfs has no module of that name.
+# Runs the recorder where sysfs seems to have only the driver that is not there, and then both. That driver has no
+# tracepoints.
 pretend_drivers() {
 	mount -t tmpfs none /sys/module
-	mkdir /sys/module/rust_binder
+	mkdir /sys/module/$other
 	/record -o $here/refused -- /scenarios.static $scenario $here $number
-	echo "rust alone: status $?"
-	mkdir /sys/module/binder_linux
+	echo "the absent one alone: status $?"
+	mkdir /sys/module/$driver
 	/record -o $here/capture -- /scenarios.static $scenario $here $number
 	status=$?
 	umount /sys/module
 	return $status
+}
+
+# Runs the recorder where the driver's tracepoints seem to be away, and then where they are there.
+without_tracepoints() {
+	events=/sys/kernel/debug/tracing/events/$1
+	mount -t tmpfs none $events
+	/record --check
+	echo "without tracepoints: status $?"
+	/record -o $here/refused -- /scenarios.static $scenario $here $number
+	echo "recorded without them: status $?"
+	umount $events
+	/record -o $here/capture -- /scenarios.static $scenario $here $number
+}
+
+# The driver in C makes a device, beside those of the driver in Rust.
+with_two_drivers() {
+	rm /dev/hwbinder
+	insmod /modules/binder_linux.ko devices=hwbinder
+	/record --check
+	/record $more -o $here/capture -- /scenarios.static $scenario $here $number
 }
 
 play() {
@@ -155,6 +187,7 @@ play() {
 	frameless) with_stacks /scenarios;;
 	flight) newest_files 131072 count_files;;
 	hoard) newest_files 8388608 watch_memory;;
+	opens) /opens $scenario $number;;
 	bare) /scenarios $scenario $here $number;;
 	late) background TERM;;
 	before) before /scenarios.static;;
@@ -165,6 +198,8 @@ play() {
 		background TERM
 		echo 1 >/proc/sys/kernel/kptr_restrict;;
 	drivers) pretend_drivers;;
+	untraced) without_tracepoints rust_binder;;
+	two-drivers) with_two_drivers;;
 	killed) background KILL;;
 	stopped) background STOP;;
 	full) ring='--ring 65536' && background STOP && ring=;;

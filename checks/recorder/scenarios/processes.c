@@ -102,11 +102,11 @@ void wait_for_file(const char *name)
 	}
 }
 
-static void copy_file(const char *from, const char *to)
+static void add_file(const char *from, const char *to)
 {
 	static char buffer[1 << 16];
 	ssize_t got;
-	int in = open(from, O_RDONLY), out = open(to, O_WRONLY | O_CREAT | O_TRUNC, 0600);
+	int in = open(from, O_RDONLY), out = open(to, O_WRONLY | O_CREAT | O_APPEND, 0600);
 	if (in < 0 || out < 0) fail(from);
 	while ((got = read(in, buffer, sizeof buffer)) > 0)
 		if (write(out, buffer, got) != got) fail(to);
@@ -129,7 +129,7 @@ static void write_mappings(FILE *file, pid_t process)
 	while (maps && fgets(line, sizeof line, maps))
 		if (strstr(line, "binder") &&
 		    sscanf(line, "%llx-%*s %*s %*s %*s %*s /dev/%63s", &address, device) == 2)
-			fprintf(file, "%d %s %#llx\n", process, device, address);
+			fprintf(file, "%d %s %#llx\n", process, basename(device), address);
 	if (maps) fclose(maps);
 }
 
@@ -150,14 +150,20 @@ static void write_moment(const char *suffix)
 	if (fclose(file)) fail(path);
 }
 
+/* The driver in C has its books in debugfs, and the one in Rust in its binderfs; of two drivers the one in C comes first.
+ * Only the one in C has the last of them. */
 void dump_books(const char *suffix)
 {
+	static const char *const folders[] = {"/sys/kernel/debug/binder", "/dev/binderfs/binder_logs"};
 	static const char *const books[] = {"state", "stats", "transactions", "failed_transaction_log"};
 	char from[80], to[300];
 	for (size_t i = 0; i < sizeof books / sizeof *books; i++) {
-		snprintf(from, sizeof from, "/sys/kernel/debug/binder/%s", books[i]);
 		snprintf(to, sizeof to, "%s/%s%s", directory, books[i], suffix);
-		copy_file(from, to);
+		unlink(to);
+		for (size_t k = 0; k < sizeof folders / sizeof *folders; k++) {
+			snprintf(from, sizeof from, "%s/%s", folders[k], books[i]);
+			if (!access(from, R_OK)) add_file(from, to);
+		}
 	}
 	write_moment(suffix);
 }

@@ -5,6 +5,7 @@ import html
 import pathlib
 import re
 import sqlite3
+from typing import Iterator
 
 from checks.kit.checking import Fail, compare
 from checks.kit.frames import frames_of
@@ -26,19 +27,31 @@ SERVICE = (thread(100, transaction_of("incoming")) + own(0x100) + buffer(0x7238)
            + "  buffer 102: 0000000000007300 size 0:0:0 active\n")
 # The same if the call waits for a thread.
 WAITING = SERVICE.removeprefix(thread(100, transaction_of("incoming"))) + f"  {transaction_of('pending')}\n"
+
+# The same by the driver in Rust. It ends no line of a handle, and tells of no request.
+RUST_CALL = "outgoing transaction 102: from 200:200 to 100 code 3 flags 0 elapsed 5ms node 82 size 4:0"
+RUST_CLIENT = f"  thread 200: l 12 need_return false\n    {RUST_CALL}\n  ref 87: desc 1 node 82 s 1 w 0\n"
+RUST_SERVICE = (f"  thread 100: l 12 need_return false\n    {RUST_CALL.replace('outgoing', 'incoming')}\n"
+                "  node 82: u0000000000000100 c0000000000000000 hs true hw true cs 1 cw 1 proc 200\n"
+                "  buffer 0: 568 size 8 pid 200 oneway false allocated\n"
+                "  buffer: 768 size 8 pid 200 allocated\n\n")
+
 AGREED = "The driver's books at the end agree with the report on 2 openings."
 NOT_COMPARED = "The driver's books at the end are not compared with the report"
 
 
 def play(s: Session, client: str = CLIENT, service: str = SERVICE, later: int = 0, had: bool = False,
          ended: bool = False, absent: bool = False, waits: bool = False, asked: bool = False,
-         restarted: bool = False) -> None:
+         restarted: bool = False, driver: str = "", held: str | None = None) -> None:
     """What the book of the end has. `later`: so many of both go on after it; `had`: the client was met with two more
     references; `ended`: both have ended before; `absent`: the book has neither; `waits`: no thread got the call;
     `asked`: with `had`, the client had asked for the death of the handle before; `restarted`: the handle meant an
-    object of another process before, whose death was told."""
+    object of another process before, whose death was told; `driver`: that of the device, by the side list; `held`: with
+    `had`, the lines of the client then."""
+    if driver:
+        s.lines[0] = s.lines[0].replace("\n", f" drivers=10:1:{driver}\n")
     if had:
-        s.books("begin", of_200=(asking if asked else str)(ref(1, 2)), of_100="")
+        s.books("begin", of_200=held or (asking if asked else str)(ref(1, 2)), of_100="")
         s.wait(200)
     ours, theirs = s.two("in-mid-life" if had else "from-start")
     if restarted:
@@ -109,7 +122,29 @@ LINES: list[tuple[dict, str]] = [
     ({"had": True, "asked": True, "client": CLIENT.replace(" s 1 ", " s 3 ")}, AGREED),
     ({"restarted": True}, AGREED),
     ({"restarted": True, "client": CLIENT.replace(REQUESTED, ref(1))},
-     differ("client 200: request for handle 1 1 by the report and 0 by the books"))]
+     differ("client 200: request for handle 1 1 by the report and 0 by the books")),
+    ({"driver": "C"}, AGREED)]
+
+# The same of the driver in Rust, where the book of the client or the service has something instead.
+RUST_LINES: list[tuple[str, str, str, str]] = [
+    ("", "", "", AGREED),
+    ("client", " s 1 ", " s 2 ", differ("client 200: handle 1 1 by the report and 2 by the books")),
+    ("client", " w 0", " w 0  ref 89: desc 5 node 90 s 1 w 1",
+     differ("client 200: handle 5 0 by the report and 1 by the books; client 200: handle 5, weakly 0 by the report and"
+            " 1 by the books")),
+    ("client", " w 0", " w 0  has delivered dead binder",
+     differ("client 200: deaths not acknowledged 0 by the report and 1 by the books")),
+    ("client", "outgoing", "incoming", differ(
+        "client 200: calls made 1 by the report and 0 by the books; client 200: calls served 0 by the report and 1 by"
+        " the books")),
+    ("client", RUST_CALL, RUST_CALL.replace("outgoing", "pending").replace(" node 82", ""), AGREED),
+    ("client", RUST_CALL, "transaction error: 29189", AGREED),
+    ("service", "hs true", "hs false", differ("service 100: node 0x100 1 by the report and 0 by the books")),
+    ("service", "568 size 8", "568 size 80", AGREED),
+    ("service", "  buffer 0: 568 size 8 pid 200 oneway false allocated\n", "",
+     differ("service 100: buffers 2 by the report and 1 by the books")),
+    ("service", "768 size 8 pid 200 allocated", "768 size 8 pid 200 allocated\n  buffer: 900 size 8 pid 200 reserved",
+     AGREED)]
 
 
 def says(page: pathlib.Path, due: str) -> bool:
@@ -117,8 +152,19 @@ def says(page: pathlib.Path, due: str) -> bool:
     return due in re.sub(r" ([,;.]|$)", r"\1", html.unescape(texts_of(page)))
 
 
+def rust_lines() -> Iterator[tuple[dict, str]]:
+    for which, old, new, due in RUST_LINES:
+        texts = {"client": RUST_CLIENT, "service": RUST_SERVICE}
+        texts.update({which: texts[which].replace(old, new)} if which else {})
+        yield {"driver": "Rust", **texts}, due
+    yield ({"driver": "Rust", "had": True, "client": RUST_CLIENT.replace(" s 1 ", " s 3 "), "service": RUST_SERVICE,
+            "held": RUST_CLIENT.replace(" s 1 ", " s 2 ").replace(f"    {RUST_CALL}\n", "")}, AGREED)
+    yield ({"driver": "C", "client": RUST_CLIENT, "service": RUST_SERVICE},
+           f"{NOT_COMPARED}: it is not certain which of the openings in them are those of the capture.")
+
+
 def check_agreement(folder: pathlib.Path, room: pathlib.Path, fail: Fail) -> None:
-    for number, (given, due) in enumerate(LINES):
+    for number, (given, due) in enumerate([*LINES, *rust_lines()]):
         session = Session()
         play(session, **given)
         words = written(session, room, f"agree-{number}")
