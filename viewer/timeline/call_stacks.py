@@ -3,7 +3,7 @@
 import sqlite3
 
 from viewer.timeline.interned import Interned
-from viewer.timeline.wire import message, number
+from viewer.timeline.wire import number
 
 # Fields of InternedData, and of what is in its lists after the number of each.
 FUNCTION_NAMES, FRAMES, CALLSTACKS, BUILD_IDS, MAPPING_PATHS, MAPPINGS = 5, 6, 7, 16, 17, 19
