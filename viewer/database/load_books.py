@@ -140,9 +140,10 @@ def load_state(database: sqlite3.Connection, copy: Copy, text: str) -> None:
               one.opening.node_numbers.items()}
     threads = {(upid, tid): utid for upid, tid, utid in database.execute("SELECT upid, tid, utid FROM thread")}
     for upid, opening in found:
-        database.execute("INSERT INTO book_opening VALUES (?, ?, ?, ?, ?)",
+        database.execute("INSERT INTO book_opening VALUES (?, ?, ?, ?, ?, ?, ?)",
                          (moment, upid, is_quiet(database, copy, upid), opening.deaths > 0,
-                          opening.clears + opening.cleared_and_dead))
+                          opening.clears + opening.cleared_and_dead, opening.freezes > 0,
+                          opening.freeze_clears))
         database.executemany("INSERT OR REPLACE INTO book_handle VALUES (?, ?, ?, ?, ?, ?, ?, ?, ?, ?)", (
             (moment, upid, handle, ref.strong, ref.weak, ref.is_dead, handle in opening.requests,
              *owners.get(ref.node, (None, None, None))) for handle, ref in opening.refs.items()))
