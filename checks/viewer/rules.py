@@ -26,7 +26,8 @@ from checks.kit.programs import CHECKS, DRIVER, LISTING, ROOT
 from checks.kit.second_reading import reading
 from checks.viewer.edits import Edit, edited, edits_of
 from checks.viewer.heads import faults_of_heads
-from checks.viewer.sessions import book_cases, late_cases, name_cases, stack_cases, state_cases  # noqa: F401
+from checks.viewer.sessions import (book_cases, freeze_cases, late_cases, name_cases, stack_cases,  # noqa: F401
+                                     state_cases)
 from checks.viewer.sessions.cases import CASES, Case
 from checks.viewer.sessions.session import Session
 from viewer.database import loading, raw_tables

@@ -19,7 +19,8 @@ What must hold, for stored captures with and without a side list, of one device 
 - Flows are the certain pairs of the database, no others. Each goes from the slice of its send to that of its delivery.
 - The counters end with what the process holds by the database, and reach the most that it held. Those of calls and of
   busy threads are at each time as many as there are slices.
-- There is an instant for each death, error, warning of spam, lost frame, end, and finding that is not normal.
+- There is an instant for each death, freeze notification, error, warning of spam, lost frame and end, and for each
+  finding that is not normal.
 - Two processes of one number on two devices have two tracks.
 - With `boottime=` in the side list all times are on that clock.
 - A narrowed timeline has the slices of its thread, process and frames, and the counters of the whole one.
@@ -172,6 +173,7 @@ SLICES = {
               " SELECT place FROM delivery WHERE oneway"}
 INSTANTS = {
     "death": "SELECT place FROM record WHERE kind = 'BR_DEAD_BINDER'",
+    "freeze": "SELECT place FROM record WHERE kind = 'BR_FROZEN_BINDER'",
     "error": "SELECT place FROM record WHERE kind IN"
              " ('BR_ERROR', 'BR_DEAD_REPLY', 'BR_FAILED_REPLY', 'BR_FROZEN_REPLY')",
     "spam": "SELECT place FROM record WHERE kind = 'BR_ONEWAY_SPAM_SUSPECT'",

@@ -365,6 +365,9 @@ class Timeline:
             self.refer(thread.process, handle, name == "BC_ACQUIRE")
         elif name == "BR_DEAD_BINDER":
             self.instant(utid, "death", name, f'"place":{place},"cookie":{hexadecimal(cookie)}')
+        elif name == "BR_FROZEN_BINDER":
+            self.instant(utid, "freeze", name,
+                         f'"place":{place},"cookie":{hexadecimal(cookie)},"is_frozen":{value}')
         elif name == "BR_ONEWAY_SPAM_SUSPECT":
             self.instant(utid, "spam", name, f'"place":{place}')
         else:
