@@ -24,13 +24,17 @@ FROM finding f JOIN freeze_record r USING (place) WHERE f.section = 'freezes' AN
 CREATE UNIQUE INDEX temp.freeze_news_of ON freeze_news(id);
 DELETE FROM freeze_news WHERE coalesce((SELECT last.ts FROM last) - (SELECT x.ts FROM raw_record r
   JOIN side_time x USING (seq) WHERE r.place = freeze_news.place) <= :LONG, 1);
+-- A process that had taken its request back would not have been told.
+DELETE FROM freeze_news WHERE EXISTS (SELECT 1 FROM finding f JOIN freeze_record c USING (upid, cookie)
+  WHERE f.id = freeze_news.id AND c.kind = :BC_CLEAR_FREEZE_NOTIFICATION
+    AND c.place BETWEEN f.place AND freeze_news.place);
 UPDATE finding SET rule = CASE WHEN later = 0 AND finding.id IN (SELECT id FROM ended)
     OR finding.id IN (SELECT id FROM leaving) THEN 'T1'
   WHEN finding.upid IN (SELECT upid FROM lossy) THEN 'M1'
   WHEN later > 1 AND finding.id IN (SELECT id FROM freeze_news) THEN 'D7' WHEN later > 1 THEN 'U4'
   WHEN finding.id IN (SELECT id FROM old) THEN 'U5' ELSE 'U6' END
 WHERE rule IS NULL AND section IN ('freezes', 'freeze_clears') AND what <> 'stray';
-UPDATE finding SET note = 'it was told at ' || n.place FROM freeze_news n WHERE rule = 'D7' AND n.id = finding.id;
+UPDATE finding SET note = 'another was told at ' || n.place FROM freeze_news n WHERE rule = 'D7' AND n.id = finding.id;
 -- What answers nothing. The driver's books say that notifications wait for acknowledgement, and not how many.
 CREATE TEMP TABLE begun_freeze AS
 SELECT f.id, b.quiet, iif(f.section = 'freezes', o.freezes,

@@ -45,8 +45,9 @@ class Claim(NamedTuple):
 
 def claims(report: str) -> Iterator[Claim]:
     frames, records, opaque, missing = head_of(report, "frames")
-    yield Claim("totals", "SELECT frames, records, (SELECT count(*) FROM record WHERE kind IN"
-                f" {('OPAQUE', *NEWER.values())}), missing FROM raw_capture", [(frames, records, opaque, signed(missing))])
+    named = ("OPAQUE", *NEWER.values())
+    yield Claim("totals", f"SELECT frames, records, (SELECT count(*) FROM record WHERE kind IN {named}), missing"
+                " FROM raw_capture", [(frames, records, opaque, signed(missing))])
     yield Claim("codes", "SELECT kind, count(*) FROM record WHERE kind <> 'OPAQUE' GROUP BY 1 ORDER BY 1",
                 sorted((NEWER.get(int(word, 16), name), int(count)) for word, name, count in rows_of(report, "codes")
                        if name != "OPAQUE" or int(word, 16) in NEWER))

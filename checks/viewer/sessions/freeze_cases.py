@@ -76,7 +76,8 @@ def freeze_not_acknowledged(s, then, wait=200, ends=False, lost=False):
     waits(s, client, wait, ends)
 
 
-@case("D7:1", "it was told at")
+@case("D7:1", "another was told at")
+@case("D3:1 U4:1", cleared=True)
 @case("U4:1", has_side=False)
 @case("U4:1", told=1)
 @case("U4:1", wait=50)
@@ -86,9 +87,9 @@ def freeze_not_acknowledged(s, then, wait=200, ends=False, lost=False):
 @case("M1:1", lost=True)
 @case("T1:1", wait=0, ends=60)
 @case("D7:1", wait=0, ends=150)
-def others_are_told(s, told=0, then=2, wait=150, before=False, of_another=False, lost=False, ends=0):
+def others_are_told(s, told=0, then=2, wait=150, before=False, of_another=False, lost=False, ends=0, cleared=False):
     """Another process is told that the service was thawed: of another object of it, by a notification after the one
-    that is not acknowledged, or before. Or what was thawed is another process."""
+    that is not acknowledged, or before. Or what was thawed is another process, or the request was taken back."""
     service, client = watching(s)
     thawed = s.process(400, "another") if of_another else service
     other = s.process(300, "other")
@@ -101,6 +102,8 @@ def others_are_told(s, told=0, then=2, wait=150, before=False, of_another=False,
     if before:
         other.main.reads(frozen(0xE, told))
     client.main.reads(frozen(0xF, 1))
+    if cleared:
+        clears(client.main)
     goes_on(client.main, then)
     if not before:
         other.main.reads(frozen(0xE, told))
