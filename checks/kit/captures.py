@@ -64,8 +64,13 @@ def node(code, ptr, cookie):
 
 
 def watch(code, handle, cookie):
-    """A request for a death notification, or its clear."""
+    """A request for a death or a freeze notification, or its clear."""
     return record(code, u32(handle), u64(cookie))
+
+
+def frozen(cookie, is_frozen):
+    """A freeze notification."""
+    return record(BR_FROZEN_BINDER, u64(cookie), u32(is_frozen), u32(0))
 
 
 def entry(offset, body, listed):
@@ -122,6 +127,12 @@ RETURNS = (
     0x8008720F, 0x80087210, 0x00007211, 0x00007212,
     0x00007213, 0x00007214,
 )
+
+# Freeze notifications, which are opaque to the auditor.
+FREEZES = (
+    BC_REQUEST_FREEZE_NOTIFICATION, BC_CLEAR_FREEZE_NOTIFICATION, BC_FREEZE_NOTIFICATION_DONE,
+    BR_FROZEN_BINDER, BR_CLEAR_FREEZE_NOTIFICATION_DONE,
+) = 0x400C6313, 0x400C6314, 0x40086315, 0x80107215, 0x80087216
 
 SORTS = BINDER, WEAK_BINDER, HANDLE, WEAK_HANDLE, FD, FDA, PTR = (
     u32(0x73622A85) + bytes(20), u32(0x77622A85) + bytes(20),

@@ -68,6 +68,15 @@ RETURNS = {
     20: {0: "BR_TRANSACTION_PENDING_FROZEN"},
 }
 
+# What opaque records are that a newer header lists, by their code words. In the report they are `OPAQUE`.
+NEWER = {
+    0x400C6313: "BC_REQUEST_FREEZE_NOTIFICATION",
+    0x400C6314: "BC_CLEAR_FREEZE_NOTIFICATION",
+    0x40086315: "BC_FREEZE_NOTIFICATION_DONE",
+    0x80107215: "BR_FROZEN_BINDER",
+    0x80087216: "BR_CLEAR_FREEZE_NOTIFICATION_DONE",
+}
+
 # For each direction: the letter of the codes, their direction bits if there is a payload, their table.
 WRITE, READ = 1, 2
 DIRECTIONS = {WRITE: (ord("c"), 1, COMMANDS), READ: (ord("r"), 2, RETURNS)}

@@ -5,6 +5,10 @@ when an object is sent, and free once the process has neither taken a reference 
 oneway transactions of a node come in order, the next one once the buffer of the last one is freed. A call goes to an
 idle thread, or to the one that waits further down. Texts, codes and sizes are few, so that much is alike.
 
+A process may ask, by a handle, to be told when the process of the object is frozen or thawed. It is told of one change
+after another, each once it has acknowledged the one before. It may never do that; then it keeps its request until it
+lets go of the handle. A frozen process goes on here.
+
 A write gets its sequence before the driver works on it, a read when it returns; meanwhile others go on. So the order of
 the sequences is not that of the driver.
 """
@@ -17,7 +21,7 @@ from checks.kit.captures import *
 
 ONE_WAY = 1
 TEXTS = b"", b"tick", b"ping"
-ACTS = "find", "call", "listen", "make", "oneway", "give", "drop", "tick"
+ACTS = "find", "call", "listen", "make", "oneway", "give", "drop", "tick", "watch"
 
 
 class Sent:
@@ -40,11 +44,28 @@ class Node:
         self.references, self.announced, self.busy, self.waiting = 0, False, False, deque()
 
 
+class Freeze:
+    """A request for freeze notifications: the state that is told next, and what the driver has to tell. `told` is the
+    notification that waits to be acknowledged; `again`, that there is more to tell then."""
+
+    def __init__(self, cookie, frozen):
+        self.cookie, self.frozen = cookie, frozen
+        self.told, self.again, self.cleared, self.ignored = None, False, False, False
+
+
+class Notification:
+    """A freeze notification that was told to a process."""
+
+    def __init__(self):
+        self.acknowledged = False
+
+
 class Reference:
-    """What a process has of a node by a handle: how often it took it, and how many buffers have it."""
+    """What a process has of a node by a handle: how often it took it, how many buffers have it, and its request for
+    freeze notifications."""
 
     def __init__(self, node):
-        self.node, self.taken, self.held = node, 0, 0
+        self.node, self.taken, self.held, self.freeze = node, 0, 0, None
 
 
 class Buffer:
@@ -57,6 +78,7 @@ class Process:
         self.world, self.number = world, number
         self.handles, self.buffers, self.todo, self.threads, self.nodes = {}, {}, deque(), [], []
         self.listeners, self.in_use, self.leaving, self.dead = [], Counter(), set(), False
+        self.frozen, self.told = False, []
 
     def thread(self, looper):
         made = Thread(self, self.number + len(self.threads), looper)
@@ -82,7 +104,15 @@ class Process:
         reference = self.handles[handle]
         if handle and not reference.taken and not reference.held:
             del self.handles[handle]
+            self.forget(reference.freeze)
             reference.node.references -= 1
+
+    def forget(self, freeze):
+        """A request for freeze notifications goes with its reference, and what was told by it."""
+        if ("freeze", freeze) in self.todo:
+            self.todo.remove(("freeze", freeze))
+        if freeze in self.told:
+            self.told.remove(freeze)
 
     def take_buffer(self, sent, handles):
         address = next(a for a in range(0x7000, 0x7000_0000, 0x1000) if a not in self.buffers)
@@ -103,6 +133,7 @@ class Thread:
     def __init__(self, process, number, looper):
         self.process, self.number, self.looper = process, number, looper
         self.todo, self.stack, self.wake, self.blocked, self.given = deque(), [], 0, False, []
+        self.writing = ()
         self.life: Iterator | None = None
 
     @property
@@ -243,6 +274,51 @@ class World:
             reference.taken += by
             process.drop_if_empty(handle)
 
+    # -- freeze notifications
+
+    def watch(self, process, handle, cookie):
+        reference = process.handles[handle]
+        reference.freeze = Freeze(cookie, reference.node.owner.frozen)
+        process.todo.append(("freeze", reference.freeze))
+
+    def freeze(self, target, frozen):
+        """A process is frozen or thawed: all are told that asked for it."""
+        target.frozen = frozen
+        for process in self.processes:
+            for reference in process.handles.values():
+                freeze = reference.freeze
+                if process.dead or reference.node.owner is not target or freeze is None:
+                    continue
+                if freeze.told is not None:
+                    freeze.again |= freeze.frozen != frozen
+                elif ("freeze", freeze) not in process.todo:
+                    process.todo.append(("freeze", freeze))
+                freeze.frozen = frozen
+
+    def tell(self, process, freeze):
+        """What is read of a request: the state, or that the request is cleared."""
+        if freeze.cleared:
+            return record(BR_CLEAR_FREEZE_NOTIFICATION_DONE, u64(freeze.cookie))
+        freeze.told = Notification()
+        process.told.append(freeze)
+        return frozen(freeze.cookie, int(freeze.frozen))
+
+    def acknowledge(self, process, cookie):
+        freeze = next(it for it in process.told if it.cookie == cookie)
+        process.told.remove(freeze)
+        freeze.told.acknowledged, freeze.told = True, None
+        if freeze.again:
+            freeze.again = False
+            process.todo.append(("freeze", freeze))
+
+    def clear(self, process, handle):
+        freeze, process.handles[handle].freeze = process.handles[handle].freeze, None
+        freeze.cleared = True
+        if freeze.told is not None:
+            freeze.again = True
+        elif ("freeze", freeze) not in process.todo:
+            process.todo.append(("freeze", freeze))
+
     # -- frames
 
     def note(self, direction, thread, records, marks=(), entries=()):
@@ -254,11 +330,17 @@ class World:
         self.frames.append(made)
         return made
 
-    def play(self, frames, now_and_then):
-        """Goes on until there are this many frames, or nothing happens any more. At some steps, about one in 500, it
-        also calls a function."""
+    def play(self, frames, now_and_then, share=0.2):
+        """Goes on until there are this many frames, or nothing happens any more. At some steps, about one in 500 if the
+        share is 0.2, it also calls a function. In the end the driver has done all that is in frames."""
+        self.play_on(frames, now_and_then, share)
+        for thread in self.threads:
+            for _, _, act in thread.writing if not thread.process.dead else ():
+                act()
+
+    def play_on(self, frames, now_and_then, share):
         while len(self.frames) < frames:
-            if self.often(0.2):
+            if self.often(share):
                 now_and_then()
             ready = [it for it in self.threads
                      if not it.process.dead and it.wake <= self.time and (not it.blocked or it.has_work())]
@@ -315,16 +397,18 @@ class Actor:
                                                 for kind, what in sent.objects)
                     entries.append((at, body, offsets(*range(len(sent.text), len(body), 24))))
             self.world.note(1, self.thread, records, marks, entries)
+            self.thread.writing = commands
             yield self.pause(0, 2 if self.world.often(90) else 20)
             for _, _, act in commands:
                 act()
+            self.thread.writing = ()
         if not wait and not self.thread.todo:
             return None
         self.thread.blocked = True
         while not self.thread.has_work():
             yield 0
         self.thread.blocked = False
-        got, records = None, [record(BR_NOOP), *self.thread.given]
+        got, records, marks = None, [record(BR_NOOP), *self.thread.given], []
         self.thread.given = []
         while got is None and (self.thread.todo or wait and len(records) == 1 and self.thread.has_work()):
             work = (self.thread.todo or self.process.todo).popleft()
@@ -333,17 +417,29 @@ class Actor:
             elif work[0] == "failed":
                 got = work
                 records.append(record(BR_DEAD_REPLY))
+            elif work[0] == "freeze":
+                records.append(self.world.tell(self.process, work[1]))
+                if not work[1].cleared:
+                    marks.append((len(records) - 1, "told", work[1].told))
+                    self.owe_acknowledgement(work[1])
             else:
                 records += work[1]
         if isinstance(got, Delivery):
-            yield from self.taken(got, records)
+            yield from self.taken(got, records, marks)
         else:
             if got is not None:
                 self.thread.stack.remove(("made", got[1]))
             yield self.pause(0, 1)
-            self.world.note(2, self.thread, records)
+            self.world.note(2, self.thread, records, marks)
             self.answer_nodes(records)
         return got
+
+    def owe_acknowledgement(self, freeze):
+        """It is owed at once, but for what the process never acknowledges."""
+        freeze.ignored = self.world.often(self.habits.ignores)
+        if not freeze.ignored:
+            self.owed.append((record(BC_FREEZE_NOTIFICATION_DONE, u64(freeze.cookie)), None,
+                              lambda: self.world.acknowledge(self.process, freeze.cookie)))
 
     def answer_nodes(self, records):
         for text in records:
@@ -352,7 +448,7 @@ class Actor:
             elif text[:4] == u32(BR_ACQUIRE):
                 self.owed.append((u32(BC_ACQUIRE_DONE) + text[4:], None, lambda: None))
 
-    def taken(self, got, records):
+    def taken(self, got, records, marks):
         """A delivery is taken out of the driver, and some time later the call returns."""
         sent = got.sent
         if sent.caller is not None:
@@ -367,7 +463,7 @@ class Actor:
                                (len(got.body), len(got.listed)), got.address)
         records.append(made)
         yield self.pause(0, 1) if self.world.often(95) else self.pause(2, 12)
-        self.world.note(2, self.thread, records, [(len(records) - 1, "came", sent)],
+        self.world.note(2, self.thread, records, [*marks, (len(records) - 1, "came", sent)],
                         [(len(records) - 1, got.body, got.listed)])
         self.answer_nodes(records)
 
@@ -504,14 +600,38 @@ class Actor:
             else:
                 yield from self.full_call(draw.choice(known), 6, text, [given])
         elif what == "drop":
-            unused = [handle for handle in known if not self.process.in_use[handle]]
+            unused = [handle for handle in known if not self.process.in_use[handle] and not self.is_watched(handle)]
             if unused:
                 yield from self.call(self.due() + [self.let_go(draw.choice(unused))], False)
+        elif what == "watch":
+            handle = draw.choice(known)
+            freeze = self.process.handles[handle].freeze
+            if not self.process.in_use[handle] and (freeze is None or not freeze.ignored):
+                yield from self.call(self.due() + [self.watch_or_clear(handle)], False)
         else:
             for _ in range(draw.randint(1, 3)):
                 known = self.known()
                 listeners = [h for h in dict.fromkeys(self.process.listeners) if h in known]
                 yield from self.oneways(listeners or known, 5, text)
+
+    def is_watched(self, handle):
+        """Whether the driver may still tell something of a handle that the process answers to."""
+        freeze = self.process.handles[handle].freeze
+        return freeze is not None and not freeze.ignored
+
+    def watch_or_clear(self, handle):
+        """Asks for freeze notifications of a handle, or takes the request back."""
+        self.process.in_use[handle] += 1
+        cookie = 0x100 * handle
+
+        def taken(act):
+            act()
+            self.process.in_use[handle] -= 1
+        if self.process.handles[handle].freeze is not None:
+            return (watch(BC_CLEAR_FREEZE_NOTIFICATION, handle, cookie), None,
+                    lambda: taken(lambda: self.world.clear(self.process, handle)))
+        return (watch(BC_REQUEST_FREEZE_NOTIFICATION, handle, cookie), None,
+                lambda: taken(lambda: self.world.watch(self.process, handle, cookie)))
 
     def oneways(self, handles, code, text, objects=()):
         """The same text to each of these handles, in one write or in several."""
@@ -541,13 +661,15 @@ class Actor:
 
 
 class Habits(NamedTuple):
-    """What a process does: how often each of ACTS, how long it rests and works, how often it calls while it serves."""
+    """What a process does: how often each of ACTS, how long it rests and works, how often it calls while it serves, and
+    of how many hundredths of the freeze notifications it acknowledges none."""
     weights: tuple
     rests: tuple = (5, 60)
     works: tuple = (0, 8)
     nests: int = 15
     registers: bool = True
     listens: bool = True
+    ignores: int = 0
 
 
 def began(world, loopers, others, habits):
@@ -562,14 +684,16 @@ def began(world, loopers, others, habits):
 
 
 class Truth(NamedTuple):
-    """Of each delivery, by its place, the place of the send that it came from; None if that is not in the capture."""
+    """Of each delivery, by its place, the place of the send that it came from; None if that is not in the capture. The
+    places of the freeze notifications that were not acknowledged."""
     capture: bytes
     sent_at: dict
+    ignored: list
 
 
 def capture_of(frames, left_out=frozenset(), first=0):
     """The capture of these frames from the first one on, without those that are left out. Sequences go on over them."""
-    text, places, came = [HEADER_2], {}, {}
+    text, places, came, told = [HEADER_2], {}, {}, {}
     at = len(HEADER_2)
     for sequence, it in enumerate(frames[first:], 1):
         if sequence in left_out:
@@ -579,8 +703,11 @@ def capture_of(frames, left_out=frozenset(), first=0):
             place = at + 32 + offset
             if what == "sent":
                 places[sent] = place
+            elif what == "told":
+                told[place] = sent
             else:
                 came[place] = sent
         text.append(made)
         at += len(made)
-    return Truth(b"".join(text), {place: places.get(sent) for place, sent in came.items()})
+    return Truth(b"".join(text), {place: places.get(sent) for place, sent in came.items()},
+                 [place for place, it in told.items() if not it.acknowledged])

@@ -4,7 +4,8 @@
 
 Each file in `stored/` beside this one must be what the command in its first line prints. For each capture of
 crates/audit_cases/data and samples/ the listing and the auditor's report must agree: in the counts by code, or in the
-line of the first fault, and in the status. A narrowed listing must be the lines of the whole listing that fit. Several
+line of the first fault, and in the status. Freeze notifications, which the report counts as opaque, have their names
+and fields. A narrowed listing must be the lines of the whole listing that fit. Several
 files are one capture, also if each capture is cut into a file for each frame. In version 2 a frame has a device. Of the
 payloads in kit/tokens.py each must have the interface and the service that it names, and no other.
 """
@@ -23,6 +24,7 @@ from checks.kit.captures import *
 from checks.kit.checking import Fail, check, compare
 from checks.kit.frames import frames_of
 from checks.kit.programs import CHECKS, DRIVER, LISTING, ROOT, SMALL
+from checks.kit.second_reading import NEWER
 from checks.kit.traffic import write_traffic
 
 STORED = CHECKS / "listing/stored"
@@ -63,10 +65,11 @@ def counts_listed(lines: list[str]) -> Counter:
 
 
 def counts_reported(lines: list[str]) -> Counter:
-    """The same from the rows of `codes`."""
+    """The same from the rows of `codes`, where records of a newer header are opaque."""
     first = next(number for number, line in enumerate(lines) if line.startswith("codes "))
     rows = [line.split() for line in lines[first + 1:first + 1 + int(lines[first].split()[1])]]
-    return Counter({(name, word if name == "OPAQUE" else ""): int(count) for word, name, count in rows})
+    named = [(word, NEWER.get(int(word, 16), name), count) for word, name, count in rows]
+    return Counter({(name, word if name == "OPAQUE" else ""): int(count) for word, name, count in named})
 
 
 def check_capture(program: pathlib.Path, capture: pathlib.Path, fail: Fail) -> None:
@@ -139,6 +142,82 @@ def without_attachments(capture: bytes) -> bytes:
     """The capture with the same records, and without attachment entries."""
     return capture[:16] + b"".join(capture[one.place:one.place + 24] + u32(0) + capture[one.place + 28:one.place + 32]
                                    + one.commands for one in frames_of(capture))
+
+
+# ---- freeze notifications
+
+
+# What each record of `freezes` says in the listing.
+FREEZE_LINES = """\
+BC_REQUEST_FREEZE_NOTIFICATION handle=7 cookie=0x70
+BC_REQUEST_FREEZE_NOTIFICATION handle=4294967295 cookie=0xffffffffffffffff
+BC_ACQUIRE handle=7
+BR_NOOP
+BR_FROZEN_BINDER cookie=0x70 is_frozen=1
+BR_FROZEN_BINDER cookie=0xffffffffffffffff is_frozen=4294967295
+BC_FREEZE_NOTIFICATION_DONE cookie=0x70
+BC_CLEAR_FREEZE_NOTIFICATION handle=7 cookie=0x70
+BR_CLEAR_FREEZE_NOTIFICATION_DONE cookie=0x70
+OPAQUE word=0x40046313
+OPAQUE word=0x40086313
+OPAQUE word=0x40106315
+OPAQUE word=0x400c6316
+OPAQUE word=0x80087215
+OPAQUE word=0x800c7216""".splitlines()
+
+# The columns of a record in the table `record`: its kind, handle, cookie and value.
+KIND, HANDLE_OF, COOKIE_OF, VALUE = 3, 4, 6, 17
+
+
+def freezes() -> bytes:
+    """Freeze notifications, and records with the same numbers and other sizes, or with other numbers."""
+    return HEADER + write(
+        1, 100, 101, watch(BC_REQUEST_FREEZE_NOTIFICATION, 7, 0x70),
+        watch(BC_REQUEST_FREEZE_NOTIFICATION, MAX_32, MAX_64), *each(BC_ACQUIRE, 7),
+    ) + read(
+        2, 100, 101, record(BR_NOOP), frozen(0x70, 1), record(BR_FROZEN_BINDER, u64(MAX_64), u32(MAX_32), u32(9)),
+    ) + write(
+        3, 100, 102, *each_long(BC_FREEZE_NOTIFICATION_DONE, 0x70), watch(BC_CLEAR_FREEZE_NOTIFICATION, 7, 0x70),
+    ) + read(
+        4, 100, 102, *each_long(BR_CLEAR_FREEZE_NOTIFICATION_DONE, 0x70),
+    ) + write(
+        5, 100, 101, *map(record, (0x40046313, 0x40086313, 0x40106315, 0x400C6316)),
+    ) + read(6, 100, 101, *map(record, (0x80087215, 0x800C7216)))
+
+
+def check_freezes(room: pathlib.Path, fail: Fail) -> None:
+    capture, folder = room / "freezes.cap", room / "tables of freezes"
+    capture.write_bytes(freezes())
+    status, lines = answer(LISTING, capture)
+    compare("freezes", (status, [line.split(" ", 5)[5] for line in lines]), (0, FREEZE_LINES), fail)
+    for words, fits in (
+            *((f"--code {name}", lambda it, name=name: it[5] == name) for name in (*NEWER.values(), "OPAQUE")),
+            *((f"--code {word:#x}", lambda it, name=name: it[5] == name) for word, name in NEWER.items()),
+            ("--code OPAQUE --code BR_FROZEN_BINDER", lambda it: it[5] in ("OPAQUE", "BR_FROZEN_BINDER")),
+            ("--handle 7", has_word("handle=7")), (f"--handle {MAX_32}", has_word(f"handle={MAX_32}")),
+            ("--cookie 0x70", has_word("cookie=0x70"))):
+        due = [line for line in lines if fits(line.split())]
+        compare(f"freezes, {words}", answer(LISTING, capture, *words.split()), (0, due), fail)
+        if not due:
+            fail(f"freezes, {words}: expected some lines, came none")
+    place = next(line.split()[0] for line in lines if "is_frozen=4294967295" in line)
+    whole = answer(LISTING, capture, "--at", place)[1]
+    compare("freezes, --at", [line.split()[1:] for line in whole[3:6]],
+            [["cookie", "0xffffffffffffffff"], ["is_frozen", "4294967295"], ["reserved", "9"]], fail)
+    columns = [line.split("\t") for line in answer(LISTING, capture, "--form", "tab")[1]]
+    compare("freezes, --form tab", [[line[0], line[6], *(it for it in line[8:] if it)] for line in columns],
+            [[it[0], it[5], *(field.split("=")[1] for field in it[6:] if not field.startswith("word="))]
+             for it in map(str.split, lines)], fail)
+    compare("freezes, is_frozen", [line[24] for line in columns if line[24]], ["1", str(MAX_32)], fail)
+    folder.mkdir()
+    compare("freezes, --tables", answer(LISTING, "--tables", folder, capture), (0, []), fail)
+    compare("freezes, record", [[row.get(at) for at in (KIND, HANDLE_OF, COOKIE_OF, VALUE)]
+                                for row in rows_of((folder / "record.rows").read_bytes())],
+            [[19, 7, 0x70, None], [19, MAX_32, MAX_64, None], [5, 7, None, None], [268, None, None, None],
+             [277, None, 0x70, 1], [277, None, MAX_64, MAX_32], [21, None, 0x70, None], [20, 7, 0x70, None],
+             [278, None, 0x70, None], *[[255, None, None, word] for word in (
+                 0x40046313, 0x40086313, 0x40106315, 0x400C6316)],
+             *[[511, None, None, word] for word in (0x80087215, 0x800C7216)]], fail)
 
 
 # ---- what is at a place, and columns
@@ -244,7 +323,7 @@ def check_names(room: pathlib.Path, what: str, payloads: list[tuple[int, int, by
     compare(f"{what}, status", (status, answer(LISTING, "--tables", folder, capture)), (0, (0, [])), fail)
     found = [interface_in(line) for line in lines]
     for kind, came, wanted in (("lines", found, due), ("tables", names_in(folder), in_tables),
-                               ("columns", [line.split("\t")[24] or None for line in columns], due),
+                               ("columns", [line.split("\t")[25] or None for line in columns], due),
                                ("services", names_in(folder, "service", 19), [None] * len(due))):
         compare(f"{what}, how many {kind}", len(came), len(wanted), fail)
         for (word, code, data), one, other in zip(payloads, came, wanted):
@@ -408,7 +487,8 @@ def check_words(fail: Fail) -> None:
 def judge(given: argparse.Namespace, room: pathlib.Path, fail: Fail) -> None:
     check_stored(fail)
     check_captures(given.programs[0], fail)
-    for part in (check_narrowed, check_forms, check_parts, check_tables, check_interfaces, check_services):
+    for part in (check_narrowed, check_freezes, check_forms, check_parts, check_tables, check_interfaces,
+                 check_services):
         part(room, fail)
     check_places(fail)
     check_side(fail)

@@ -121,7 +121,7 @@ take_programs() { # CHECKOUT
 build_programs() {
   local flags=(-O2 -Wall -Wextra -Werror) source=(
     "$scenarios"/{scenarios,raw,send,processes,service,calls,held,ends,odd,many,faults,gaps,greedy,clients,crowd}.c
-    "$scenarios"/{secret,hoard,people,before,forgetful,apart}.c)
+    "$scenarios"/{secret,hoard,people,before,forgetful,apart,frozen}.c)
   programs=$room/programs-$architecture
   mkdir -p -- "$programs"
   "$compiler" "${flags[@]}" -shared -fPIC -o "$programs/witness.so" "$scenarios/witness.c" -lpthread

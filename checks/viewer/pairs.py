@@ -34,12 +34,12 @@ CERTAIN = 90
 
 # The weights are those of simulated.ACTS.
 SCENES = {
-    "calls": Habits((3, 12, 2, 4, 1, 1, 1, 0), rests=(20, 200)),
-    "ticks": Habits((3, 2, 5, 1, 2, 0, 1, 12), rests=(20, 200)),
-    "mixed": Habits((3, 3, 2, 2, 3, 4, 3, 2), rests=(20, 200)),
-    "rushed": Habits((2, 4, 3, 2, 4, 2, 2, 5), rests=(2, 20), works=(0, 30), nests=30),
+    "calls": Habits((3, 12, 2, 4, 1, 1, 1, 0, 0), rests=(20, 200)),
+    "ticks": Habits((3, 2, 5, 1, 2, 0, 1, 12, 0), rests=(20, 200)),
+    "mixed": Habits((3, 3, 2, 2, 3, 4, 3, 2, 0), rests=(20, 200)),
+    "rushed": Habits((2, 4, 3, 2, 4, 2, 2, 5, 0), rests=(2, 20), works=(0, 30), nests=30),
 }
-MANAGER = Habits((1, 0, 0, 0, 0, 0, 0, 0), nests=0, registers=False, listens=False)
+MANAGER = Habits((1, 0, 0, 0, 0, 0, 0, 0, 0), nests=0, registers=False, listens=False)
 WAYS = "whole", "cut", "lost"
 OUTCOMES = "certain", "right", "wrong", "none", "unsent", "false"
 

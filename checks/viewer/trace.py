@@ -24,7 +24,8 @@ list, of one device and of two, in parts and malformed:
   of its delivery, even if the delivery has an earlier time, and in JSON hangs on no instant.
 - The counters end with what the process holds by the database, and reach the most that it held. Those of calls and of
   busy threads are at each time as many as there are slices.
-- There is an instant for each death, error, warning of spam, lost frame, end, and finding that is not normal.
+- There is an instant for each death, freeze notification, error, warning of spam, lost frame and end, and for each
+  finding that is not normal.
 - Two processes of one number on two devices have two tracks in JSON; in Perfetto's format they are one process, and
   their threads of one number one thread, but not if the first one had ended.
 - With `boottime=` in the side list all times of JSON are on that clock, also after a sleep; Perfetto's format says what

@@ -75,6 +75,7 @@ class Opening:
         self.errors: Counter[int] = Counter()
         self.calls: Counter[int] = Counter()
         self.deaths = self.clears = self.cleared_and_dead = 0
+        self.freezes = self.freeze_clears = 0
         self.completions = 0
 
     @property
@@ -121,6 +122,10 @@ class Opening:
             self.clears += 1
         elif word == "has cleared dead binder":
             self.cleared_and_dead += 1
+        elif word == "has delivered freeze binder":
+            self.freezes += 1
+        elif word == "has cleared freeze notification":
+            self.freeze_clears += 1
         elif word == "transaction complete":
             self.completions += 1
 

@@ -4,8 +4,8 @@
 -- Since version 5, command and uid of process, the names that begin with book, disagreement, side_call, side_unstacked,
 -- stack, finding_stack, service and node_service are, and the column service of record.
 -- Since version 7, program, call_text, defect, finding_defect, talk, book_process, book_open, book_stats, and the columns
--- fault of rule, culprit of finding, and driver of device and of book_opening are new; what the driver in Rust does not
--- tell is NULL.
+-- fault of rule, culprit of finding, driver of device and of book_opening, and those of freeze notifications in
+-- book_opening are new; the notifications have their names in record; what the driver in Rust does not tell is NULL.
 -- needs: nothing
 -- makes: tables: raw_capture, raw_process, raw_thread, raw_frame, raw_record, raw_interface, raw_service, raw_object,
 --   raw_call, raw_generation, raw_send, raw_delivery, raw_level, side_device, side_process, side_thread, side_time,
@@ -29,7 +29,7 @@ PRAGMA user_version = 7;
 -- malformed capture ends at its first fault.
 
 -- The capture, in one row.
---   layout                3
+--   layout                4
 --   parts                 the number of files
 --   bytes                 the length of the joined capture; of a malformed one, the place of its fault in that
 --   frames, records       the numbers of rows of raw_frame and raw_record
@@ -68,19 +68,19 @@ CREATE TABLE raw_frame(seq INTEGER PRIMARY KEY, place INTEGER NOT NULL, utid INT
 -- A row for each record, opaque ones too. A field that the record does not have is NULL.
 --   seq, utid    of its frame
 --   kind         the number in docs/COMMANDS.md of a BC_ record, and that number plus 256 of a BR_ record; 514 of
---                BR_TRANSACTION_SEC_CTX; 255 of an opaque record in a write frame, 511 in a read frame
+--                BR_TRANSACTION_SEC_CTX; 255 of a record without a name there in a write frame, 511 in a read frame
 --   handle       the target of BC_TRANSACTION and BC_TRANSACTION_SG; the handle of BC_INCREFS, BC_ACQUIRE, BC_RELEASE,
---                BC_DECREFS, BC_ATTEMPT_ACQUIRE, BC_REQUEST_DEATH_NOTIFICATION and BC_CLEAR_DEATH_NOTIFICATION
+--                BC_DECREFS, BC_ATTEMPT_ACQUIRE, and of requests and clears of death and freeze notifications
 --   ptr          the target of BR_TRANSACTION and BR_TRANSACTION_SEC_CTX; the ptr of BR_INCREFS, BR_ACQUIRE,
 --                BR_RELEASE, BR_DECREFS, BC_INCREFS_DONE, BC_ACQUIRE_DONE and BR_ATTEMPT_ACQUIRE
---   cookie       of all that have a ptr, and of BC_REQUEST_DEATH_NOTIFICATION, BC_CLEAR_DEATH_NOTIFICATION,
---                BR_DEAD_BINDER, BC_DEAD_BINDER_DONE and BR_CLEAR_DEATH_NOTIFICATION_DONE
+--   cookie       of all that have a ptr, and of the records of death and freeze notifications
 --   address      the field buffer of the seven transactions and replies, and the address of BC_FREE_BUFFER
 --   code to offsets   fields of the seven transactions and replies; sender_pid has a sign
 --   extra        buffers_size of the two _SG forms, secctx of BR_TRANSACTION_SEC_CTX
 --   attachment   the place of the record's attachment entry; NULL without one
---   value        the code word of an opaque record. With a sign: the error of BR_ERROR, the result of BC_ACQUIRE_RESULT
---                and BR_ACQUIRE_RESULT, the priority of BC_ATTEMPT_ACQUIRE and BR_ATTEMPT_ACQUIRE
+--   value        the code word of a record without a name; is_frozen of BR_FROZEN_BINDER. With a sign: the error of
+--                BR_ERROR, the result of BC_ACQUIRE_RESULT and BR_ACQUIRE_RESULT, the priority of BC_ATTEMPT_ACQUIRE
+--                and BR_ATTEMPT_ACQUIRE
 --   interface    the id in raw_interface of the interface with which the data of a transaction begin, or of the one
 --                that is all of the data of a reply; NULL if they name none
 --   service      the id in raw_service of the name that comes after the interface android.os.IServiceManager in the
@@ -309,7 +309,8 @@ CREATE TABLE side_handle(device INTEGER, process INTEGER, handle INTEGER, PRIMAR
 CREATE TABLE book(moment TEXT NOT NULL, what TEXT NOT NULL, from_seq INTEGER NOT NULL, after INTEGER NOT NULL,
   ts INTEGER NOT NULL, PRIMARY KEY(moment, what)) STRICT;
 CREATE TABLE book_opening(moment TEXT NOT NULL, upid INTEGER NOT NULL, quiet INTEGER NOT NULL, deaths INTEGER NOT NULL,
-  clears INTEGER NOT NULL, driver TEXT NOT NULL, PRIMARY KEY(moment, upid)) STRICT;
+  clears INTEGER NOT NULL, freezes INTEGER NOT NULL, freeze_clears INTEGER NOT NULL, driver TEXT NOT NULL,
+  PRIMARY KEY(moment, upid)) STRICT;
 CREATE TABLE book_handle(moment TEXT NOT NULL, upid INTEGER NOT NULL, handle INTEGER NOT NULL, strong INTEGER NOT NULL,
   weak INTEGER NOT NULL, dead INTEGER NOT NULL, requested INTEGER, node_upid INTEGER, ptr INTEGER,
   cookie INTEGER, PRIMARY KEY(moment, upid, handle)) STRICT;

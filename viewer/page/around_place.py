@@ -20,7 +20,8 @@ class Line(NamedTuple):
 
 
 def fields_of(names: Names, kind: str, handle: int | None, code: int | None, size: int | None, address: int | None,
-              cookie: int | None, interface: int | None, to: int | None, ptr: int | None) -> str:
+              cookie: int | None, value: int | None, interface: int | None, to: int | None,
+              ptr: int | None) -> str:
     is_call = code is not None and not kind.endswith("_REPLY")
     told = [kind]
     told += [f"{name}={value}" for name, value in (("handle", handle), ("code", code if is_call else None))
@@ -29,11 +30,12 @@ def fields_of(names: Names, kind: str, handle: int | None, code: int | None, siz
     told += [f"service={names.services[to, ptr]}"] if (to, ptr) in names.services else []
     told += [f"data_size={size}"] if size is not None else []
     told += [f"{name}=0x{value % 2**64:x}" for name, value in (("address", address), ("cookie", cookie)) if value]
+    told += [f"is_frozen={value}"] if kind == "BR_FROZEN_BINDER" else []
     return " ".join(told)
 
 
 # The last two say to which object something is sent, or has come.
-FIELDS = ("SELECT r.place, r.seq, k.name, r.handle, r.code, r.data_size, r.address, r.cookie, r.interface,"
+FIELDS = ("SELECT r.place, r.seq, k.name, r.handle, r.code, r.data_size, r.address, r.cookie, r.value, r.interface,"
           + ",".join(f" coalesce((SELECT v.{key} FROM sent_to v WHERE v.place = r.place),"
                      f" (SELECT v.{key} FROM came_to v WHERE v.place = r.place))" for key in ("upid", "ptr")))
 WANTED = f"JOIN kind k ON k.number = r.kind WHERE k.name NOT IN {LEFT_OUT} ORDER BY r.place"

@@ -89,7 +89,7 @@ CREATE UNIQUE INDEX temp.ended_finding ON ended(id);
 -- thread had still to read of clears and nodes with the thread.
 CREATE TEMP TABLE leaving AS
 SELECT f.id FROM finding f JOIN process_life p USING (upid) LEFT JOIN life l USING (utid)
-WHERE f.section IN ('buffers', 'deaths') AND p.ended_after NOTNULL AND f.age <= :LONG
+WHERE f.section IN ('buffers', 'deaths', 'freezes', 'freeze_clears') AND p.ended_after NOTNULL AND f.age <= :LONG
   OR f.section IN ('nodes', 'clears') AND l.ended_after NOTNULL
     AND l.ended - (SELECT ts FROM side_time x WHERE x.seq = f.seq) <= :LONG;
 CREATE UNIQUE INDEX temp.leaving_finding ON leaving(id);

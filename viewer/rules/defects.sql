@@ -33,7 +33,8 @@ UPDATE rule SET fault = CASE id
 -- A process, without the number at the end of a name that differs from start to start; and its device.
 CREATE TABLE program(upid INTEGER PRIMARY KEY, program TEXT NOT NULL, device TEXT NOT NULL) STRICT;
 INSERT INTO program
-SELECT p.upid, coalesce(iif(p.begin GLOB '*[:_]', p.begin, p.name), 'a process'), coalesce(d.name, 'device ' || p.device)
+SELECT p.upid, coalesce(iif(p.begin GLOB '*[:_]', p.begin, p.name), 'a process'),
+  coalesce(d.name, 'device ' || p.device)
 FROM (SELECT upid, device, name, rtrim(name, '0123456789') AS begin FROM process) p JOIN device d USING (device);
 
 -- How a handle that is kept with others came: in replies to a call, or with calls; and which process is at the other
@@ -64,7 +65,8 @@ SELECT f.id, f.section, f.what, f.place, f.rule, f.upid AS own, coalesce(w.code,
     WHEN f.section = 'buffers' AND f.what = 'BR_REPLY' THEN 'reply to'
     WHEN f.section = 'buffers' AND (SELECT oneway FROM delivery d WHERE d.place = f.place) THEN 'oneway'
     WHEN f.section IN ('buffers', 'served', 'pools') THEN 'at'
-    WHEN f.section IN ('handles', 'requests', 'deaths', 'clears') THEN iif(f.handle IS NULL, 'cookie', 'handle')
+    WHEN f.section IN ('handles', 'requests', 'deaths', 'clears', 'freezes', 'freeze_clears')
+      THEN iif(f.handle IS NULL, 'cookie', 'handle')
     WHEN f.section = 'nodes' THEN 'node' WHEN f.section = 'frees' THEN 'address' END AS how
 FROM (SELECT *, section IN ('served', 'nodes', 'pools') OR section = 'buffers' AND what <> 'BR_REPLY'
     OR section = 'objects' AND generation IS NULL AS is_own FROM finding WHERE lead IS NULL) f

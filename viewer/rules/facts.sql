@@ -116,12 +116,12 @@ UPDATE finding SET path = CASE
     WHERE r.place = finding.place), 'oneway ', '') || call_name(code, upid, ptr) || ' at '
     || (SELECT who FROM who w WHERE w.upid = finding.upid) || printf(' node 0x%x', ptr) || service_name(upid, ptr)
   WHEN section = 'objects' THEN coalesce('a reply to ' || call_name(code, upid, ptr), 'a reply')
-  WHEN section IN ('handles', 'requests', 'deaths', 'clears') AND target IS NOT NULL
+  WHEN section IN ('handles', 'requests', 'deaths', 'clears', 'freezes', 'freeze_clears') AND target IS NOT NULL
   THEN 'handle ' || coalesce(handle, '?') || ', ' || (SELECT who FROM who WHERE upid = target)
     || printf(' node 0x%x', ptr) || object_name(target, ptr)
   WHEN section = 'handles' THEN 'handle ' || handle || object_name(-upid, handle)
-  WHEN section IN ('requests', 'deaths', 'clears') THEN coalesce('handle ' || handle || object_name(-upid, handle),
-    printf('cookie 0x%x', cookie))
+  WHEN section IN ('requests', 'deaths', 'clears', 'freezes', 'freeze_clears')
+  THEN coalesce('handle ' || handle || object_name(-upid, handle), printf('cookie 0x%x', cookie))
   WHEN section = 'nodes' THEN printf('node 0x%x', ptr) || object_name(upid, ptr)
   WHEN section = 'frees' THEN (SELECT printf('address 0x%x', address) FROM raw_record r WHERE r.place = finding.place)
   ELSE '' END;

@@ -12,10 +12,11 @@ from viewer.units import counted, defect_key, duration_of, likeness, status_name
 FOLDER = pathlib.Path(__file__).resolve().parent
 
 # The files that judge the rows of the report, in order. The first rule that fits a finding decides.
-JUDGING = ("nodes.sql", "names.sql", "facts.sql", "late.sql", "ages.sql", "waits.sql", "rule.sql", "pools.sql",
-           "calls.sql", "used_up.sql", "failures.sql", "limits.sql", "answers.sql", "strays.sql", "buffers.sql",
-           "handles.sql", "ways.sql", "held.sql", "requests.sql", "deaths.sql", "frees.sql", "objects.sql",
-           "oneway.sql", "culprits.sql", "causes.sql", "groups.sql", "defects.sql", "stacks.sql")
+JUDGING = ("nodes.sql", "names.sql", "freeze_facts.sql", "facts.sql", "late.sql", "ages.sql", "waits.sql", "rule.sql",
+           "pools.sql", "calls.sql", "used_up.sql", "failures.sql", "limits.sql", "answers.sql", "strays.sql",
+           "buffers.sql", "handles.sql", "ways.sql", "held.sql", "requests.sql", "deaths.sql", "freezes.sql",
+           "frees.sql", "objects.sql", "oneway.sql", "culprits.sql", "causes.sql", "groups.sql", "defects.sql",
+           "stacks.sql")
 
 
 def judge(database: sqlite3.Connection, folder: pathlib.Path = FOLDER) -> None:

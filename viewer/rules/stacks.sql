@@ -2,7 +2,7 @@
 -- call that wrote its record. A record that was read has no stack of its own, and what libbinder has to say of handles
 -- and buffers its threads write later, in whatever call comes next.
 -- needs: database/schema.sql: finding, raw_call, raw_delivery, raw_generation, raw_object, raw_record, raw_send,
---   raw_thread, side_call; facts.sql: dead_record
+--   raw_thread, side_call; freeze_facts.sql: freeze_record; facts.sql: dead_record
 -- makes: tables: finding_stack; temporary tables: tells
 
 CREATE TEMP TABLE tells AS
@@ -24,10 +24,13 @@ WHERE f.section <> 'handles' AND r.kind <> :BR_REPLY AND EXISTS (SELECT 1 FROM s
 -- An error reply: the send that the driver refused.
 UNION ALL SELECT f.id, 1, s.place, 'the send that was refused' FROM finding f JOIN raw_send s ON s.refused = f.place
 WHERE f.section IN ('refused', 'strays') AND EXISTS (SELECT 1 FROM side_call)
--- A death: the request for it. A node: the first send that handed it over.
+-- A death, or a freeze notification: the request for it. A node: the first send that handed it over.
 UNION ALL SELECT f.id, 1, (SELECT max(q.place) FROM dead_record q WHERE q.upid = f.upid AND q.cookie = f.cookie
   AND q.kind = :BC_REQUEST_DEATH_NOTIFICATION AND q.place < f.place), 'the request for it'
 FROM finding f WHERE f.section = 'deaths' AND EXISTS (SELECT 1 FROM side_call)
+UNION ALL SELECT f.id, 1, (SELECT max(q.place) FROM freeze_record q WHERE q.upid = f.upid AND q.cookie = f.cookie
+  AND q.kind = :BC_REQUEST_FREEZE_NOTIFICATION AND q.place < f.place), 'the request for it'
+FROM finding f WHERE f.section = 'freezes' AND EXISTS (SELECT 1 FROM side_call)
 UNION ALL SELECT f.id, 1, min(s.place), 'the first send that handed it over'
 FROM finding f JOIN raw_object o ON o.binder = f.ptr AND o.sort IN (:BINDER, :WEAK_BINDER)
   JOIN raw_send s ON s.place = o.place JOIN raw_thread t ON t.utid = s.utid AND t.upid = f.upid

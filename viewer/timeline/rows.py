@@ -40,7 +40,7 @@ SELECT r.place, :what, r.seq, x.ts, r.utid, r.kind, r.handle, r.cookie, r.value,
     (SELECT q.place FROM raw_send q WHERE q.refused = r.place), NULL)
 FROM raw_record r LEFT JOIN side_time x ON x.seq = r.seq
 WHERE r.kind IN (:BC_FREE_BUFFER, :BC_ACQUIRE, :BC_RELEASE, :BR_ERROR, :BR_DEAD_REPLY, :BR_FAILED_REPLY,
-  :BR_FROZEN_REPLY, :BR_DEAD_BINDER, :BR_ONEWAY_SPAM_SUSPECT)
+  :BR_FROZEN_REPLY, :BR_DEAD_BINDER, :BR_FROZEN_BINDER, :BR_ONEWAY_SPAM_SUSPECT)
   AND r.place >= :begin AND r.place < :end ORDER BY r.place"""}
 
 FINDINGS = """

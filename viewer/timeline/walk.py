@@ -280,6 +280,8 @@ class Walk:
             self.refer(thread.process, handle, name == "BC_ACQUIRE")
         elif name == "BR_DEAD_BINDER":
             self.instant(thread, "death", name, {"place": place, "cookie": cookie})
+        elif name == "BR_FROZEN_BINDER":
+            self.instant(thread, "freeze", name, {"place": place, "cookie": cookie, "is_frozen": value})
         elif name == "BR_ONEWAY_SPAM_SUSPECT":
             self.instant(thread, "spam", name, {"place": place})
         else:

@@ -11,6 +11,7 @@ from typing import Iterator, NamedTuple
 
 from checks.kit.checking import Fail, compare
 from checks.kit.programs import ROOT
+from checks.kit.second_reading import NEWER
 from checks.viewer.page.common import groups_due, groups_of, loaded
 from viewer.page import page
 from viewer.units import signed
@@ -44,10 +45,12 @@ class Claim(NamedTuple):
 
 def claims(report: str) -> Iterator[Claim]:
     frames, records, opaque, missing = head_of(report, "frames")
-    yield Claim("totals", "SELECT frames, records, (SELECT count(*) FROM raw_record WHERE kind IN (255, 511)), missing"
+    named = ("OPAQUE", *NEWER.values())
+    yield Claim("totals", f"SELECT frames, records, (SELECT count(*) FROM record WHERE kind IN {named}), missing"
                 " FROM raw_capture", [(frames, records, opaque, signed(missing))])
     yield Claim("codes", "SELECT kind, count(*) FROM record WHERE kind <> 'OPAQUE' GROUP BY 1 ORDER BY 1",
-                sorted((name, int(count)) for _, name, count in rows_of(report, "codes") if name != "OPAQUE"))
+                sorted((NEWER.get(int(word, 16), name), int(count)) for word, name, count in rows_of(report, "codes")
+                       if name != "OPAQUE" or int(word, 16) in NEWER))
     calls, answered, failed, _ = head_of(report, "calls")
     yield Claim("calls", "SELECT count(*), sum(verdict = 'answered'), sum(verdict = 'failed') FROM call"
                 " WHERE side = 'made' HAVING count(*)", [(calls, answered, failed)] if calls else [])

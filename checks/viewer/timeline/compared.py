@@ -16,6 +16,7 @@ SLICES = {
               " SELECT place FROM delivery WHERE oneway"}
 INSTANTS = {
     "death": "SELECT place FROM record WHERE kind = 'BR_DEAD_BINDER'",
+    "freeze": "SELECT place FROM record WHERE kind = 'BR_FROZEN_BINDER'",
     "error": "SELECT place FROM record WHERE kind IN"
              " ('BR_ERROR', 'BR_DEAD_REPLY', 'BR_FAILED_REPLY', 'BR_FROZEN_REPLY')",
     "spam": "SELECT place FROM record WHERE kind = 'BR_ONEWAY_SPAM_SUSPECT'",

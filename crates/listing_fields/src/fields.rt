@@ -1,9 +1,11 @@
 //! The fields of payloads and of objects: their names and their positions, as in
 //! `linux/android/binder.h`.
 
+use crate::freeze::{FreezeKind, freeze_line};
 use binder_code::Kind;
 use capture_frame::{u32_at, u64_at};
 use object_view::Sort;
+use record_view::Record;
 
 /// How a field is stored, and how it is shown. Without another note a field is shown in decimal.
 #[derive(Clone, Copy)]
@@ -185,6 +187,13 @@ const WATCH: [Field; 2] = fields![
     "cookie" 4 Address Listed
 ];
 
+// `binder_frozen_state_info`
+const FROZEN: [Field; 3] = fields![
+    "cookie" 0 Address Listed,
+    "is_frozen" 8 Word Listed,
+    "reserved" 12 Word Whole
+];
+
 // `binder_pri_desc`
 const ATTEMPT: [Field; 2] = fields![
     "priority" 0 Signed Listed,
@@ -200,10 +209,10 @@ const ATTEMPTED: [Field; 3] = fields![
 
 const NONE: [Field; 0] = [];
 
-/// The fields of the payload of a kind, in order. The last field of transactions and replies is
+/// The fields of the payload of a record, in order. The last field of transactions and replies is
 /// only in the longer forms.
-pub fn fields_of(kind: Kind) -> &'static [Field] {
-    match kind {
+pub fn fields_of(record: Record<'_>) -> &'static [Field] {
+    match record.kind {
         Kind::BcTransaction | Kind::BcTransactionSg => &SENT,
         Kind::BrTransaction | Kind::BrTransactionSecCtx => &GOT,
         Kind::BcReply | Kind::BcReplySg | Kind::BrReply => &REPLY,
@@ -221,7 +230,24 @@ pub fn fields_of(kind: Kind) -> &'static [Field] {
         Kind::BcRequestDeathNotification | Kind::BcClearDeathNotification => &WATCH,
         Kind::BcAttemptAcquire => &ATTEMPT,
         Kind::BrAttemptAcquire => &ATTEMPTED,
+        Kind::Opaque => freeze_fields(record),
         _ => &NONE,
+    }
+}
+
+/// The fields of the payload of an opaque record: those of a freeze notification, or none.
+fn freeze_fields(record: Record<'_>) -> &'static [Field] {
+    match freeze_line(record) {
+        Some(line) => match line.kind {
+            FreezeKind::BcRequestFreezeNotification | FreezeKind::BcClearFreezeNotification => {
+                &WATCH
+            }
+            FreezeKind::BrFrozenBinder => &FROZEN,
+            FreezeKind::BcFreezeNotificationDone | FreezeKind::BrClearFreezeNotificationDone => {
+                &COOKIE
+            }
+        },
+        None => &NONE,
     }
 }
 

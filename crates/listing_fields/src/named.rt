@@ -1,6 +1,7 @@
 //! What a record names by itself, read without the names of its fields.
 
-use binder_code::{Code, Kind};
+use crate::freeze::{FreezeKind, freeze_line};
+use binder_code::Kind;
 use capture_frame::{u32_at, u64_at};
 use record_view::Record;
 
@@ -57,15 +58,10 @@ fn reference_of(record: Record<'_>) -> Named {
             handle: word_at(bytes, 4),
             ..NOTHING
         },
-        Kind::BcRequestDeathNotification | Kind::BcClearDeathNotification => Named {
-            handle: word_at(bytes, 0),
-            cookie: long_at(bytes, 4),
-            ..NOTHING
-        },
-        Kind::BcDeadBinderDone | Kind::BrDeadBinder | Kind::BrClearDeathNotificationDone => Named {
-            cookie: long_at(bytes, 0),
-            ..NOTHING
-        },
+        Kind::BcRequestDeathNotification | Kind::BcClearDeathNotification => watch_at(bytes),
+        Kind::BcDeadBinderDone | Kind::BrDeadBinder | Kind::BrClearDeathNotificationDone => {
+            cookie_at(bytes)
+        }
         Kind::BcIncrefsDone
         | Kind::BcAcquireDone
         | Kind::BrIncrefs
@@ -73,17 +69,29 @@ fn reference_of(record: Record<'_>) -> Named {
         | Kind::BrRelease
         | Kind::BrDecrefs => node_at(bytes, 0),
         Kind::BrAttemptAcquire => node_at(bytes, 8),
+        Kind::Opaque => freeze_reference_of(record),
         _ => NOTHING,
     }
 }
 
-/// An error, a result or a priority, with its sign in 64 bits; or the code word of an opaque record.
+/// What an opaque record names, if it is one of freeze notifications.
+fn freeze_reference_of(record: Record<'_>) -> Named {
+    match freeze_line(record) {
+        Some(line) => match line.kind {
+            FreezeKind::BcRequestFreezeNotification | FreezeKind::BcClearFreezeNotification => {
+                watch_at(record.payload)
+            }
+            _ => cookie_at(record.payload),
+        },
+        None => NOTHING,
+    }
+}
+
+/// An error, a result or a priority, with its sign in 64 bits; `is_frozen` of BR_FROZEN_BINDER; or
+/// the code word of an unnamed record.
 pub fn number_of(record: Record<'_>) -> Option<u64> {
     match record.kind {
-        Kind::Opaque => {
-            let Code(word) = record.code;
-            Some(u64::from(word))
-        }
+        Kind::Opaque => opaque_number(record),
         Kind::BcAcquireResult
         | Kind::BrAcquireResult
         | Kind::BrError
@@ -93,6 +101,33 @@ pub fn number_of(record: Record<'_>) -> Option<u64> {
             Some(i64::from(word.cast_signed()).cast_unsigned())
         }
         _ => None,
+    }
+}
+
+fn opaque_number(record: Record<'_>) -> Option<u64> {
+    match freeze_line(record) {
+        Some(line) => match line.kind {
+            FreezeKind::BrFrozenBinder => word_at(record.payload, 8).map(u64::from),
+            _ => None,
+        },
+        None => Some(u64::from(record.code.0)),
+    }
+}
+
+/// The handle and the cookie that are watched.
+fn watch_at(bytes: &[u8]) -> Named {
+    Named {
+        handle: word_at(bytes, 0),
+        cookie: long_at(bytes, 4),
+        ..NOTHING
+    }
+}
+
+/// The cookie that begins the bytes.
+fn cookie_at(bytes: &[u8]) -> Named {
+    Named {
+        cookie: long_at(bytes, 0),
+        ..NOTHING
     }
 }
 

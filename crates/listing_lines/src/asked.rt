@@ -1,7 +1,9 @@
 //! What is asked for: which frames and records are listed, and in which form.
 
 use capture_frame::Frame;
-use listing_fields::{Item, direction_number, fields_of, has_field, has_named, interface_of};
+use listing_fields::{
+    Item, direction_number, fields_of, has_field, has_named, interface_of, is_unnamed,
+};
 use record_view::Record;
 use transaction_view::Transaction;
 
@@ -17,8 +19,8 @@ pub enum Narrowing {
     To,
     /// The direction of a frame: 1 a write, 2 a read.
     Direction,
-    /// A kind of records, by its number in `Kind`.
-    Kind,
+    /// Records without a name; the number says nothing.
+    Unnamed,
     /// A code word.
     Word,
     /// A handle that the record names: its target, a handle that is counted or watched, or a handle
@@ -145,12 +147,12 @@ impl Asked {
     fn has_code(&self, record: Record<'_>) -> bool {
         let mut asked = false;
         for word in &self.words {
-            let number = match word.narrowing {
-                Narrowing::Kind => record.kind as u64,
-                Narrowing::Word => u64::from(record.code.0),
+            let fits = match word.narrowing {
+                Narrowing::Unnamed => is_unnamed(record),
+                Narrowing::Word => word.number == u64::from(record.code.0),
                 _ => continue,
             };
-            if word.number == number {
+            if fits {
                 return true;
             }
             asked = true;
@@ -231,7 +233,7 @@ impl Fit {
 
 fn is_named(item: Item<'_>, names: [&str; 2], of_object: &str, number: u64) -> bool {
     let record = item.record;
-    let fields = fields_of(record.kind);
+    let fields = fields_of(record);
     has_field(fields, record.payload, names[0], number)
         || has_field(fields, record.payload, names[1], number)
         || item

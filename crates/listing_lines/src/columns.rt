@@ -3,12 +3,12 @@
 use crate::line::{push_counted, push_interface, push_value};
 use crate::whole::direction_name;
 use capture_frame::Frame;
-use listing_fields::{Field, Item, fields_of, push_decimal, push_digits};
+use listing_fields::{Field, Item, fields_of, name_of, push_decimal, push_digits};
 use record_view::Record;
 use std::alloc::AllocError;
 
 /// The names of the columns for fields. The listed fields of every kind are in this order.
-const FIELDS: [&str; 16] = [
+const FIELDS: [&str; 17] = [
     "result",
     "error",
     "priority",
@@ -25,6 +25,7 @@ const FIELDS: [&str; 16] = [
     "buffer",
     "buffers_size",
     "secctx",
+    "is_frozen",
 ];
 
 /// Pushes the columns of a record, without a line feed: place, sequence, device, process, thread,
@@ -48,10 +49,10 @@ pub(crate) fn push_columns(
 
 fn push_record(text: &mut String, record: Record<'_>) -> Result<(), AllocError> {
     text.push_str("\t")?;
-    text.push_str(record.kind.name())?;
+    text.push_str(name_of(record))?;
     text.push_str("\t0x")?;
     push_digits(text, u64::from(record.code.0), 8)?;
-    let mut rest = fields_of(record.kind);
+    let mut rest = fields_of(record);
     for name in FIELDS {
         text.push_str("\t")?;
         rest = push_column(text, name, rest, record.payload)?;

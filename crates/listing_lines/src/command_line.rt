@@ -1,9 +1,9 @@
 //! The words of the command line, and what they ask for.
 
 use crate::asked::{Asked, Form, Narrowing, Sought, Word};
-use crate::kinds::kind_named;
+use crate::kinds::word_named;
 use crate::number::number_of;
-use binder_code::TransactionFlags;
+use binder_code::{Kind, TransactionFlags};
 use bitflags::Flags;
 use clap::error::ErrorKind;
 use clap::{Arg, ArgAction, ArgMatches, Command, Error};
@@ -192,20 +192,27 @@ fn push_words(
 }
 
 fn word_of(narrowing: Narrowing, value: &str) -> Option<Word> {
-    if narrowing == Narrowing::Word
-        && let Some(kind) = kind_named(value)
-    {
+    if narrowing == Narrowing::Word && value == Kind::Opaque.name() {
         return Some(Word {
-            narrowing: Narrowing::Kind,
-            number: kind as u64,
+            narrowing: Narrowing::Unnamed,
+            number: 0,
         });
     }
     let number = match narrowing {
         Narrowing::Direction => direction_of(value)?,
+        Narrowing::Word => code_word(value)?,
         Narrowing::Flag => u64::from(TransactionFlags::from_name(value)?.bits()),
         _ => number_of(value)?,
     };
     Some(Word { narrowing, number })
+}
+
+/// The code word that is named, or given as a number.
+fn code_word(value: &str) -> Option<u64> {
+    match word_named(value) {
+        Some(word) => Some(u64::from(word)),
+        None => number_of(value),
+    }
 }
 
 fn direction_of(value: &str) -> Option<u64> {

@@ -38,7 +38,7 @@ hexadecimal after 0x.
 --form tab   columns separated by tabs: place, sequence, device, process, thread, direction, name,
              code word, result, error, priority, handle, ptr, cookie, address, code, flags,
              sender_pid, sender_euid, data_size, offsets_size, buffer, buffers_size, secctx,
-             interface; a column is empty if the record has no such field
+             is_frozen, interface; a column is empty if the record has no such field
 --side       at the end of each line, what the side list of ./record says: time=, in nanoseconds of
              CLOCK_MONOTONIC, pid=, tid=, and the names, thread= and process=; with --form tab, five
              more columns

@@ -1,16 +1,20 @@
-//! The kinds of records, by name.
+//! Code words by the names of their records.
 
-use binder_code::{Kind, Line};
+use binder_code::Line;
+use listing_fields::FREEZE_LINES;
 
-/// The kind of this name, for example `BC_ACQUIRE` or `OPAQUE`.
-pub(crate) fn kind_named(name: &str) -> Option<Kind> {
+/// The code word of the records of this name, for example `BC_ACQUIRE`. No two names have one code
+/// word.
+pub(crate) fn word_named(name: &str) -> Option<u32> {
     for line in Line::all() {
         if line.name == name {
-            return Some(line.kind);
+            return Some(line.word);
         }
     }
-    if Kind::Opaque.name() == name {
-        return Some(Kind::Opaque);
+    for line in FREEZE_LINES {
+        if line.name == name {
+            return Some(line.word);
+        }
     }
     None
 }

@@ -1,11 +1,10 @@
 //! The line of a record.
 
 use crate::flags::push_flags;
-use binder_code::Kind;
 use capture_frame::Frame;
 use listing_fields::{
-    Field, Item, Value, fields_of, interface_of, push_decimal, push_digits, push_hexadecimal,
-    push_signed,
+    Field, Item, Value, fields_of, interface_of, is_unnamed, name_of, push_decimal, push_digits,
+    push_hexadecimal, push_signed,
 };
 use record_view::Record;
 use std::alloc::AllocError;
@@ -33,12 +32,12 @@ fn push_frame(text: &mut String, frame: Frame<'_>) -> Result<(), AllocError> {
 
 /// Pushes the name of a record and its fields.
 fn push_record(text: &mut String, record: Record<'_>) -> Result<(), AllocError> {
-    text.push_str(record.kind.name())?;
-    if record.kind == Kind::Opaque {
+    text.push_str(name_of(record))?;
+    if is_unnamed(record) {
         text.push_str(" word=0x")?;
         return push_digits(text, u64::from(record.code.0), 8);
     }
-    push_fields(text, fields_of(record.kind), record.payload)
+    push_fields(text, fields_of(record), record.payload)
 }
 
 /// Pushes a word and the interface that a record names, if it names one.

@@ -63,7 +63,7 @@ fn write_record<W: Write>(
 ) -> Result<(), ListingError> {
     push_record_line(&mut output.text, record)?;
     output.end_line()?;
-    for field in fields_of(record.kind) {
+    for field in fields_of(record) {
         if let Some(value) = field.value_in(record.payload) {
             push_field_line(&mut output.text, record.place, *field, value)?;
             output.end_line()?;

@@ -8,7 +8,7 @@ use std::io::Write;
 use transaction_view::check_frame;
 
 /// The layout of the tables.
-const LAYOUT: u64 = 3;
+const LAYOUT: u64 = 4;
 
 /// How far a capture goes.
 #[derive(Clone, Copy)]

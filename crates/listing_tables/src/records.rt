@@ -4,7 +4,7 @@ use crate::rows::{RowWriter, signed};
 use binder_code::Kind;
 use capture_frame::{Direction, Frame, u32_at};
 use listing_fields::{
-    Attached, EachObject, Item, Named, Outcome, direction_number, number_of, offset_of,
+    Attached, EachObject, Item, Named, Outcome, direction_number, is_unnamed, number_of, offset_of,
 };
 use object_view::{BadObject, Object};
 use record_view::Record;
@@ -50,11 +50,11 @@ pub(crate) fn record_columns(
 }
 
 /// The number of a kind in docs/COMMANDS.md, and 256 more for a return. A transaction with a
-/// security context has 514, and an opaque record has 255 in a write and 511 in a read.
+/// security context has 514, and an unnamed record has 255 in a write and 511 in a read.
 fn kind_number(record: Record<'_>, direction: Direction) -> u64 {
     let number = match record.kind {
         Kind::BrTransactionSecCtx => 258,
-        Kind::Opaque => 255,
+        _ if is_unnamed(record) => 255,
         _ => u64::from(record.code.number()),
     };
     match direction {

@@ -1,0 +1,80 @@
+/* A scenario about freeze notifications: a service is frozen and thawed, and others asked to be told of it. Before Linux
+ * 6.12 the driver refuses their requests, and nothing more is done. */
+#include <string.h>
+#include <sys/ioctl.h>
+#include "service.h"
+#include "scenarios.h"
+
+enum watcher { ACKNOWLEDGES, ACKNOWLEDGES_TOO, KEEPS, LETS_GO, CLEARS, CLEARS_UNACKNOWLEDGED, WATCHERS };
+
+#define CHANGES 4	/* how often the service is frozen or thawed */
+
+static bool request(const struct exchange *exchange, const struct binder_handle_cookie *asked)
+{
+	uint32_t code = REQUEST_FREEZE_NOTIFICATION;
+	uint8_t bytes[sizeof code + sizeof *asked];
+	memcpy(bytes, &code, sizeof code);
+	memcpy(bytes + sizeof code, asked, sizeof *asked);
+	return hand_over(exchange->opening, bytes, sizeof bytes) == sizeof bytes;
+}
+
+static void watching(enum watcher which)
+{
+	struct exchange *exchange = opened("binder");
+	struct opening *opening = exchange->opening;
+	struct binder_handle_cookie asked = {look_up(exchange), 0xf000 + which};
+	opening->keeps_freezes = which == KEEPS || which == LETS_GO || which == CLEARS_UNACKNOWLEDGED;
+	enter_loop(exchange);
+	if (request(exchange, &asked)) {
+		while (!opening->freezes) receive(exchange);	/* the driver tells at once what is */
+		if (which == CLEARS || which == CLEARS_UNACKNOWLEDGED)
+			command(exchange, CLEAR_FREEZE_NOTIFICATION, &asked);
+		if (which == LETS_GO) number_command(exchange, BC_RELEASE, asked.handle);
+		turn(exchange, false);
+		while (which == CLEARS && !opening->freeze_clears) receive(exchange);
+		shared->ready++;
+		while (which <= ACKNOWLEDGES_TOO && opening->freezes <= CHANGES) receive(exchange);
+		turn(exchange, false);
+		wait_until(&shared->stage, 1);
+		if (which != LETS_GO) calls(exchange, asked.handle, ECHO, 3);
+	} else
+		shared->ready++;
+	ready_to_rest(exchange);
+}
+
+static void acknowledges(void) { watching(ACKNOWLEDGES); }
+static void acknowledges_too(void) { watching(ACKNOWLEDGES_TOO); }
+static void keeps(void) { watching(KEEPS); }
+static void lets_go(void) { watching(LETS_GO); }
+static void clears(void) { watching(CLEARS); }
+static void clears_unacknowledged(void) { watching(CLEARS_UNACKNOWLEDGED); }
+
+static void freezer(void)
+{
+	struct exchange *exchange = opened("binder");
+	struct binder_freeze_info freeze = {.pid = shared->process[1], .timeout_ms = 1000};
+	for (int change = 1; change <= CHANGES; change++) {
+		int told = shared->freezes;
+		freeze.enable = change % 2;
+		if (ioctl(exchange->opening->descriptor, BINDER_FREEZE, &freeze) < 0) fail("BINDER_FREEZE");
+		wait_until(&shared->freezes, told + ACKNOWLEDGES_TOO + 1);
+	}
+	shared->stage = 1;
+	ready_to_rest(exchange);
+}
+
+static void watchers(void)
+{
+	manager_and_service("service", service);
+	start("acknowledges", acknowledges);
+	start("too", acknowledges_too);
+	start("keeps", keeps);
+	start("lets-go", lets_go);
+	start("clears", clears);
+	start("unacknowledged", clears_unacknowledged);
+	wait_until(&shared->ready, 2 + WATCHERS);
+	if (shared->freezes) start("freezer", freezer);
+	wait_until(&shared->resting, WATCHERS + (shared->freezes > 0));
+}
+
+const struct scenario frozen_scenarios[] = {{"watchers", watchers}, {0}};
