@@ -1,9 +1,6 @@
 //! Freeze notifications, which Linux 6.12 added to `linux/android/binder.h`. The auditor's header
 //! does not list their numbers, so their records are opaque to it.
 
-ghost use Rattle.std.specs.Prelude.{◌≡◌, IfSome};
-ghost use Rattle.binder_code.specs.declared.record_kind.Kind.{Kind};
-
 use binder_code::Kind;
 use record_view::Record;
 
@@ -44,9 +41,7 @@ pub const FREEZE_LINES: [FreezeLine; 5] = table! {
 };
 
 /// The line of a record of freeze notifications; `None` of any other record.
-pub fn freeze_line(record: Record<'_>) -> Option<FreezeLine>
-    ensures { IfSome result (λ line. record.kind ≡ Kind.Opaque) }
-{
+pub fn freeze_line(record: Record<'_>) -> Option<FreezeLine> {
     if record.kind != Kind::Opaque {
         return None;
     }
