@@ -40,6 +40,7 @@ class Session(NamedTuple):
     lines: list[Line]
     facts: dict[str, object]
     differences: list[str]
+    failure: str | None = None  # why `./view` said nothing
 
     @property
     def told(self) -> list[Line]:
@@ -63,7 +64,7 @@ def viewed(folder: pathlib.Path, view: pathlib.Path, keep: pathlib.Path) -> Sess
     (keep / f"{folder.name}.groups").write_text(out)
     (keep / f"{folder.name}.errors").write_text(err)
     if status:
-        return Session(folder, [], {}, [f"./view ended with status {status}: {err.strip()}"])
+        return Session(folder, [], {}, [], f"./view ended with status {status}: {err.strip()}")
     database = sqlite3.connect(made)
     facts = dict(database.execute("SELECT key, value FROM capture"))
     differences = [" ".join(map(str, found)) for found in database.execute(
@@ -101,6 +102,8 @@ class Judged:
 
     def complaints(self) -> Iterator[str]:
         """What is not as expected."""
+        if self.session.failure:
+            yield self.session.failure
         if not self.is_healthy:
             yield from self.complaints_of_fault()
         for line in self.of("wrong"):
@@ -160,6 +163,7 @@ def figures(judged: list[Judged]) -> list[tuple[str, object]]:
         ("true, but no fault", sum(len(one.of("true")) for one in judged)),
         ("differences of the driver's books", sum(len(one.session.differences) for one in judged)),
         ("openings compared with the books", fact("books_compared")),
+        ("sessions of which `./view` made nothing", sum(bool(one.session.failure) for one in judged)),
         ("frames lost, events missed", sum(one.session.lost or 0 for one in judged)),
     ]
 
