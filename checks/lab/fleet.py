@@ -168,9 +168,9 @@ def sessions(of: dict[str, dict], count: int) -> Iterator[dict]:
         planted = {"b3": 0.7, "b4": 0.7}.get(build, 0)
         made = session_of(of, names + [PLANTED] * (chance.random() < planted), build, device, number,
                           5 if build >= "b4" else 1)
-        if number % 50 == 7:
-            made = {"capture": {**made["capture"], "malformed": "fault FrameShort at 100"}, "found": made["found"],
-                    "talk": [], "held": []}
+        if number % 50 == 6:  # of b2, with the fault, which must not count
+            made = {**session_of(of, [PLANTED], build, device, number, 1), "talk": [], "held": []}
+            made["capture"]["malformed"] = "malformed FrameShort at 100"
         if number % 50 == 23:
             made = {"capture": {**made["capture"], "failed": "killed by signal 9"}, "found": [], "talk": [], "held": []}
         yield made
