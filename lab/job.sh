@@ -20,12 +20,15 @@ for side in "${sides[@]}"; do
 done
 for methods in "$lab/$build"/*.methods; do words+=("--methods=$methods"); done
 
-# A file has a byte for each session that is done, and another one for each that failed: several jobs may append.
+# A file has a byte for each session that is done, and another one for each that failed. One job at a time appends and
+# tells, so that the lines come in their order.
 progress=$lab/results/.progress
 tell() {
   [[ -e $progress/total ]] || return 0
-  printf . >>"$progress/done"
-  local total done failed ended seconds
+  local total done failed ended seconds file
+  exec {file}>>"$progress/done"
+  flock "$file"
+  printf . >&"$file"
   total=$(<"$progress/total") done=$(stat -c %s "$progress/done") failed=0
   if [[ -e $progress/failed ]]; then failed=$(stat -c %s "$progress/failed"); fi
   ended=$((done + failed)) seconds=$((EPOCHSECONDS - $(stat -c %Y "$progress/total")))
