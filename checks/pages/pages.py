@@ -1,4 +1,4 @@
-"""Checks the pages: README.md, docs/, samples/ and the READMEs of the crates.
+"""Checks the pages: README.md, docs/, samples/, checks/README.md and the READMEs of the crates.
 
     checks/run pages [-- PROGRAM]
 
@@ -12,8 +12,14 @@ What must hold:
 - An indented line that begins with `$ ` is a command, and the indented lines below it are what it prints, both streams
   together. The commands of a page are run one after another in one folder, which has the repository's files and the
   program as `audit`.
+- docs/DATABASE.md names the tables of `./listing --tables`.
+- The files of sources that a page names are there, and docs/ARCHITECTURE.md names every crate.
+- The options that a page names are those of `--help` of the programs, and of the checks.
+- Each crate's page begins with a caller: lines of code that stand in a file of a crate above, or in a file of the crate
+  itself if no other crate uses it.
 - The wrong bodies in a crate's page are those in its must-fail/, each of which names the goal at which it is refused.
-  Those that docs/PROMISES.md names after ✗ exist.
+- docs/PROMISES.md names each wrong body of each crate and no others, in its tables only names that are in the sources,
+  and the sizes of what is trusted, up to a tenth.
 - docs/DEFINITIONS.md is the page that checks/run definitions makes.
 """
 
@@ -25,15 +31,15 @@ import subprocess
 from checks.kit.checking import check
 from checks.kit.programs import ROOT, SMALL, folder_of, linked
 from checks.kit.runs import answer
-from checks.pages import definitions
+from checks.pages import callers, definitions, named_options, promises, sources, tables
 
 TITLE = "BINDER AUDIT "
 
 
 def pages():
     """The pages, README.md first."""
-    return [ROOT / "README.md", *sorted(ROOT.glob("docs/*.md")), *sorted(ROOT.glob("samples/*.md")),
-            *sorted(ROOT.glob("crates/*/README.md"))]
+    return [ROOT / "README.md", *sorted(ROOT.glob("docs/*.md")), *sorted(ROOT.glob("samples/**/*.md")),
+            ROOT / "checks/README.md", *sorted(ROOT.glob("crates/*/README.md"))]
 
 
 def anchors(page):
@@ -192,16 +198,6 @@ def wrong_bodies(page):
             yield 1, f"{name}.edit does not name one goal: `checks/run wrong -- --fill` writes it"
 
 
-def wrong_promises(page):
-    """The wrong bodies that docs/PROMISES.md names after ✗ and no crate has, each with its line."""
-    if page == ROOT / "docs/PROMISES.md":
-        there, text = {it.stem for it in ROOT.glob("crates/*/must-fail/*.edit")}, page.read_text()
-        for told in re.finditer(r"✗(?:\s+`[a-z0-9-]+`[,;]?)+", text):
-            for name in re.findall(r"`([a-z0-9-]+)`", told[0]):
-                if name not in there:
-                    yield text.count("\n", 0, told.start()) + 1, f"no {name}.edit"
-
-
 def stale_lines(page):
     """The first line of docs/DEFINITIONS.md that is not as it is made, if there is one."""
     if page == definitions.PAGE:
@@ -215,10 +211,12 @@ def judge(given, room, _):
             asked[heading] = [ROOT / "samples" / name for name in heading.split(" and ")]
     answers = {name: answer([program, "report", *parts], text=True)[1] for name, parts in asked.items()}
     reports = {name: text for name, text in answers.items() if text.startswith(TITLE)}
+    options = named_options.Options(room / "options")
     for page in pages():
         for number, what in (*wrong_links(page), *wrong_reports(page, reports), *wrong_answers(page, program, room),
-                             *wrong_changes(page, program), *wrong_bodies(page), *wrong_promises(page),
-                             *stale_lines(page)):
+                             *wrong_changes(page, program), *wrong_bodies(page), *callers.wrong(page),
+                             *promises.wrong(page), *named_options.wrong(page, options), *sources.wrong(page),
+                             *tables.wrong(page), *stale_lines(page)):
             yield f"{page.relative_to(ROOT)}:{number}: {what}"
 
 

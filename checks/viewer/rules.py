@@ -26,7 +26,8 @@ from checks.kit.programs import CHECKS, DRIVER, LISTING, ROOT
 from checks.kit.second_reading import reading
 from checks.viewer.edits import Edit, edited, edits_of
 from checks.viewer.heads import faults_of_heads
-from checks.viewer.sessions import book_cases, late_cases, name_cases, stack_cases, state_cases  # noqa: F401
+from checks.viewer.sessions import (book_cases, death_cases, kept_cases, late_cases, name_cases, pool_cases,  # noqa: F401
+                                    stack_cases, state_cases)
 from checks.viewer.sessions.cases import CASES, Case
 from checks.viewer.sessions.session import Session
 from viewer.database import loading, raw_tables
@@ -74,11 +75,18 @@ def due_of(one: Case) -> Counter:
 
 
 def texts_of(database: sqlite3.Connection) -> str:
-    """Paths and notes of the findings, and who sent how many of which code to whom, and how many of these came."""
+    """Paths and notes of the findings; how many of each rule a process causes; the groups, and how many each verdict has;
+    and who sent how many of which code to whom, and how many of these came."""
     return "\n".join(text for text, in database.execute(
         "SELECT coalesce(path, '') || ' (' || coalesce(note, '') || ')' FROM finding"
+        " UNION ALL SELECT rule || ' by ' || who || ': ' || count(*) FROM finding f"
+        " JOIN who w ON w.upid = coalesce(f.culprit, f.upid) GROUP BY rule, w.upid"
         " UNION ALL SELECT a.who || ' to ' || b.who || ' code ' || code || ': ' || delivered || ' of ' || sends"
         " FROM traffic t JOIN who a USING (upid) JOIN who b ON b.upid = t.node_upid"
+        " UNION ALL SELECT verdict || ' ' || title || ': ' || n || ' of ' || coalesce(n_all, '-') || ' ' || path || ' '"
+        " || rules || ' (' || coalesce(note, '') || ')' FROM finding_group"
+        " UNION ALL SELECT 'groups that are ' || v.verdict || ': ' || count(g.grp) FROM (SELECT DISTINCT verdict"
+        " FROM rule) v LEFT JOIN finding_group g USING (verdict) GROUP BY v.verdict"
         " UNION ALL SELECT 'finding_stack ' || n || ': ' || stack || ', ' || whose FROM finding_stack"
         " UNION ALL SELECT 'finding_stack 2: -' WHERE NOT EXISTS (SELECT 1 FROM finding_stack WHERE n = 2)"))
 
@@ -97,6 +105,8 @@ def faults_of(one: Case, database: sqlite3.Connection) -> list[str]:
     faults = [] if came == due else [f"expected {shown(due)}, came {shown(came)}"]
     astray, = database.execute(ASTRAY).fetchone()
     faults += [f"{astray} deliveries at another node"] if astray else []
+    left, = database.execute("SELECT count(*) FROM finding WHERE id NOT IN (SELECT id FROM finding_head)").fetchone()
+    faults += [f"{left} findings in no group"] if left else []
     texts = texts_of(database)
     return faults + [f"no finding says: {word}" for word in one.words if word not in texts]
 

@@ -20,6 +20,8 @@ INSERT INTO about VALUES
   ('book_node', 'side', 'an object of an opening in such a copy'),
   ('book_buffer', 'side', 'a buffer of an opening in such a copy'),
   ('book_call', 'side', 'a call that a thread had open in such a copy'),
+  ('book_process', 'side', 'a process that has no frame, and a call that was open throughout'),
+  ('book_open', 'side', 'a call that both copies have: it was open throughout the recording'),
   ('disagreement', 'inferred', 'where the report and the books at the end differ'),
   ('side_call', 'side', 'the stack of the call that wrote a frame'),
   ('side_unstacked', 'side', 'stacks that the recorder did not have, and why'),

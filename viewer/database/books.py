@@ -15,13 +15,14 @@ TF_ONE_WAY = 1
 
 class Transaction(NamedTuple):
     """A transaction: its number, the thread that has it, and the number of its node, 0 if none is named. A reply that
-    waits for its reader `is_reply`."""
+    waits for its reader `is_reply`. The driver begins with what a thread made or got last: `above` are so many."""
     number: int
     thread: int
     code: int
     flags: int
     node: int
     is_reply: bool
+    above: int
 
 
 class Handle(NamedTuple):
@@ -53,6 +54,7 @@ class Opening:
         self.incoming: list[Transaction] = []
         self.pending: list[Transaction] = []
         self.errors: Counter[int] = Counter()
+        self.calls: Counter[int] = Counter()
         self.deaths = self.clears = self.cleared_and_dead = 0
         self.completions = 0
 
@@ -95,8 +97,10 @@ class Opening:
         kind, flags = found[1], int(found[8], 16)
         # `r` says whether a reply is needed; after `a`, in newer kernels, whether this is one.
         is_reply = kind == "pending" and found[10] == ("1" if found[9] else "0") and not flags & TF_ONE_WAY
-        item = Transaction(int(found[2]), thread, int(found[7], 16), flags, int(found[11] or 0), is_reply)
+        item = Transaction(int(found[2]), thread, int(found[7], 16), flags, int(found[11] or 0), is_reply,
+                           self.calls[thread])
         lists = {"outgoing": self.outgoing, "incoming": self.incoming}
+        self.calls[thread] += kind in lists
         lists.get(kind, self.pending).append(item)
 
 

@@ -4,7 +4,7 @@ beside the side list."""
 import pathlib
 import re
 import sqlite3
-from collections import defaultdict
+from collections import Counter, defaultdict
 from typing import Iterator, NamedTuple
 
 from viewer.database.books import Opening, Transaction, state
@@ -61,7 +61,7 @@ def open_at(database: sqlite3.Connection, copy: Copy) -> dict[tuple[int, str], l
     found: dict[tuple[int, str], list[tuple[int, str]]] = defaultdict(list)
     rows = database.execute(
         "SELECT p.upid, p.pid, d.name, p.met FROM process p JOIN side_device d USING (device)"
-        " WHERE p.met NOTNULL AND coalesce(p.ended > :ts, 1)"
+        " WHERE p.met NOTNULL AND p.frames > 0 AND coalesce(p.ended > :ts, 1)"
         " AND iif(:begin, p.met = 'in-mid-life', p.first_seq <= :after) ORDER BY p.opening",
         {"ts": copy.ts, "begin": copy.moment == "begin", "after": copy.after})
     for upid, pid, device, met in rows:
@@ -130,13 +130,14 @@ CUT = ("SELECT 1 FROM side_time s, raw_capture c WHERE c.last_seq IS NULL OR s.s
        " OR :end AND s.seq > c.last_seq AND s.seq <= :from LIMIT 1")
 
 
-def load_state(database: sqlite3.Connection, copy: Copy, text: str) -> None:
-    """What the openings of the capture had by the book `state`; nothing if the capture lacks frames around it."""
+def load_state(database: sqlite3.Connection, copy: Copy, openings: list[Opening], silent: list[Matched]) -> None:
+    """What the openings of the capture had by the book `state`; nothing if the capture lacks frames around it. `silent`
+    are openings without a frame, which only own nodes here."""
     if database.execute(CUT, {"end": copy.moment == "end", "from": copy.from_seq}).fetchone():
         return
-    found = matched(database, copy, state(text))
+    found = matched(database, copy, openings)
     moment = copy.moment
-    owners = {number: (one.upid, *map(signed, node)) for one in found for node, number in
+    owners = {number: (one.upid, *map(signed, node)) for one in found + silent for node, number in
               one.opening.node_numbers.items()}
     threads = {(upid, tid): utid for upid, tid, utid in database.execute("SELECT upid, tid, utid FROM thread")}
     for upid, opening in found:
@@ -158,9 +159,108 @@ def load_state(database: sqlite3.Connection, copy: Copy, text: str) -> None:
              for side, tid, item in sides_of(opening)))
 
 
-def load(database: sqlite3.Connection, copies: list[Copy], sides: list[str]) -> str | None:
+# ---- calls that were open throughout
+
+
+class Place(NamedTuple):
+    """Where a call is in the books: which opening has it, the call as that has it, and the thread that makes or serves
+    it; None if it waits for a thread."""
+    opening: Opening
+    item: Transaction
+    thread: int | None
+
+
+def places_of_calls(openings: list[Opening]) -> tuple[dict[int, Place], dict[int, Place]]:
+    """By the driver's number of a call, who makes it, and who serves it or should get it."""
+    made = {item.number: Place(one, item, item.thread) for one in openings for item in one.outgoing}
+    waits = {item.number: Place(one, item, None) for one in openings for item in one.pending if not item.is_reply}
+    served = {item.number: Place(one, item, item.thread) for one in openings for item in one.incoming}
+    return made, waits | served
+
+
+class Throughout:
+    """The calls that are in the book of the beginning and in that of the end: the driver gives no number twice, so they
+    were open throughout the recording. Their openings need no frame. One that has none is a process of its own here."""
+
+    def __init__(self, database: sqlite3.Connection, begin: list[Opening], end: list[Opening], copy: Copy,
+                 names: dict[int, str]):
+        self.database, self.names, self.silent = database, names, list[Matched]()
+        self.upids = {id(one.opening): one.upid for one in matched(database, copy, end)}
+        self.numbers = Counter((one.pid, one.context) for one in end)
+        made, served = places_of_calls(end)
+        numbers = {item.number for one in begin for item in one.outgoing} & made.keys() & served.keys()
+        self.calls = [(made[number], served[number]) for number in sorted(numbers)]
+
+    def upid_of(self, opening: Opening) -> int | None:
+        """The process of an opening; None if it is not certain which one it is."""
+        if id(opening) not in self.upids:
+            known = self.database.execute("SELECT 1 FROM process p LEFT JOIN side_device d USING (device)"
+                                          " WHERE p.pid = ? AND coalesce(d.name = ?, 1)",
+                                          (opening.pid, opening.context)).fetchone()
+            if known or self.numbers[opening.pid, opening.context] > 1:
+                return None
+            self.add(opening)
+        return self.upids[id(opening)]
+
+    def add(self, opening: Opening) -> None:
+        """Gives an opening without a frame a number after those of the capture."""
+        upid, = self.database.execute("SELECT coalesce(max(upid), 0) + 1 FROM process").fetchone()
+        device = self.database.execute("SELECT device FROM side_device WHERE name = ?", (opening.context,)).fetchone()
+        if device is None:
+            device = self.database.execute("SELECT coalesce(max(device), -1) + 1 FROM side_device").fetchone()
+            self.database.execute("INSERT INTO side_device VALUES (?, ?)", (*device, opening.context))
+        self.database.execute("INSERT INTO book_process VALUES (?, ?, ?, ?)",
+                              (upid, *device, opening.pid, self.names.get(opening.pid)))
+        self.upids[id(opening)] = upid
+        self.silent.append(Matched(upid, opening))
+
+    def load(self) -> None:
+        """A thread has its calls at -1, the last one, -2 and so on: before all that the capture has of it."""
+        threads = {(upid, tid): utid for upid, tid, utid in self.database.execute("SELECT upid, tid, utid FROM thread")}
+        for caller, server in self.calls:
+            upid, to = self.upid_of(caller.opening), self.upid_of(server.opening)
+            if upid is None or to is None:
+                continue
+            nodes = {number: node for node, number in server.opening.node_numbers.items()}
+            ptr, cookie = nodes.get(server.item.node, (None, None))
+            self.database.execute(
+                "INSERT INTO book_open VALUES (?, ?, ?, ?, ?, ?, ?, ?, ?, ?, ?, ?)",
+                (caller.item.number, upid, threads.get((upid, caller.thread)), caller.thread, -1 - caller.item.above,
+                 to, threads.get((to, server.thread)), server.thread,
+                 None if server.thread is None else -1 - server.item.above, caller.item.code,
+                 None if ptr is None else signed(ptr), None if cookie is None else signed(cookie)))
+
+
+# ---- all of it
+
+
+def load_states(database: sqlite3.Connection, states: dict[str, tuple[Copy, str]],
+                names: dict[int, str]) -> Iterator[str]:
+    """Puts the books `state` into the database, each by its moment. Returns what is wrong with those that are left
+    out. `names` are those of the processes that were there before, by their pid."""
+    openings = {moment: state(text) for moment, (_, text) in states.items()}
+    silent: list[Matched] = []
+    if len(states) == 2:
+        calls = Throughout(database, openings["begin"], openings["end"], states["end"][0], names)
+        try:
+            calls.load()
+            silent = calls.silent
+        except OverflowError:
+            database.execute("DELETE FROM book_open")
+            database.execute("DELETE FROM book_process")
+            yield "the copies of state have calls with numbers that are none of the driver's"
+    for moment, (copy, _) in states.items():
+        try:
+            load_state(database, copy, openings[moment], silent)
+        except OverflowError:
+            for table in ("book_opening", "book_handle", "book_node", "book_buffer", "book_call"):
+                database.execute(f"DELETE FROM {table} WHERE moment = ?", (moment,))
+            yield f"the copy of state at the {moment} has numbers that are none of the driver's"
+
+
+def load(database: sqlite3.Connection, copies: list[Copy], sides: list[str], names: dict[int, str]) -> str | None:
     """Puts the copies into the database. Returns what is wrong with those that are left out."""
-    wrong = []
+    wrong, states = [], {}
     for copy in copies:
         text, why = text_of(copy, sides)
         if text is None:
@@ -169,10 +269,6 @@ def load(database: sqlite3.Connection, copies: list[Copy], sides: list[str]) -> 
         copy = widened(database, copy)
         database.execute("INSERT OR REPLACE INTO book VALUES (?, ?, ?, ?, ?)", copy[:5])
         if copy.what == "state" and copy.moment in ("begin", "end"):
-            try:
-                load_state(database, copy, text)
-            except OverflowError:
-                for table in ("book_opening", "book_handle", "book_node", "book_buffer", "book_call"):
-                    database.execute(f"DELETE FROM {table} WHERE moment = ?", (copy.moment,))
-                wrong.append(f"the copy of {copy.what} at the {copy.moment} has numbers that are none of the driver's")
+            states[copy.moment] = copy, text
+    wrong += load_states(database, states, names)
     return "; ".join(filter(None, wrong)) or None

@@ -86,7 +86,7 @@ def fill(database: sqlite3.Connection, files: list[str], side: str | None, has_t
     if side is not None:
         taken.load(side)
         taken.judge()
-        taken.facts["books_doubt"] = load_books.load(database, taken.copies, beside or [side])
+        taken.facts["books_doubt"] = load_books.load(database, taken.copies, beside or [side], taken.met)
     load_report(database, report)
     load_facts(database, files, malformed, taken.facts if side is not None else {})
     load_findings(database)

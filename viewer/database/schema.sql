@@ -3,15 +3,16 @@
 -- Since version 4, method and node_interface are new.
 -- Since version 5, command and uid of process, the names that begin with book, disagreement, side_call, side_unstacked,
 -- stack, finding_stack, service and node_service are, and the column service of record.
+-- Since version 7, the column culprit of finding is, and book_process and book_open.
 -- needs: nothing
 -- makes: tables: raw_capture, raw_process, raw_thread, raw_frame, raw_record, raw_interface, raw_service, raw_object,
 --   raw_call, raw_generation, raw_send, raw_delivery, raw_level, side_device, side_process, side_thread, side_time,
 --   side_lost, interface, service, method, call_interface, object_interface, object_service, status, side_missed,
---   side_calls, side_handle, book, book_opening, book_handle, book_node, book_buffer, book_call, disagreement,
---   side_call, side_pc, side_map, side_unstacked, symbol, capture, report, finding; indexes: side_process_of_pid,
---   side_thread_of_tid
+--   side_calls, side_handle, book, book_opening, book_handle, book_node, book_buffer, book_call, book_process,
+--   book_open, disagreement, side_call, side_pc, side_map, side_unstacked, symbol, capture, report, finding; indexes:
+--   side_process_of_pid, side_thread_of_tid
 
-PRAGMA user_version = 6;
+PRAGMA user_version = 7;
 
 -- ---- raw tables: the rows that `./listing --tables` writes, column by column
 --
@@ -315,6 +316,10 @@ CREATE TABLE book_buffer(moment TEXT NOT NULL, upid INTEGER NOT NULL, number INT
   PRIMARY KEY(moment, upid, number)) STRICT;
 CREATE TABLE book_call(id INTEGER PRIMARY KEY, moment TEXT NOT NULL, upid INTEGER NOT NULL, utid INTEGER,
   tid INTEGER NOT NULL, side TEXT NOT NULL, number INTEGER, code INTEGER) STRICT;
+CREATE TABLE book_process(upid INTEGER PRIMARY KEY, device INTEGER NOT NULL, pid INTEGER NOT NULL, name TEXT) STRICT;
+CREATE TABLE book_open(number INTEGER PRIMARY KEY, upid INTEGER NOT NULL, utid INTEGER, tid INTEGER NOT NULL,
+  place INTEGER NOT NULL, server INTEGER NOT NULL, server_utid INTEGER, server_tid INTEGER, delivery INTEGER,
+  code INTEGER NOT NULL, ptr INTEGER, cookie INTEGER) STRICT;
 CREATE TABLE disagreement(id INTEGER PRIMARY KEY, upid INTEGER NOT NULL, section TEXT NOT NULL, what TEXT NOT NULL,
   report INTEGER NOT NULL, books INTEGER NOT NULL) STRICT;
 -- The stacks of calls. A memory is that of a process, from its start or from exec on; idx 0 is the innermost function,
@@ -335,8 +340,9 @@ CREATE TABLE report(id INTEGER PRIMARY KEY, section TEXT NOT NULL, place INTEGER
   text TEXT NOT NULL) STRICT;
 -- n_all is NULL where a path is not counted: for handles that are let go of or that no delivery gave, for nodes,
 -- requests, deaths, clears, frees and flags, and for replies that are sent. later counts calls no deeper than the
--- finding itself; for what is neither a call nor its buffer, it counts write frames.
+-- finding itself; for what is neither a call nor its buffer, it counts write frames. culprit is NULL if it is upid.
 CREATE TABLE finding(id INTEGER PRIMARY KEY, report INTEGER, section TEXT NOT NULL, what TEXT NOT NULL, place INTEGER,
   seq INTEGER, upid INTEGER NOT NULL, utid INTEGER, handle INTEGER, code INTEGER, ptr INTEGER, cookie INTEGER,
   generation INTEGER, target INTEGER, path TEXT, n_all INTEGER, n_good INTEGER, longest_seq INTEGER, longest INTEGER,
-  age_seq INTEGER, age INTEGER, later INTEGER, lead INTEGER, waiting INTEGER, rule TEXT, note TEXT) STRICT;
+  age_seq INTEGER, age INTEGER, later INTEGER, lead INTEGER, waiting INTEGER, rule TEXT, note TEXT,
+  culprit INTEGER) STRICT;

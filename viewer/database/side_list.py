@@ -98,6 +98,7 @@ class SideList:
         self.frame: re.Match[str] | None = None
         self.told = 0
         self.copies: list[load_books.Copy] = []
+        self.met: dict[int, str] = {}
 
     def last(self) -> int:
         """The last number that has come in the list, of a frame or of a lost frame."""
@@ -191,6 +192,10 @@ class SideList:
         """The last command line counts."""
         self.database.execute("UPDATE side_process SET command = ?, uid = ? WHERE (device, process) = (?, ?)",
                               (keyed["name"], number(keyed["uid"]), *numbers(positional, 2)))
+
+    def take_met(self, _: int, __: list[str], keyed: dict[str, str]) -> None:
+        """A process that was there before the recording, by its pid: it may have no line of its own."""
+        self.met[number(keyed["pid"])] = keyed["name"]
 
     def take_books(self, time: int, positional: list[str], keyed: dict[str, str]) -> None:
         moment, what = positional[:2]

@@ -1,19 +1,24 @@
 -- The views, which docs/DATABASE.md describes. A view can't have parameters, so raw_tables.py puts the numbers in. It
 -- also joins a line that is eight spaces in to the one before it: the database keeps the text of a view, and names are
 -- longer than numbers.
--- needs: schema.sql: interface, object_interface, object_service, raw_call, raw_delivery, raw_frame, raw_generation,
---   raw_level, raw_object, raw_process, raw_record, raw_send, raw_thread, service, side_device, side_map, side_pc,
---   side_process, side_thread, side_time, symbol; numbers.sql: cause, kind, sort, verdict; rules/nodes.sql: node_of
+-- needs: schema.sql: book_process, interface, object_interface, object_service, raw_call, raw_delivery, raw_frame,
+--   raw_generation, raw_level, raw_object, raw_process, raw_record, raw_send, raw_thread, service, side_device,
+--   side_map, side_pc, side_process, side_thread, side_time, symbol; numbers.sql: cause, kind, sort, verdict;
+--   rules/nodes.sql: node_of
 -- makes: views: device, process, thread, frame, record, object, call, handle, send, delivery, level, reference,
 --   listing, came_to, sent_to, node_interface, stack, node_service
 
 CREATE VIEW device AS
 SELECT DISTINCT p.device, s.name FROM raw_process p LEFT JOIN side_device s USING (device);
 
+-- Also the processes that have no frame, and that the driver's books have.
 CREATE VIEW process AS
 SELECT p.upid, p.device, p.process, coalesce(s.pid, iif(p.process < :NO_PID, p.process, NULL)) AS pid, s.name,
   s.opening, s.met, s.opened, s.ended_after, s.ended, p.first_seq, p.last_seq, p.frames, s.command, s.uid
-FROM raw_process p LEFT JOIN side_process s USING (device, process);
+FROM raw_process p LEFT JOIN side_process s USING (device, process)
+UNION ALL
+SELECT b.upid, b.device, b.pid, b.pid, b.name, NULL, 'in-mid-life', NULL, NULL, NULL, NULL, NULL, 0, NULL, NULL
+FROM book_process b;
 
 CREATE VIEW thread AS
 SELECT t.utid, t.upid, p.device, p.process, t.thread, coalesce(s.tid, iif(t.thread < :NO_PID, t.thread, NULL)) AS tid,

@@ -14,7 +14,8 @@ def head_of(capture: Capture) -> dict[str, object]:
         "first_ts": None, "until_ts": None, "payloads": None, **capture.facts, "has_end": "end_ts" in capture.facts,
         "agreed": agreement.line_of(capture.database),
         "met": ask("SELECT who FROM who JOIN process USING (upid) WHERE met IS NOT 'from-start' AND upid NOT IN (SELECT"
-                   " upid FROM book_opening WHERE moment = 'begin') ORDER BY upid LIMIT 21"),
+                   " upid FROM book_opening WHERE moment = 'begin' UNION SELECT upid FROM book_process) ORDER BY upid"
+                   " LIMIT 21"),
         "held": capture.rows("held_before", 21),
         "calls": ask("SELECT coalesce(sum(made + served), 0) FROM side_calls")[0][0],
         "handles": capture.count("side_handle"),

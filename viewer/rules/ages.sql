@@ -40,6 +40,9 @@ UPDATE finding SET
     - (SELECT ts FROM side_time x WHERE x.seq = finding.seq))
 FROM last, life l, process_life p
 WHERE l.utid = finding.utid AND p.upid = iif(section = 'oneway', finding.target, finding.upid);
+-- A call that was open throughout is at least as old as the one copy of the books is older than the other.
+UPDATE finding SET age = z.ts - b.ts FROM book b, book z
+WHERE section = 'books' AND (b.moment, b.what, z.moment, z.what) = ('begin', 'state', 'end', 'state');
 
 -- later: how many calls its thread began after it, at most :MOST_LATER. All that a thread does after an open call is
 -- within that call, so a call counts if it is no deeper than a call that would begin at the finding. For what is not a
@@ -74,7 +77,7 @@ SELECT 'buffers' AS section, (SELECT dur FROM held LIMIT 1 OFFSET (SELECT count(
 UNION ALL SELECT 'calls', (SELECT dur FROM called LIMIT 1 OFFSET (SELECT count(*) / 2 FROM called));
 CREATE TEMP TABLE old AS
 SELECT f.id FROM finding f WHERE f.age > max(:LONG, :OLD * coalesce(f.longest, (SELECT dur FROM usual u
-  WHERE u.section = iif(f.section = 'served', 'calls', f.section)), 0));
+  WHERE u.section = iif(f.section IN ('served', 'books'), 'calls', f.section)), 0));
 CREATE UNIQUE INDEX temp.old_finding ON old(id);
 -- What ended with its thread or process, and was not old then.
 CREATE TEMP TABLE ended AS

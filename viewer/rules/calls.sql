@@ -1,6 +1,7 @@
 -- A, C, T, U: calls and served calls that are open.
--- needs: database/schema.sql: finding, raw_call, raw_delivery, raw_thread, side_time; nodes.sql: who; ages.sql: ended,
---   last, life, old; waits.sql: full_pool, pool, ring, waited, waits, waits_for; rule.sql: lossy; judging.py: counted
+-- needs: database/schema.sql: finding, raw_call, raw_delivery, raw_thread, side_time; nodes.sql: who; facts.sql:
+--   from_before; ages.sql: ended, last, life, old; waits.sql: full_pool, lock_ring, pool, ring, waited, waits,
+--   waits_for; rule.sql: lossy; pools.sql: full_wait; judging.py: counted, duration
 -- makes: nothing
 
 -- A: one finding with an open call.
@@ -26,15 +27,23 @@ FROM waits w JOIN raw_call c ON c.place = w.delivery JOIN life l ON l.utid = w.u
 WHERE rule IS NULL AND w.id = finding.id AND w.replied = 2;
 UPDATE finding SET rule = iif(upid IN (SELECT upid FROM lossy), 'M2', 'C3')
 WHERE rule IS NULL AND id IN (SELECT id FROM ring) AND finding.id IN (SELECT id FROM old);
+UPDATE finding SET rule = iif(upid IN (SELECT upid FROM lossy) OR coalesce(target, 0) IN (SELECT upid FROM lossy), 'M2',
+  'C8')
+WHERE rule IS NULL AND id IN (SELECT id FROM lock_ring) AND n_good >= :ENOUGH;
 -- What waits for another call, and the call that a full pool waits for. If frames are missing, a delivery may be too.
 UPDATE finding SET waiting = w.n FROM waited w WHERE w.id = finding.id;
 UPDATE finding SET rule = 'C7', note = coalesce((SELECT p.doing FROM waits w JOIN full_pool p ON p.upid = w.server_upid
-    WHERE w.id = finding.id AND w.delivery IS NULL), 'the call at ' || (SELECT n.place FROM waits_for f JOIN waits n
-    ON n.id = f.next WHERE f.id = finding.id))
+    WHERE w.id = finding.id AND w.delivery IS NULL), (SELECT n.called FROM waits_for f JOIN waits n ON n.id = f.next
+    WHERE f.id = finding.id))
 WHERE rule IS NULL AND upid NOT IN (SELECT upid FROM lossy) AND coalesce(target, 0) NOT IN (SELECT upid FROM lossy)
   AND id IN (SELECT w.id FROM waits w WHERE w.delivery IS NULL AND w.server_upid IN (SELECT upid FROM full_pool)
     UNION SELECT f.id FROM waits_for f JOIN waits w USING (id) WHERE w.delivery NOTNULL AND NOT f.by_main);
-UPDATE finding SET rule = 'U1' WHERE rule IS NULL AND section IN ('calls', 'served') AND what = 'open'
+-- Or waited for a pool that was used up, and since then only for a while.
+UPDATE finding SET rule = 'C7', note = 'it waited ' || duration(l.until - l.since) || ' for a looper'
+FROM full_wait l
+WHERE rule IS NULL AND section = 'calls' AND what = 'open' AND l.place = finding.place
+  AND age - (l.until - l.since) <= max(:LONG, :OLD * coalesce(longest, 0));
+UPDATE finding SET rule = 'U1' WHERE rule IS NULL AND section IN ('calls', 'served', 'books') AND what = 'open'
   AND n_good >= :ENOUGH AND coalesce(age <= :USUAL * longest, age_seq <= :USUAL * longest_seq);
 UPDATE finding SET rule = iif(upid IN (SELECT upid FROM lossy), 'M2', 'C6')
 WHERE rule IS NULL AND finding.id IN (SELECT id FROM old) AND finding.id IN (SELECT w.id FROM waited w WHERE w.by_pool)
@@ -46,15 +55,26 @@ WHERE rule IS NULL AND section IN ('calls', 'served') AND what = 'open' AND n_go
   AND coalesce(age > max(:LONG, :OLD * longest), age_seq > :OLD * longest_seq);
 UPDATE finding SET rule = 'U6' WHERE rule IS NULL AND section IN ('calls', 'served') AND what = 'open' AND later = 0
   AND age IS NOT NULL AND finding.id NOT IN (SELECT id FROM old);
+UPDATE finding SET rule = 'C9' WHERE rule IS NULL AND id IN (SELECT id FROM lock_ring);
+UPDATE finding SET rule = 'B1' WHERE rule IS NULL AND section = 'books';
 UPDATE finding SET rule = iif(w.delivery IS NULL, 'C5', 'C4') FROM waits w WHERE rule IS NULL AND w.id = finding.id;
--- What the threads do that have such a call, or could take it; and how many wait for it.
+-- What the threads do that have such a call, or could take it; how many wait for it; and the next call of its ring.
 UPDATE finding SET note = iif(waiting > 0, counted(waiting, 'waits', 'wait') || ' for it; ', '')
-  || CASE WHEN w.delivery IS NULL THEN coalesce('not got: ' || (SELECT doing FROM pool p WHERE p.upid = w.server_upid),
+  || CASE WHEN section = 'books' THEN (SELECT 'thread ' || b.tid || ' of ' || o.who || ' waits for '
+        || coalesce('thread ' || b.server_tid || ' of ', '') || s.who
+        || iif(b.delivery IS NULL, ', where no thread got it', '')
+        || coalesce((SELECT ', and that for ' || n.called FROM waits_for x JOIN waits n ON n.id = x.next
+          WHERE x.id = b.id), '')
+      FROM from_before b JOIN who o USING (upid) JOIN who s ON s.upid = b.server WHERE b.id = finding.id)
+    WHEN w.delivery IS NULL THEN coalesce('not got: ' || (SELECT doing FROM pool p WHERE p.upid = w.server_upid),
       'not got')
     ELSE (SELECT who FROM who WHERE upid = w.server_upid) || ' got it at ' || w.delivery
-      || coalesce((SELECT iif(x.by_main, ', and its main thread waits for the call at ', ', and waits for the call at ')
-          || n.place FROM waits_for x JOIN waits n ON n.id = x.next WHERE x.id = finding.id),
+      || coalesce((SELECT iif(x.by_main, ', and its main thread waits for ', ', and waits for ') || n.called
+          FROM waits_for x JOIN waits n ON n.id = x.next WHERE x.id = finding.id),
         (SELECT iif(t.last_seq <= d.seq, ', and thread ' || t.thread || ' has done nothing since', '')
           FROM raw_thread t JOIN raw_call d ON d.place = w.delivery WHERE t.utid = w.server), '') END
-FROM waits w WHERE w.id = finding.id AND rule IN ('C3', 'C4', 'C5', 'C6', 'U2', 'M2');
+  || coalesce((SELECT '; in a ring with ' || n.called || ' of ' || o.who || ', ' || q.path
+    FROM lock_ring l JOIN waits n ON n.id = l.next JOIN finding q ON q.id = l.next JOIN who o ON o.upid = n.upid
+    WHERE l.id = finding.id), '')
+FROM waits w WHERE w.id = finding.id AND rule IN ('B1', 'C3', 'C4', 'C5', 'C6', 'C8', 'C9', 'U2', 'M2');
 UPDATE finding SET rule = 'C4' WHERE rule IS NULL AND section = 'served' AND what = 'open';

@@ -1,11 +1,11 @@
 -- What is known of each finding: what its record says, which node its handle leads to, its path, and how many took that
 -- path.
--- needs: database/schema.sql: finding, raw_call, raw_delivery, raw_generation, raw_record, raw_send, raw_thread,
---   report, side_time, status; database/views.sql: delivery; nodes.sql: manager, node_of, who; judging.py: call_name,
---   object_name, service_name, status_name
--- makes: temporary tables: dead_record, told_death, asked, buffer_path, buffer_text, send_path, given, given_way,
---   object_of, answered, answered_name; indexes: dead_cookie, dead_handle, dead_place, told_generation, asked_node,
---   given_generation, object_of_generation
+-- needs: database/schema.sql: book_open, finding, raw_call, raw_delivery, raw_generation, raw_record, raw_send,
+--   raw_thread, report, side_time, status; database/views.sql: delivery; nodes.sql: manager, node_of, who; judging.py:
+--   call_name, object_name, service_name, status_name
+-- makes: temporary tables: from_before, dead_record, told_death, asked, buffer_path, buffer_text, send_path, given,
+--   given_way, object_of, answered, answered_name; indexes: dead_cookie, dead_handle, dead_place, told_generation,
+--   asked_node, given_generation, given_way_of, object_of_generation
 
 -- ---- findings that are not rows of the report
 
@@ -28,6 +28,12 @@ SELECT 'answers', 'status', r.place, t.upid, r.handle, r.code
 FROM status x JOIN raw_delivery d USING (place) JOIN raw_record r ON r.place = d.call
   JOIN raw_thread t ON t.utid = r.utid
 WHERE x.value IS NOT 0;
+
+-- Calls that were open throughout the recording, by the driver's books. They have no record.
+CREATE TEMP TABLE from_before AS
+SELECT b.*, (SELECT coalesce(max(id), 0) FROM finding) + row_number() OVER (ORDER BY number) AS id FROM book_open b;
+INSERT INTO finding(id, section, what, upid, utid, code, target, ptr, cookie)
+SELECT id, 'books', 'open', upid, utid, code, server, ptr, cookie FROM from_before;
 
 -- ---- what each finding is about
 
@@ -100,6 +106,8 @@ UPDATE finding SET path = CASE
     || ' to '
     || coalesce((SELECT who FROM who WHERE upid = target) || printf(' node 0x%x', ptr) || service_name(target, ptr),
       'handle ' || handle || service_name(-upid, handle)))
+  WHEN section = 'books' THEN call_name(code, target, ptr) || ' to ' || (SELECT who FROM who WHERE upid = target)
+    || coalesce(printf(' node 0x%x', ptr) || service_name(target, ptr), '')
   WHEN section = 'buffers' AND what = 'BR_REPLY' THEN coalesce('reply to '
     || call_name(code, coalesce(target, -upid), iif(target IS NULL, handle, ptr)) || ' of '
     || coalesce((SELECT who FROM who WHERE upid = target) || printf(' node 0x%x', ptr) || service_name(target, ptr),
@@ -152,7 +160,7 @@ FROM raw_send s JOIN raw_record r USING (place) JOIN raw_thread t ON t.utid = s.
   LEFT JOIN side_time x ON x.seq = s.seq LEFT JOIN side_time z ON z.seq = e.seq
 WHERE s.generation IS NOT NULL
   AND r.code IN (SELECT code FROM finding
-    WHERE section IN ('calls', 'served', 'refused', 'strays', 'oneway', 'spam', 'objects'))
+    WHERE section IN ('calls', 'served', 'refused', 'strays', 'oneway', 'spam', 'objects', 'books'))
 GROUP BY 1, 2, 3, 4, 5;
 UPDATE finding SET n_all = p.n, n_good = p.good, longest_seq = p.longest_seq, longest = p.longest
 FROM send_path p, raw_record r
@@ -162,6 +170,9 @@ WHERE section IN ('calls', 'refused', 'oneway', 'spam', 'strays', 'objects') AND
   AND p.cookie = iif(finding.target IS NULL, 0, finding.cookie)
   AND p.oneway = coalesce((SELECT x.flags & :TF_ONE_WAY FROM raw_send s JOIN raw_record x USING (place)
     WHERE s.refused = finding.place), iif(section = 'calls', 0, r.flags & :TF_ONE_WAY));
+UPDATE finding SET n_good = p.good, longest_seq = p.longest_seq, longest = p.longest FROM send_path p
+WHERE section = 'books' AND NOT p.oneway
+  AND (p.code, p.upid, p.ptr, p.cookie) = (finding.code, finding.target, finding.ptr, finding.cookie);
 -- Served calls of a node, by code.
 UPDATE finding SET n_all = p.n, n_good = p.good, longest_seq = p.longest_seq, longest = p.longest
 FROM (SELECT r.code, t.upid, r.ptr, r.cookie, count(*) AS n, sum(c.verdict = 2) AS good,
@@ -189,6 +200,7 @@ WHERE EXISTS (SELECT 1 FROM finding WHERE section IN ('handles', 'answers'));
 CREATE UNIQUE INDEX temp.given_generation ON given(generation);
 CREATE TEMP TABLE given_way AS
 SELECT upid, way, sender, count(*) AS n, sum(kept) AS kept FROM given WHERE way NOTNULL GROUP BY 1, 2, 3;
+CREATE INDEX temp.given_way_of ON given_way(way, upid);
 UPDATE finding SET n_all = w.n FROM given g JOIN given_way w ON w.upid = g.upid AND w.way = g.way
   AND w.sender IS g.sender
 WHERE section = 'handles' AND g.generation = finding.generation AND g.kept;

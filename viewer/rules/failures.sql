@@ -1,7 +1,7 @@
 -- E: calls and sends that failed, and oneway sends that may be spam.
 -- needs: database/schema.sql: finding, raw_call, raw_delivery, raw_record, raw_send, raw_thread, side_time; nodes.sql:
 --   node_of, who; facts.sql: told_death; judging.py: counted
--- makes: temporary tables: failure, too_late, refused_first, in_the_way; indexes: failure_of, failure_before
+-- makes: temporary tables: failure, too_late, got_call, refused_first, in_the_way; indexes: failure_of, got_call_by
 
 -- The error reply that closed a failed call or refused a send: its kind, and the send.
 CREATE TEMP TABLE failure AS
@@ -13,19 +13,30 @@ UNION ALL SELECT f.id, e.kind, f.generation, s.place, e.place, 1 FROM finding f 
 UNION ALL SELECT f.id, e.kind, NULL, NULL, e.place, 1 FROM finding f JOIN raw_record e USING (place)
 WHERE f.section = 'refused' AND NOT EXISTS (SELECT 1 FROM raw_send s WHERE s.refused = f.place);
 CREATE UNIQUE INDEX temp.failure_of ON failure(id);
-CREATE INDEX temp.failure_before ON failure(generation, kind, reply);
-
--- One thread reads the news of a death while another sends: a single send soon after the news says nothing.
+-- The first news that an object has ended: of its death, or by BR_DEAD_REPLY. One thread reads it while another sends:
+-- a single send soon after the news says nothing.
 CREATE TEMP TABLE too_late AS
-SELECT e.id, t.place, count(*) OVER (PARTITION BY e.generation) > 1 OR coalesce(
+SELECT e.id, n.rule, n.place, count(*) OVER (PARTITION BY n.rule, e.generation) > 1 OR coalesce(
   (SELECT ts FROM side_time x JOIN raw_record r USING (seq) WHERE r.place = e.place)
-    - (SELECT ts FROM side_time x JOIN raw_record r USING (seq) WHERE r.place = t.place) > :VERY_LONG, 0) AS certain
-FROM failure e JOIN told_death t ON t.generation = e.generation WHERE e.kind = :BR_DEAD_REPLY AND t.place < e.place;
-UPDATE finding SET rule = 'E1', note = 'told at ' || t.place FROM too_late t
-WHERE rule IS NULL AND t.id = finding.id AND t.certain;
-UPDATE finding SET rule = 'E2' FROM failure e WHERE rule IS NULL AND e.id = finding.id AND e.kind = :BR_DEAD_REPLY
-  AND EXISTS (SELECT 1 FROM failure b WHERE b.generation = e.generation AND b.kind = :BR_DEAD_REPLY
-    AND b.reply < e.place);
+    - (SELECT ts FROM side_time x JOIN raw_record r USING (seq) WHERE r.place = n.place) > :VERY_LONG, 0) AS certain
+FROM failure e JOIN (SELECT 'E1' AS rule, generation, min(place) AS place FROM told_death GROUP BY 2
+    UNION ALL SELECT 'E2', generation, min(reply) FROM failure WHERE kind = :BR_DEAD_REPLY GROUP BY 2) n
+  ON n.generation = e.generation
+WHERE e.kind = :BR_DEAD_REPLY AND n.place < e.place;
+UPDATE finding SET rule = t.rule, note = 'told at ' || t.place
+FROM (SELECT id, min(rule) AS rule, place FROM too_late WHERE certain GROUP BY id) t
+WHERE finding.rule IS NULL AND t.id = finding.id;
+-- A process that was frozen gets no calls until it is thawed.
+CREATE TEMP TABLE got_call AS
+SELECT t.upid, c.place FROM (SELECT 1 FROM failure WHERE kind = :BR_FROZEN_REPLY LIMIT 1) CROSS JOIN raw_call c
+  JOIN raw_thread t USING (utid)
+WHERE c.served AND t.upid IN (SELECT target FROM failure e JOIN finding f USING (id) WHERE e.kind = :BR_FROZEN_REPLY);
+CREATE INDEX temp.got_call_by ON got_call(upid, place);
+UPDATE finding SET rule = 'E8',
+  note = (SELECT who FROM who WHERE upid = target) || ' was frozen, and got a call again at ' || g.place
+FROM (SELECT e.id, (SELECT min(c.place) FROM got_call c WHERE c.upid = f.target AND c.place > e.reply) AS place
+  FROM failure e JOIN finding f USING (id) WHERE e.kind = :BR_FROZEN_REPLY) g
+WHERE rule IS NULL AND g.id = finding.id AND g.place NOTNULL;
 UPDATE finding SET rule = CASE e.kind WHEN :BR_DEAD_REPLY THEN 'E3' WHEN :BR_FROZEN_REPLY THEN 'E4'
   ELSE iif(e.refused, 'E5', 'E6') END
 FROM failure e WHERE rule IS NULL AND e.id = finding.id;
@@ -38,15 +49,17 @@ FROM failure e JOIN finding f USING (id) JOIN raw_record r ON r.place = e.place
 WHERE e.refused AND f.target NOTNULL AND r.flags & :TF_ONE_WAY;
 DELETE FROM refused_first WHERE nth > 1;
 CREATE TEMP TABLE in_the_way AS
-SELECT q.id, q.target, t.upid, count(*) AS n,
-  sum((r.data_size + 7) / 8 * 8 + (r.offsets_size + 7) / 8 * 8 + (coalesce(r.extra, 0) + 7) / 8 * 8) AS bytes
-FROM (SELECT * FROM refused_first ORDER BY place LIMIT :NOTED) q JOIN node_of n ON n.upid = q.target
-  JOIN raw_send s ON s.generation = n.generation AND s.place < q.place JOIN raw_record r ON r.place = s.place
-  JOIN raw_thread t ON t.utid = s.utid LEFT JOIN raw_delivery d ON d.place = s.delivery
-WHERE s.refused IS NULL AND r.flags & :TF_ONE_WAY AND coalesce(d.freed_by > q.place, 1) GROUP BY 1, 2, 3;
+SELECT id, target, upid, count(*) AS n, sum(bytes) AS bytes, sum(iif(got, bytes, 0)) AS held
+FROM (SELECT q.id, q.target, t.upid, coalesce(d.place < q.place, 0) AS got,
+    (r.data_size + 7) / 8 * 8 + (r.offsets_size + 7) / 8 * 8 + (coalesce(r.extra, 0) + 7) / 8 * 8 AS bytes
+  FROM (SELECT * FROM refused_first ORDER BY place LIMIT :NOTED) q JOIN node_of n ON n.upid = q.target
+    JOIN raw_send s ON s.generation = n.generation AND s.place < q.place JOIN raw_record r ON r.place = s.place
+    JOIN raw_thread t ON t.utid = s.utid LEFT JOIN raw_delivery d ON d.place = s.delivery
+  WHERE s.refused IS NULL AND r.flags & :TF_ONE_WAY AND coalesce(d.freed_by > q.place, 1)) GROUP BY 1, 2, 3;
+-- The limit of -1, which is none, keeps the order.
 UPDATE finding SET note = (SELECT counted(sum(n), 'oneway send') || ' with ' || counted(sum(bytes), 'byte')
     || ' waited or were held at ' || (SELECT who FROM who w WHERE w.upid = target) || ': ' || group_concat(
       counted(n, 'send') || ' from ' || (SELECT who FROM who w WHERE w.upid = i.upid), ', ')
-  FROM (SELECT * FROM in_the_way ORDER BY n DESC) i WHERE i.id = finding.id)
+  FROM (SELECT * FROM in_the_way w WHERE w.id = finding.id ORDER BY bytes DESC, upid LIMIT -1) i)
 WHERE rule = 'E5' AND id IN (SELECT id FROM in_the_way);
 UPDATE finding SET rule = 'E7' WHERE rule IS NULL AND section = 'spam';

@@ -1,6 +1,7 @@
 -- Findings in groups, and who talks to whom: what the page shows first.
 -- needs: database/schema.sql: finding, raw_call, raw_delivery, raw_generation, raw_record, raw_send, side_time;
---   database/views.sql: process; nodes.sql: node_of, who; rule.sql: rule; judging.py: likeness, without_methods
+--   database/views.sql: process; nodes.sql: node_of, who; facts.sql: given; rule.sql: rule; causes.sql: led_by;
+--   judging.py: counted, likeness, without_methods
 -- makes: tables: title, finding_head, finding_group, traffic; temporary tables: named, ranked, common, paths; indexes:
 --   head_of_group, ranked_group, common_of, paths_of
 
@@ -24,21 +25,26 @@ INSERT INTO title VALUES
   ('H2', 'nodes', NULL, 'references given back too often'),
   ('H3', 'handles', NULL, 'references to an object told dead'),
   ('H4', 'handles', NULL, 'references taken more than once'), ('H5', 'handles', NULL, 'references kept'),
+  ('H8', 'handles', NULL, 'references kept'),
   ('U4', 'nodes', NULL, 'references never acknowledged'), ('U6', 'nodes', NULL, 'references not acknowledged yet'),
   ('T1', 'nodes', NULL, 'references not acknowledged yet'), ('F1', 'frees', NULL, 'buffers freed twice'),
   ('C6', NULL, NULL, 'calls that keep a pool busy'), ('S1', NULL, NULL, 'sends that were refused'),
-  ('S2', NULL, NULL, 'replies without a call');
+  ('S2', NULL, NULL, 'replies without a call'), (NULL, 'pools', NULL, 'pools that calls use up'),
+  (NULL, 'books', NULL, 'calls open throughout');
 
 -- The group of each finding, named by its leading finding: an open call leads its served end and its buffer.
 CREATE TABLE finding_head(id INTEGER PRIMARY KEY, grp INTEGER NOT NULL) STRICT;
 CREATE TEMP TABLE named AS
-SELECT f.id, f.path, likeness(f.path, t.who, p.name, o.who, q.name) AS likeness, f.rule,
+SELECT f.id, f.path, likeness(f.path, t.who, p.name, o.who, q.name, s.who, x.name) AS likeness, f.rule,
+  v.sender AS giver,
   CASE r.verdict WHEN 'real' THEN 1 WHEN 'maybe' THEN 2 WHEN 'explained' THEN 3 ELSE 4 END AS rank,
   (SELECT t.title FROM title t WHERE (t.rule IS NULL OR t.rule = f.rule)
     AND (t.section IS NULL OR t.section = f.section) AND (t.what IS NULL OR t.what = f.what)
     ORDER BY t.rule IS NULL, t.what IS NULL LIMIT 1) AS title
 FROM finding f JOIN rule r ON r.id = f.rule LEFT JOIN who t ON t.upid = f.target
   LEFT JOIN process p ON p.upid = f.target LEFT JOIN who o ON o.upid = f.upid LEFT JOIN process q ON q.upid = f.upid
+  LEFT JOIN given v ON v.generation = f.generation AND f.rule IN ('H5', 'H6', 'H8')
+  LEFT JOIN who s ON s.upid = v.sender LEFT JOIN process x ON x.upid = v.sender
 WHERE f.lead IS NULL;
 -- What is real and what is maybe on like paths is one group, with the strongest verdict of its findings.
 INSERT INTO finding_head
@@ -52,9 +58,10 @@ SELECT grp, min(rank) AS rank, group_concat(rule) AS rules
 FROM (SELECT DISTINCT h.grp, n.rank, n.rule FROM named n JOIN finding_head h USING (id) ORDER BY 1, 2, 3) GROUP BY grp;
 CREATE UNIQUE INDEX temp.ranked_group ON ranked(grp);
 
--- What the paths of a group have in common.
+-- What the paths of a group have in common; and if its handles came from several processes, how many these are.
 CREATE TEMP TABLE common AS
-SELECT h.grp, iif(min(n.likeness) = max(n.likeness), n.likeness, without_methods(n.likeness)) AS likeness
+SELECT h.grp, iif(min(n.likeness) = max(n.likeness), n.likeness, without_methods(n.likeness))
+  || iif(count(DISTINCT n.giver) > 1, ' (' || count(DISTINCT n.giver) || ' processes)', '') AS likeness
 FROM named n JOIN finding_head h USING (id) GROUP BY 1;
 CREATE UNIQUE INDEX temp.common_of ON common(grp);
 
@@ -66,18 +73,19 @@ FROM (SELECT h.grp, n.path, max(f.n_all) AS n_all FROM named n JOIN finding_head
 CREATE UNIQUE INDEX temp.paths_of ON paths(grp);
 
 -- A group has n findings of the n_all of its paths; those that are led do not count. Its rules begin with those of its
--- strongest verdict. Its note is that of its first finding.
+-- strongest verdict. Its note is that of its first finding. Who is who causes it.
 CREATE TABLE finding_group(grp INTEGER PRIMARY KEY, verdict TEXT NOT NULL, title TEXT NOT NULL, path TEXT NOT NULL,
   n INTEGER NOT NULL, n_all INTEGER, processes INTEGER NOT NULL, who TEXT NOT NULL, first INTEGER, last INTEGER,
   waiting INTEGER NOT NULL, rules TEXT NOT NULL, note TEXT) STRICT;
 INSERT INTO finding_group
 SELECT h.grp, CASE k.rank WHEN 1 THEN 'real' WHEN 2 THEN 'maybe' WHEN 3 THEN 'explained' ELSE 'normal' END, n.title,
-  iif(min(iif(f.lead IS NULL, f.path, NULL)) = max(iif(f.lead IS NULL, f.path, NULL)), n.path,
-    o.likeness || iif(count(DISTINCT iif(f.lead IS NULL, f.upid, NULL)) > 1,
-      ' in ' || count(DISTINCT iif(f.lead IS NULL, f.upid, NULL)) || ' processes', '')),
+  iif(min(iif(f.lead IS NULL, f.path, NULL)) = max(iif(f.lead IS NULL, f.path, NULL)), n.path, o.likeness)
+    || iif(count(DISTINCT iif(f.lead IS NULL, f.upid, NULL)) > 1 AND (n.rule IN ('H5', 'H8')
+      OR min(iif(f.lead IS NULL, f.path, NULL)) <> max(iif(f.lead IS NULL, f.path, NULL))),
+      ' in ' || count(DISTINCT iif(f.lead IS NULL, f.upid, NULL)) || ' processes', ''),
   sum(f.lead IS NULL), s.n_all,
-  count(DISTINCT iif(f.lead IS NULL, f.upid, NULL)),
-  group_concat(DISTINCT iif(f.lead IS NULL, (SELECT who FROM who w WHERE w.upid = f.upid), NULL)),
+  count(DISTINCT iif(f.lead IS NULL, coalesce(f.culprit, f.upid), NULL)),
+  group_concat(DISTINCT iif(f.lead IS NULL, (SELECT who FROM who w WHERE w.upid = coalesce(f.culprit, f.upid)), NULL)),
   min(iif(f.lead IS NULL, f.place, NULL)), max(iif(f.lead IS NULL, f.place, NULL)),
   coalesce(max(f.waiting), 0), k.rules, NULL
 FROM finding_head h JOIN finding f USING (id) JOIN named n ON n.id = h.grp JOIN ranked k ON k.grp = h.grp
@@ -85,6 +93,14 @@ FROM finding_head h JOIN finding f USING (id) JOIN named n ON n.id = h.grp JOIN 
 GROUP BY h.grp;
 UPDATE finding_group SET note = (SELECT f.note FROM finding_head h JOIN finding f USING (id)
   WHERE h.grp = finding_group.grp AND f.lead IS NULL AND f.note <> '' ORDER BY f.place LIMIT 1);
+-- And what else came of the deaths that its findings tell of.
+UPDATE finding_group SET note = coalesce(note || '; ', '') || l.told
+FROM (SELECT grp, 'with ' || group_concat(CASE rank
+    WHEN 2 THEN counted(n, 'reference to the dead', 'references to the dead')
+    WHEN 3 THEN counted(n, 'death not acknowledged', 'deaths not acknowledged')
+    ELSE counted(n, 'clear not confirmed', 'clears not confirmed') END, ' and ') AS told
+  FROM (SELECT h.grp, l.rank, count(*) AS n FROM led_by l JOIN finding_head h USING (id) GROUP BY 1, 2 ORDER BY 1, 2)
+  GROUP BY 1) l WHERE l.grp = finding_group.grp;
 
 -- Who talks to whom, by handle and code.
 CREATE TABLE traffic(upid INTEGER NOT NULL, handle INTEGER NOT NULL, generation INTEGER NOT NULL, code INTEGER NOT NULL,

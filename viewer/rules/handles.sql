@@ -1,8 +1,9 @@
 -- H1, H2: handles that nobody gave, and references let go of more often than taken; H6, H7: what the driver's books of
 -- the beginning have of these.
 -- needs: database/schema.sql: book_handle, book_node, finding, raw_delivery, raw_generation, raw_record, raw_thread,
---   report; ages.sql: begun, process_life; rule.sql: lossy; judging.py: number_in
--- makes: temporary tables: unseen, handle_row, held_before
+--   report; facts.sql: given, given_way; ages.sql: begun, process_life; rule.sql: lossy; judging.py: counted, number_in
+-- makes: temporary tables: unseen, handle_row, held_before, let_go_again, again_way, too_often; indexes:
+--   let_go_again_of
 
 -- The first delivery to a process of which it is not known which objects it had: its data are not in the capture.
 CREATE TEMP TABLE unseen AS
@@ -59,3 +60,23 @@ WHERE rule IS NULL AND section = 'handles' AND h.id = finding.id AND NOT h.given
 UPDATE finding SET rule = iif(h.known, iif(finding.upid IN (SELECT upid FROM lossy), 'M1', 'H2'), 'P1')
 FROM handle_row h
 WHERE rule IS NULL AND h.id = finding.id AND h.least < 0;
+-- How often a handle was let go of too often, in all that the capture has of it: its number may have meant one object
+-- after another, each let go of so. Then by which calls or replies the first such one came, and how many of those that
+-- its process got so are such.
+CREATE TEMP TABLE let_go_again AS
+SELECT g.id AS generation, g.upid, g.handle, v.way FROM raw_generation g LEFT JOIN given v ON v.generation = g.id
+WHERE EXISTS (SELECT 1 FROM finding WHERE rule = 'H2' AND section = 'handles')
+  AND (g.released > g.acquired OR g.decrefs > g.increfs);
+CREATE INDEX temp.let_go_again_of ON let_go_again(upid, handle);
+CREATE TEMP TABLE again_way AS SELECT upid, way, count(*) AS n FROM let_go_again WHERE way NOTNULL GROUP BY 1, 2;
+CREATE TEMP TABLE too_often AS
+SELECT f.id, f.upid, -min(0, number_in(f.section, r.text, 'strong_low') + coalesce(k.strong, 0))
+    - min(0, number_in(f.section, r.text, 'weak_low') + coalesce(k.weak, 0)) AS n,
+  (SELECT a.way FROM let_go_again a WHERE (a.upid, a.handle) = (f.upid, f.handle) ORDER BY a.generation LIMIT 1) AS way
+FROM finding f JOIN report r ON r.id = f.report
+  LEFT JOIN book_handle k ON (k.moment, k.upid, k.handle) = ('begin', f.upid, f.handle)
+WHERE f.rule = 'H2' AND f.section = 'handles';
+UPDATE finding SET note = coalesce(note || '; ', '') || counted(o.n, 'time') || ' too often'
+  || coalesce('; ' || o.way || ': ' || a.n || ' of '
+    || (SELECT sum(w.n) FROM given_way w WHERE (w.upid, w.way) = (a.upid, a.way)) || ' that came so', '')
+FROM too_often o LEFT JOIN again_way a USING (upid, way) WHERE o.id = finding.id;

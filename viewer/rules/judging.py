@@ -12,9 +12,10 @@ from viewer.units import counted, duration_of, likeness, status_name
 FOLDER = pathlib.Path(__file__).resolve().parent
 
 # The files that judge the rows of the report, in order. The first rule that fits a finding decides.
-JUDGING = ("nodes.sql", "names.sql", "facts.sql", "late.sql", "ages.sql", "waits.sql", "rule.sql", "calls.sql",
-           "failures.sql", "answers.sql", "strays.sql", "buffers.sql", "handles.sql", "held.sql", "requests.sql",
-           "deaths.sql", "frees.sql", "objects.sql", "oneway.sql", "groups.sql", "stacks.sql")
+JUDGING = ("nodes.sql", "names.sql", "facts.sql", "late.sql", "ages.sql", "waits.sql", "rule.sql", "pools.sql",
+           "calls.sql", "used_up.sql", "failures.sql", "answers.sql", "strays.sql", "buffers.sql", "handles.sql",
+           "ways.sql", "held.sql", "requests.sql", "deaths.sql", "frees.sql", "objects.sql", "oneway.sql",
+           "culprits.sql", "causes.sql", "groups.sql", "stacks.sql")
 
 
 def judge(database: sqlite3.Connection, folder: pathlib.Path = FOLDER) -> None:
@@ -25,7 +26,7 @@ def judge(database: sqlite3.Connection, folder: pathlib.Path = FOLDER) -> None:
     `without_methods(path)` takes methods and packages out."""
     database.create_function("duration", 1, duration_of, deterministic=True)
     database.create_function("counted", -1, counted, deterministic=True)
-    database.create_function("likeness", 5, likeness, deterministic=True)
+    database.create_function("likeness", -1, likeness, deterministic=True)
     database.create_function("number_in", 3, number_of, deterministic=True)
     database.create_function("status_name", 1, status_name, deterministic=True)
     numbers = {**named_numbers(database), **THRESHOLDS}

@@ -2,24 +2,30 @@
 If one changes, the sentences of its rules change too, in rule.sql and in docs/VIEW.md."""
 
 THRESHOLDS = {
-    # Nothing younger is old or late (U2, U4, C1, H3); and what is left undone so shortly before an end, or freed only
-    # then, comes of that end (T1, W2).
+    # Nothing younger is old or late (U2, U4, C1, H3); what is left undone so shortly before an end, or freed only then,
+    # comes of that end (T1, W2); and a thread that did something so shortly before it waits for no lock (C8, C9).
     "LONG": 100_000_000,
-    # Long even for a single send or handle after the news of a death (E1, H3), and for what waits for a busy pool (C6).
-    # Up to here a buffer is also under way if no more frames came over it than over others (U1).
+    # Long even for a single send or handle after the news of a death (E1, E2, H3), and for what waits for a busy pool
+    # (C6, Q1, Q2). Up to here a buffer is also under way if no more frames came over it than over others (U1).
     "VERY_LONG": 1_000_000_000,
-    # Old is what has lasted over so many times as long as the longest of its path that came to a good end (U2).
+    # Old is what has lasted over so many times as long as the longest of its path that came to a good end (U2, C8), or
+    # what waits for a pool so many times as long as the median (Q1).
     "OLD": 10,
     # For up to so many times as long, a call or a oneway send is under way (U1).
     "USUAL": 2,
     # So many must have come to a good end before the longest of them says something (U1, U2).
     "ENOUGH": 3,
-    # So many are no accident: of one path (U3, R1), of one process (H3), or times that a thread went on (U2).
+    # So many are no accident: of one path (U3, R1), of one process (H3), for one pool (Q1), or times that a thread went
+    # on (U2).
     "OFTEN": 3,
-    # This share of a path is nearly all of it (U3, R1, H5).
+    # This share of a path is nearly all of it (U3, R1, H5); so is that of a time for which loopers were busy, and the
+    # rest of it is enough for a method to be named (Q1, Q2).
     "NEARLY_ALL": 0.8,
-    # So many handles that one process handed over may be a leak (H5).
+    # So many handles that one process handed over may be a leak (H5), and so many that were let go of tell how long one
+    # is needed (H8).
     "MANY": 4,
+    # What came, or was used, in this last part of a time came, or was used, lately (H5, H6, H8).
+    "LATELY": 0.5,
 
     # -- How far statements look, since more says no more.
     # `later` of a finding rises up to here, and so many calls, or frames, after it are looked at.
@@ -28,7 +34,8 @@ THRESHOLDS = {
     "SAMPLE": 10_000,
     # So many steps are taken from a handle that was passed on to its node, and from a call to those that it waits for.
     "STEPS": 8,
-    # A process that has no more open calls than these may wait, with each of them, for each of another such process.
+    # A process that has no more open calls than these may wait, with each of them, for each of another such process;
+    # and what others wait for there may wait for each of these calls (C8, C9).
     "FEW": 16,
     # So many refused sends have a note of what was in the way, and so many others are named that keep handles, too.
     "NOTED": 16, "NAMED": 4,

@@ -1,20 +1,25 @@
 -- What open calls wait for, and what the threads do that could take them.
--- needs: database/schema.sql: book_call, finding, raw_call, raw_process, raw_record, raw_send, raw_thread, side_calls,
---   side_thread, side_time; database/views.sql: came_to, process, sent_to, thread; ages.sql: last, life, process_life;
---   judging.py: call_name, duration
--- makes: temporary tables: waits, few, waits_for, main_thread, ring, serves_on, queued, loop, taker, taken, holder,
---   pool, full_pool, step, waited; indexes: waits_thread, waits_server, waits_delivery, next_wait, queued_at, pool_of,
+-- needs: database/schema.sql: book_call, book_open, book_process, finding, raw_call, raw_process, raw_record, raw_send,
+--   raw_thread, side_calls, side_thread, side_time; database/views.sql: came_to, process, sent_to, thread; facts.sql:
+--   from_before; ages.sql: last, life, old, process_life; judging.py: call_name, duration
+-- makes: temporary tables: waits, few, waits_for, main_thread, ring_step, ring, lock_step, lock_way, lock_ring,
+--   serves_on, queued, loop, taker, taken, holder, pool, full_pool, step, waited; indexes: waits_thread, waits_server,
+--   waits_delivery, next_wait, ring_step_from, lock_step_from, lock_way_from, lock_ring_of, queued_at, pool_of,
 --   full_pool_of, step_from, waited_for
 
 -- Open calls, and what they wait for: the innermost call that the thread that got the call has made since; or, for a
 -- call that nobody got, the calls of the process that should get it. A call back to a process that waits for this very
 -- thread goes to the thread that waits: it is under way.
+-- The places of calls from before the recording are below 0, and a thread without a frame is its id below 0.
 CREATE TEMP TABLE waits AS
 SELECT f.id, f.place, f.upid, f.utid, s.delivery, v.utid AS server, v.verdict AS replied,
-  coalesce(st.upid, f.target) AS server_upid
+  coalesce(st.upid, f.target) AS server_upid, 'the call at ' || f.place AS called
 FROM finding f JOIN raw_send s USING (place) LEFT JOIN raw_call v ON v.place = s.delivery
   LEFT JOIN raw_thread st ON st.utid = v.utid
-WHERE f.section = 'calls' AND f.what = 'open';
+WHERE f.section = 'calls' AND f.what = 'open'
+UNION ALL SELECT b.id, b.place, b.upid, coalesce(b.utid, -b.tid), b.delivery, coalesce(b.server_utid, -b.server_tid),
+  iif(b.delivery NOTNULL, 0, NULL), b.server, 'the call from before by thread ' || b.tid
+FROM from_before b;
 CREATE INDEX temp.waits_thread ON waits(utid, place);
 CREATE INDEX temp.waits_server ON waits(server, upid);
 CREATE INDEX temp.waits_delivery ON waits(delivery);
@@ -30,32 +35,68 @@ DELETE FROM waits_for WHERE next IS NULL;
 -- A thread that got a call and makes none itself may wait for the main thread of its process, which serves for it: so
 -- does libgbinder. If the main thread is in a call, the call may wait for that one.
 CREATE TEMP TABLE main_thread AS
-SELECT t.upid, t.utid FROM thread t JOIN process p USING (upid)
-WHERE t.tid = p.pid AND t.upid IN (SELECT server_upid FROM waits);
+SELECT p.upid, coalesce(t.utid, -p.pid) AS utid FROM process p LEFT JOIN thread t ON t.upid = p.upid AND t.tid = p.pid
+WHERE p.upid IN (SELECT server_upid FROM waits) AND p.pid NOTNULL;
 INSERT INTO waits_for
 SELECT w.id, (SELECT n.id FROM waits n WHERE n.utid = m.utid ORDER BY n.place DESC LIMIT 1) AS next, 1
 FROM waits w JOIN main_thread m ON m.upid = w.server_upid
 WHERE w.replied = 0 AND w.server <> m.utid AND w.id NOT IN (SELECT id FROM waits_for) AND next NOTNULL;
 CREATE INDEX temp.next_wait ON waits_for(id);
+-- What was open throughout may be a long poll: a call that is young is in no ring with it.
+CREATE TEMP TABLE ring_step AS
+SELECT id, next FROM waits_for
+WHERE id NOT IN (SELECT id FROM from_before) AND next NOT IN (SELECT id FROM from_before)
+  OR id IN (SELECT id FROM old) AND next IN (SELECT id FROM old);
+CREATE INDEX temp.ring_step_from ON ring_step(id);
 CREATE TEMP TABLE ring AS
 WITH RECURSIVE chain(id, at, length) AS (SELECT id, id, 0 FROM waits
-  UNION SELECT c.id, n.next, c.length + 1 FROM chain c JOIN waits_for n ON n.id = c.at WHERE c.length < :STEPS)
+  UNION SELECT c.id, n.next, c.length + 1 FROM chain c JOIN ring_step n ON n.id = c.at WHERE c.length < :STEPS)
 SELECT DISTINCT w.id FROM chain c JOIN waits w ON w.id = c.id JOIN waits e ON e.id = c.at
 WHERE c.length > 0 AND e.server_upid = w.upid AND (e.delivery IS NULL OR e.server <> w.utid
   AND e.replied = 0 AND w.utid IN (SELECT utid FROM main_thread));
-INSERT INTO ring SELECT n.next FROM waits_for n JOIN ring r ON r.id = n.id WHERE n.next NOT IN (SELECT id FROM ring);
+INSERT INTO ring SELECT n.next FROM ring_step n JOIN ring r ON r.id = n.id WHERE n.next NOT IN (SELECT id FROM ring);
+
+-- ---- rings over processes
+
+-- A thread that serves a call, makes none, and did nothing in the last :LONG may wait for a lock, and each other thread
+-- of its process that is in a call may have that lock: the call may wait for each of these calls. By such steps, and by
+-- those from a call to the one that its thread makes, calls of several processes may wait for each other. All of them
+-- are old, and were delivered: what nobody got waits for a thread, and for no lock.
+CREATE TEMP TABLE lock_step AS
+WITH stuck AS (SELECT w.* FROM waits w WHERE w.delivery NOTNULL AND w.replied = 0 AND w.id IN (SELECT id FROM old))
+SELECT w.id, n.id AS next, 1 AS by_lock
+FROM last, stuck w LEFT JOIN raw_thread t ON t.utid = w.server LEFT JOIN side_time x ON x.seq = t.last_seq
+  JOIN stuck n ON n.upid = w.server_upid AND n.utid <> w.server
+WHERE w.server_upid IN (SELECT upid FROM few) AND coalesce(last.ts - x.ts > :LONG, 1)
+  AND NOT EXISTS (SELECT 1 FROM waits_for f WHERE f.id = w.id AND NOT f.by_main)
+UNION ALL
+SELECT w.id, n.id, 0 FROM stuck w JOIN waits_for f USING (id) JOIN stuck n ON n.id = f.next WHERE NOT f.by_main;
+CREATE INDEX temp.lock_step_from ON lock_step(id);
+CREATE TEMP TABLE lock_way AS
+WITH RECURSIVE way(id, at, length, by_lock) AS (SELECT id, next, 1, by_lock FROM lock_step
+  UNION SELECT w.id, s.next, w.length + 1, max(w.by_lock, s.by_lock) FROM way w JOIN lock_step s ON s.id = w.at
+    WHERE w.length < :STEPS AND w.at <> w.id)
+SELECT DISTINCT id, at, by_lock FROM way;
+CREATE INDEX temp.lock_way_from ON lock_way(id, at);
+-- The calls of such a ring, each with the first call that it may wait for there.
+CREATE TEMP TABLE lock_ring AS
+SELECT s.id, min(n.place) AS place, n.id AS next FROM lock_step s JOIN waits n ON n.id = s.next
+WHERE s.id IN (SELECT id FROM lock_way WHERE at = id AND by_lock)
+  AND EXISTS (SELECT 1 FROM lock_way w WHERE w.id = s.next AND w.at = s.id) GROUP BY s.id;
+CREATE UNIQUE INDEX temp.lock_ring_of ON lock_ring(id);
 
 -- ---- the pools of threads of processes that should get what waits
 
 -- The threads that serve a call from before the capture, as the side list of a flight recorder or the driver's books
--- say: they have not replied to as many calls as they served then, and had not ended at the last frame. A thread
--- without a frame has no utid.
+-- say: they have not replied to as many calls as they served then, and had not ended at the last frame.
 CREATE TEMP TABLE serves_on AS
-SELECT p.upid, t.utid FROM (SELECT device, process, thread, served FROM side_calls
+SELECT p.upid, coalesce(t.utid, -c.thread) AS utid FROM (SELECT device, process, thread, served FROM side_calls
     UNION ALL SELECT p.device, p.process, coalesce(t.thread, b.tid), count(*)
       FROM book_call b JOIN raw_process p USING (upid) LEFT JOIN raw_thread t ON t.utid = b.utid
-      WHERE b.moment = 'begin' AND b.side = 'served' GROUP BY 1, 2, 3) c
-  JOIN raw_process p USING (device, process) JOIN process_life l USING (upid)
+      WHERE b.moment = 'begin' AND b.side = 'served' GROUP BY 1, 2, 3
+    UNION ALL SELECT p.device, p.pid, b.server_tid, count(*) FROM book_open b JOIN book_process p ON p.upid = b.server
+      WHERE b.server_tid NOTNULL GROUP BY 1, 2, 3) c
+  JOIN process p USING (device, process) JOIN process_life l USING (upid)
   LEFT JOIN raw_thread t ON t.upid = p.upid AND t.thread = c.thread
   LEFT JOIN side_thread s ON (s.device, s.process, s.thread) = (c.device, c.process, c.thread), last
 WHERE coalesce(l.ended_after = last.seq, 1) AND coalesce(s.ended_after >= last.seq, 1)
@@ -100,12 +141,13 @@ FROM last, taker k LEFT JOIN life l ON l.utid = k.utid
   LEFT JOIN raw_record o ON o.place = k.last_record AND o.kind IN (:BR_TRANSACTION, :BR_TRANSACTION_SEC_CTX)
     AND o.flags & :TF_ONE_WAY AND c.place IS NULL
   LEFT JOIN raw_record r ON r.place = coalesce(c.place, o.place) LEFT JOIN side_time x ON x.seq = r.seq;
--- The finding of what a thread is in: the open call that it makes or serves, or the buffer.
+-- The finding of what a thread is in: the open call that it makes or serves, also one from before, or the buffer.
 CREATE TEMP TABLE holder AS
 SELECT t.upid, coalesce((SELECT w.id FROM waits w WHERE w.delivery = t.place OR w.place = t.place),
-  (SELECT f.id FROM finding f WHERE f.place = t.place AND f.section IN ('served', 'buffers') ORDER BY section DESC))
+  (SELECT f.id FROM finding f WHERE f.place = t.place AND f.section IN ('served', 'buffers') ORDER BY section DESC),
+  (SELECT w.id FROM waits w WHERE w.server = t.utid AND w.place < 0 AND t.place IS NULL ORDER BY w.delivery DESC))
   AS id
-FROM taken t WHERE t.place NOTNULL;
+FROM taken t WHERE t.place NOTNULL OR t.earlier;
 DELETE FROM holder WHERE id IS NULL;
 -- Of a process that was met in mid-life, other threads may take calls too.
 CREATE TEMP TABLE pool AS

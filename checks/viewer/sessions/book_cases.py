@@ -27,6 +27,14 @@ def transaction_of(kind, reply=1, code=3):
     return f"{kind} transaction 102: ff2116b3824dd9c0 from 200:200 to 100:100 code {code} flags 0 pri 0 r{reply}"
 
 
+def call_of(number, caller, server, has, node=0, code=3):
+    """The line of a call, from a process and a thread to another, in the list of the one that `has` it."""
+    (pid, tid), (to, by) = caller, server
+    told = f" node {node} size 0:0 offset 0" if node else ""
+    return (f"{has} transaction {number}: ff2116b3824dd9c0 from {pid}:{tid} to {to}:{by} code {code:x} flags 10 pri"
+            f" 0:120 r1{told}")
+
+
 DEAD, CLEARED = "  has delivered dead binder\n", "  has cleared death notification\n"
 REPLY = Sent(None, 0, 0, b"", b"").record(BC_REPLY)
 
@@ -44,7 +52,7 @@ def begun(s, client="", service="", early=False, **given):
 
 @case("H7:1", "before the recording: strong 1, weak 0", had=1, times=1)
 @case("H6:1", "before the recording: strong 2, weak 0", had=2, times=1)
-@case("H2:1", "handle 7, service 100 node 0x700 (before", had=1, times=2)
+@case("H2:1", "(before the recording: strong 1, weak 0; 1 time too often)", had=1, times=2)
 @case("H1:1", had=0, times=1)
 @case("M1:1", had=0, times=1, lost=True)
 @case("M1:1", had=1, times=2, lost=True)
@@ -182,3 +190,103 @@ def pool_from_before(s, kind, replies=False):
     for number in 300, 301:
         s.process(number, "other").main.sends(0, 1)
     s.wait(1100)
+
+
+# ---- calls that are in the book of the beginning and in that of the end
+
+
+def through(s, calls, wait=300, again=None, does=lambda *both: None, **given):
+    """Calls are open when the recording begins, and those of `again`, or the same, when it ends: each has a number, its
+    caller and its server, with their threads; 0 is no thread. The processes 100 and 200 have frames; in 300 to 302 all
+    hangs, so that they have none."""
+    def book(calls):
+        told = {pid: {} for pid in (100, 200, 300, 301, 302)}
+        for number, caller, server in reversed(calls):
+            told[caller[0]].setdefault(caller[1], []).append(call_of(number, caller, server, "outgoing"))
+            told[server[0]].setdefault(server[1], []).append(
+                call_of(number, caller, server, "incoming" if server[1] else "pending", server[0]))
+        lines = {pid: own(0x700, number=pid) + "".join(
+            f"  {line}\n" for line in threads.pop(0, [])) + "".join(
+                thread(tid, *lines) for tid, lines in threads.items()) for pid, threads in told.items()}
+        lines[200] += ref(7, node=100) + ref(8, node=301)
+        return {f"of_{pid}": text for pid, text in lines.items()}
+    for pid in (100, 200, 300, 301, 302):
+        s.tell(f"met opening={pid} pid={pid} name=of-{pid}")
+    s.books("begin", **book(calls))
+    s.wait(200)
+    service, client = s.two("in-mid-life", **given)
+    client.main.writes(ENTER)
+    does(service, client)
+    s.wait(wait)
+    s.books("end", **book(calls if again is None else again))
+
+
+FIRST = (9569, (200, 201), (100, 101))
+
+
+@case("B1:1", "thread 201 of client 200 waits for thread 101 of service 100", "code 3 to service 100 node 0x700",
+      "B1 by service 100: 1", calls=[FIRST])
+@case("B1:1", "thread 201 of client 200 waits for service 100, where no thread got it",
+      calls=[(9569, (200, 201), (100, 0))])
+@case("", calls=[FIRST], again=[])
+@case("", calls=[], again=[FIRST])
+@case("", calls=[FIRST], again=[(9570, *FIRST[1:])])
+@case("B1:1", "thread 300 of of-300 300 waits for thread 301 of of-301 301", "code 3 to of-301 301 node 0x700",
+      calls=[(9569, (300, 300), (301, 301))])
+@case("B1:1 C7:1", "(the call from before by thread 301)",
+      calls=[(9569, (300, 300), (301, 301)), (9570, (301, 301), (302, 302))])
+@case("C3:2", "C3 by of-300 300: 1", "C3 by of-301 301: 1",
+      calls=[(9569, (300, 300), (301, 0)), (9571, (301, 301), (300, 0))])
+@case("C3:3", calls=[(9569, (300, 300), (301, 0)), (9571, (301, 301), (302, 0)), (9573, (302, 302), (300, 0))])
+@case("C3:2", calls=[(9569, (200, 201), (100, 0)), (9571, (100, 101), (200, 0))])
+@case("C3:2", calls=[(9569, (300, 300), (301, 305)), (9571, (301, 301), (300, 305))])
+@case("C9:2", "in a ring with the call from before by thread 300 of of-300 300, code 3 to of-301 301 node 0x700",
+      calls=[(9569, (300, 300), (301, 305)), (9571, (301, 306), (300, 305))])
+@case("B1:1 C7:1", calls=[(9569, (300, 300), (301, 305)), (9571, (301, 305), (300, 300))])
+def open_throughout(s, **given):
+    through(s, **given)
+
+
+@case("C6:1 C7:2", "2 wait for it; thread 201 of client 200 waits for thread 101 of service 100", wait=1100)
+@case("B1:1 C7:2", wait=900)
+@case("C6:1 C7:2", to=8, server=(301, 301), wait=1100)
+def throughout_in_a_pool(s, wait, to=7, server=(100, 101)):
+    """The only looper of a service serves a call from before, and two calls wait for it."""
+    def calls(_, client):
+        client.main.sends(to, 1)
+        client.thread(2).sends(to, 1)
+    through(s, [(9569, (200, 201), server)], wait, does=calls, enters=False)
+
+
+@case("U1:1", took=700, wait=200)
+@case("B1:1", took=700, wait=800)
+def throughout_like_others(s, took, wait):
+    """Others of its path took as long as the recording, or not."""
+    def calls(service, client):
+        callers = [client.thread(at) for at in range(10, 13)]
+        served = [service.thread(at) for at in range(10, 13)]
+        got = [one.gets(other.sends(7, 3), 0x700) for one, other in zip(served, callers)]
+        s.wait(took)
+        for one, other, address in zip(served, callers, got):
+            other.answered(one.replies(address))
+    through(s, [FIRST], wait, does=calls)
+
+
+@case("C3:2 A1:2", wait=300)
+@case("B1:1 U6:1 A1:2", wait=50)
+def throughout_beside_a_call(s, wait):
+    """The main thread of a service is in a call from before to the client, whose main thread makes a call that another
+    thread of the service serves."""
+    def calls(service, client):
+        service.thread(1).gets(client.main.sends(7, 1), 0x700)
+    through(s, [(9569, (100, 100), (200, 205))], wait, does=calls, enters=False)
+
+
+@case("C4:1 C7:1 A1:2", "(the call at ", on=True)
+@case("B1:1 C4:1 A1:2", on=False)
+def throughout_goes_on(s, on):
+    """The thread that serves a call from before, or another one, makes a call that is never answered."""
+    def calls(service, client):
+        sink = s.process(303, "sink")
+        sink.main.gets(service.thread(1 if on else 2).sends(9, 4), 0x900)
+    through(s, [FIRST], 300, does=calls)

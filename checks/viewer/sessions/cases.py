@@ -34,18 +34,20 @@ def case(due, *words, has_side=True, **given):
 # ---- calls that wait
 
 
-@case("C4:1 A1:2", "has done nothing since", wait=200)
-@case("U6:1 A1:2", wait=50)
+@case("C4:1 A1:2", "has done nothing since", "C4 by service 100: 1", wait=200)
+@case("U6:1 A1:2", "U6 by service 100: 1", wait=50)
 def never_answered(s, wait):
     service, client = s.two()
     service.main.gets(client.main.sends(0, 1))
     s.wait(wait)
 
 
-@case("C6:1 C7:2 A1:2", "its only looper is in code 10 since", "2 sends wait", "2 wait for it", wait=1100)
+@case("C6:1 C7:2 A1:2", "its only looper is in code 10 since", "2 sends wait", "2 wait for it", "C6 by service 100: 1",
+      "C7 by service 100: 2", wait=1100)
 @case("C4:1 C7:2 A1:2", "2 wait for it", wait=900)
 @case("U6:1 C7:2 A1:2", wait=20)
-@case("U6:1 C7:2 A1:2", wait=1100, took=150)
+@case("U6:1 C7:2 A1:2 Q2:1", "code 10 at service 100 node 0x0", wait=1100, took=150)
+@case("U6:1 C7:2 A1:2", wait=900, took=150)
 @case("C6:1 C7:2 A1:2", "its only looper is in code 10 since", wait=1100, enters=False)
 @case("C6:1 C7:2 A1:2", "its only looper is in code 10 since", "2 wait for it", wait=1100, killed=True)
 def others_queue(s, wait, took=0, enters=True, killed=False):
@@ -67,7 +69,7 @@ def others_queue(s, wait, took=0, enters=True, killed=False):
 
 @case("C3:2 A1:4", mains=True)
 @case("U6:2 A1:4", mains=True, wait=50)
-@case("C4:2 A1:4", "its main thread waits for the call at", mains=False)
+@case("C9:2 A1:4", "its main thread waits for the call at", mains=False)
 def embrace_of_mains(s, mains, wait=300):
     """The loopers of two processes wait for their main threads, which wait for each other. The other way: the second
     call is not by the main thread."""
@@ -79,7 +81,96 @@ def embrace_of_mains(s, mains, wait=300):
     s.wait(wait)
 
 
-@case("C3:2 C6:1 C7:1 A1:4", "3 wait for it; not got: its only looper is in code 3 since")
+def with_each_other(s):
+    """A service and a client that each have an object of the other, with a looper of the client."""
+    service, client = s.two()
+    client.main.gives(service.main, 7)
+    return service, client, client.looper(1)
+
+
+@case("C8:2 A1:4", "service 100 got it at", "thread 101 has done nothing since; in a ring with the call at ",
+      " of service 100, code 2 to client 200 node 0x9700", " of client 200, code 11 to service 100 node 0x0",
+      "C8 by service 100: 1", "C8 by client 200: 1")
+@case("C9:2 A1:4", "; in a ring with the call at ", "C9 by service 100: 1", good=2)
+@case("U6:2 A1:4", wait=50)
+@case("U6:2 A1:4", took=30, wait=250)
+@case("C8:2 A1:4", took=30, wait=350)
+@case("C8:2 A1:4", active=190)
+@case("U2:2 A1:4", active=210)
+@case("U2:1 U6:1 A1:4", slow=30, wait=250)
+@case("C8:2 A1:4", slow=30, wait=350)
+@case("M2:2 A1:4", lost=True)
+@case("C4:1 C8:2 A1:6", "of service 100, code 2 to client 200 node 0x9700", before=True)
+@case("C8:2 A1:4 C5:15", others=15)
+@case("U2:2 A1:4 C5:16", others=16)
+def ring_of_locks(s, good=3, took=0, wait=300, active=0, lost=False, others=0, slow=0, before=False):
+    """Threads of two processes serve a call of the other one and do nothing more. Before, both calls took so long, and
+    the second one some more. One of the threads may have done something later. Other threads of its process are in
+    calls, too, one of them of a call that came before and is served."""
+    service, client, back = with_each_other(s)
+    one, two = service.looper(1), service.looper(2)
+    for _ in range(good):
+        client.main.asks(one, 11, took=took)
+        two.asks(back, 2, 7, 0x9700, took=took + slow)
+    if lost:
+        s.loses(service)
+    sink = s.process(300, "sink") if others or before else None
+    if sink:
+        sink.main.gives(service.main, 8)
+    if before:
+        sink.main.gets(service.thread(9).sends(8, 3), 0x9800)
+    one.gets(client.main.sends(0, 11))
+    back.gets(two.sends(7, 2), 0x9700)
+    for at in range(others):
+        service.thread(10 + at).sends(8, 3)
+    s.wait(active)
+    if active:
+        one.writes(ENTER)
+    s.wait(wait - active)
+
+
+@case("C7:1 U2:1 A1:4")
+def no_ring_of_one_thread(s):
+    """A call is served by a call back, which the thread that waits serves, and never replies."""
+    service, client, back = with_each_other(s)
+    for _ in range(3):
+        service.main.asks(back, 2, 7, 0x9700)
+    service.main.gets(client.main.sends(0, 11))
+    client.main.gets(service.main.sends(7, 2), 0x9700)
+    s.wait(300)
+
+
+@case("C9:3 A1:6", then="round")
+@case("C4:1 C9:2 A1:6", then="back")
+@case("C7:1 C9:2 A1:6", then="on")
+@case("C8:3 A1:6", then="on", good=3)
+@case("C4:2 A1:4", then="no more")
+@case("C4:2 C7:1 A1:6", then="aside")
+def ring_of_three(s, then, good=0):
+    """A client calls a service, another thread of which calls a third process, another thread of which calls the client
+    or the service. Or the thread of the service that serves the client calls the third process, and that one calls the
+    client, or another thread of the service does."""
+    service, client, back = with_each_other(s)
+    third = s.process(300, "third")
+    third.main.gives(service.main, 8)
+    third.main.is_given(service.main, 4, server_handle=7)
+    one, two, other = service.looper(1), service.looper(2), service.looper(3)
+    ours, last = third.looper(1), third.looper(2)
+    caller = one if then in ("on", "aside") else two
+    for _ in range(good):
+        client.main.asks(one, 11)
+        caller.asks(ours, 12, 8, 0x9800)
+        last.asks(back, 2, 4, 0x9700)
+    one.gets(client.main.sends(0, 11))
+    ours.gets(caller.sends(8, 12), 0x9800)
+    if then == "back":
+        other.gets(last.sends(0, 13))
+    elif then != "no more":
+        back.gets(two.sends(7, 2) if then == "aside" else last.sends(4, 2), 0x9700)
+    s.wait(300)
+
+
+@case("C3:2 C6:1 C7:1 A1:4", "3 wait for it; not got: its only looper is in code 3 since", "C3 by service 100: 2")
 def embrace_through_a_pool(s):
     """A looper of the client serves a call, and waits for its main thread. That one calls the service, whose looper
     waits for its own main thread, which calls back and gets no thread of the client. Another call waits at the
@@ -97,7 +188,7 @@ def embrace_through_a_pool(s):
 
 
 @case("C6:2 A1:4 C7:1", "its 2 loopers are in", free=False)
-@case("C4:2 A1:4 C5:1", free=True)
+@case("C4:2 A1:4 C5:1", "C5 by service 100: 1", free=True)
 @case("C6:2 A1:4 C7:1", free=True, exits=True)
 def pool_of_two(s, free, exits=False):
     """Two loopers of a service are in calls, and a third call waits; or a third looper is free, and did not get it; or
@@ -167,7 +258,7 @@ def only_looper_serves_on(s, serves):
 
 
 @case("T1:1", "replied at", ends=1)
-@case("C1:1", "replied at", wait=200)
+@case("C1:1", "replied at", "C1 by client 200: 1", wait=200)
 @case("C2:1", "replied at", wait=50)
 def answer_unread(s, ends=0, wait=0):
     """A call is answered after its thread has ended; or long, or shortly, before the end."""
@@ -185,9 +276,10 @@ def answer_unread(s, ends=0, wait=0):
 # ---- calls that failed
 
 
-@case("E3:1", sends=1, after=500)
-@case("E1:1", "told at", sends=1, after=1500)
+@case("E3:1", "E3 by short-lived 300: 1", sends=1, after=500)
+@case("E1:1", "told at", "E1 by client 200: 1", sends=1, after=1500)
 @case("E1:2", "told at", sends=2, after=10)
+@case("E1:3", "told at", sends=3, after=10)
 def calls_the_dead(s, sends, after):
     """The client is told of a death, and calls the dead object."""
     service, client = s.two()
@@ -224,31 +316,62 @@ def news_during_calls(s):
 
 
 @case("E3:2", crossing=True)
-@case("E2:1 E3:1", crossing=False)
-def dead_reply_before(s, crossing):
-    """Two threads call an object that ends, both before it ends; or the second after the first has read so."""
+@case("E3:2", crossing=True, before=1100)
+@case("E3:2")
+@case("E3:2", wait=900)
+@case("E2:1 E3:1", "told at", wait=1100)
+@case("E2:2 E3:1", "told at", sends=2)
+def dead_reply_before(s, crossing=False, sends=1, before=0, wait=0):
+    """Two threads call an object that ends, both before it ends; or the second after the first has read so, soon or
+    not, once or twice."""
     service, client = s.two()
     one, two = client.main, client.thread(1)
     one.sends(0, 1)
+    s.wait(before)
     if crossing:
         two.sends(0, 1)
     one.reads(record(BR_DEAD_REPLY))
-    if not crossing:
-        two.sends(0, 1)
-    two.reads(record(BR_DEAD_REPLY))
+    s.wait(wait)
+    for at in range(sends):
+        if not crossing:
+            two.sends(0, 1)
+        two.reads(record(BR_DEAD_REPLY))
 
 
-@case("R1:3", "code 7 to service 100 node 0x0: -74 EBADMSG", wrong=3, right=0)
+@case("E4:1", "E4 by service 100: 1", then="nothing")
+@case("E4:1", then="oneway")
+@case("E4:1", then="work")
+@case("E8:1", "service 100 was frozen, and got a call again at", "E8 by service 100: 1", then="call")
+def frozen(s, then):
+    """A call is refused, since its server is frozen, which was called before. Then it gets a call, or a oneway
+    transaction, which does not say that it was thawed, or does something of its own, or nothing."""
+    service, client = s.two()
+    client.main.asks(service.main)
+    client.main.sends(0, 1)
+    client.main.reads(record(BR_FROZEN_REPLY))
+    if then == "call":
+        client.main.asks(service.main)
+    elif then == "oneway":
+        service.main.frees(service.main.gets(client.main.sends(0, 7, ONE_WAY)))
+    elif then == "work":
+        service.main.writes(ENTER)
+
+
+@case("R1:3", "code 7 to service 100 node 0x0: -74 EBADMSG", "R1 by client 200: 3", wrong=3, right=0)
+@case("R1:3", "R1 by service 100: 3", wrong=3, right=0, others=1)
 @case("R2:2", wrong=2, right=0)
 @case("R1:4", wrong=4, right=1)
 @case("R2:3", wrong=3, right=1)
-def answered_with_a_status(s, wrong, right):
+def answered_with_a_status(s, wrong, right, others=0):
+    """Calls are answered with a status; the last ones are of another process."""
     service, client = s.two()
+    other = s.process(300, "other") if others else None
     for _ in range(right):
         client.main.asks(service.main, 7)
-    for _ in range(wrong):
-        address = service.main.gets(client.main.sends(0, 7))
-        client.main.answered(service.main.replies(address, (-74 & MAX_32).to_bytes(4, "little"), flags=STATUS_CODE))
+    for at in range(wrong):
+        caller = client if at < wrong - others else other
+        address = service.main.gets(caller.main.sends(0, 7))
+        caller.main.answered(service.main.replies(address, (-74 & MAX_32).to_bytes(4, "little"), flags=STATUS_CODE))
 
 
 @case("", value=0)
@@ -279,15 +402,28 @@ def status_of_many_objects(s):
         client.main.writes(*each(BC_RELEASE, handle))
 
 
-@case("E5:1 U6:4", "3 oneway sends with 3,072 bytes waited or were held at service 100: 3 sends from client 200")
-def oneway_space_full(s):
+@case("E5:1 U6:4", "3 oneway sends with 3,072 bytes waited or were held at service 100: 3 sends from client 200",
+      "E5 by client 200: 1")
+@case("E5:1 U6:4", "2 sends from other 300, 1 send from client 200", "E5 by other 300: 1", others=2)
+@case("E5:1 U6:4", "2 sends from client 200, 1 send from other 300", "E5 by client 200: 1", others=1)
+@case("E5:1 U6:1 W2:3", "E5 by other 300: 1", others=2, got=1)
+@case("E5:1 U6:2 W2:2", "E5 by service 100: 1", others=2, got=2)
+@case("E5:2 U6:4", "E5 by other 300: 1", "E5 by client 200: 1", others=2, call=True)
+def oneway_space_full(s, others=0, got=0, call=False):
+    """A oneway send is refused, after three of which two may be of another process. The service gets some of the three.
+    A call of the same process is refused, too, or not."""
     service, client = s.two()
     client.main.asks(service.main)
-    for _ in range(3):
-        client.main.sends(0, 7, ONE_WAY, bytes(1020), seen=False)
+    other = s.process(300, "other")
+    sent = [(other if at < others else client).main.sends(0, 7, ONE_WAY, bytes(1020), seen=False) for at in range(3)]
+    for one in sent[:got]:
+        service.main.gets(one, seen=False)
     client.main.writes(Sent(None, 7, ONE_WAY, bytes(1020), b"").record(BC_TRANSACTION))
     client.main.reads(record(BR_FAILED_REPLY))
     client.main.sends(0, 7, ONE_WAY, bytes(4), seen=False)
+    if call:
+        client.main.sends(0, 7)
+        client.main.reads(record(BR_FAILED_REPLY))
 
 
 @case("E7:1", "code 7 to service 100 node 0x0")
@@ -384,6 +520,41 @@ def buffers(s, **given):
     kept_buffers(s, **given)
 
 
+ERRORS = "all 3 that are kept have at most 12 bytes, all 3 that were freed at least 40: look at what follows an error)"
+
+
+@case("U2:3", ERRORS)
+@case("U4:3", "reply to code 7 of service 100 node 0x0 ()", freed=(40, 40))
+@case("U2:2", "reply to code 7 of service 100 node 0x0 ()", kept=(12, 12))
+@case("U2:3", ERRORS, kept=(4, 12, 8), freed=(40, 48, 44))
+@case("U2:3", "reply to code 7 of service 100 node 0x0 ()", kept=(12, 12, 40))
+@case("U2:3", "reply to code 7 of service 100 node 0x0 ()", freed=(40, 40, 40, 12))
+@case("U2:3", "reply to code 7 of service 100 node 0x0 ()", others=(40, 40, 40), freed=())
+@case("U2:3", ERRORS, others=(4, 4, 4))
+@case("U3:3", "reply to code 7 of service 100 node 0x0 ()", freed=(), other_code=(40, 40, 40))
+def small_replies(s, kept=(12, 12, 12), freed=(40, 40, 40), others=(), other_code=()):
+    """A client does not free some replies, and frees others, of these sizes. Another client frees all, or there are
+    replies to another code."""
+    service, client = s.two()
+    other = s.process(300, "other")
+
+    def asks(thread, code, size, free):
+        address = service.main.gets(thread.sends(0, code))
+        thread.answered(service.main.replies(address, bytes(size)), free=free)
+
+    for size in kept:
+        asks(client.main, 7, size, False)
+    for size in freed:
+        asks(client.main, 7, size, True)
+    for size in others:
+        asks(other.main, 7, size, True)
+    for size in other_code:
+        asks(client.main, 9, size, True)
+    for _ in range(4):
+        client.main.asks(service.main, 8)
+    s.wait(300)
+
+
 @case("U6:1", kept=1)
 @case("U4:1 U5:1", kept=2)
 @case("U4:1 U6:1", kept=2, wait=50, between=200)
@@ -449,8 +620,8 @@ def caller_ends(s, wait):
 
 @case("E4:1", kind=BR_FROZEN_REPLY)
 @case("E3:1", kind=BR_DEAD_REPLY)
-@case("E5:1", kind=BR_FAILED_REPLY)
-@case("E6:1", kind=BR_FAILED_REPLY, confirmed=True)
+@case("E5:1", "E5 by client 200: 1", kind=BR_FAILED_REPLY)
+@case("E6:1", "E6 by service 100: 1", kind=BR_FAILED_REPLY, confirmed=True)
 @case("M3:1", kind=BR_FAILED_REPLY, lost=True)
 def failed_call(s, kind, confirmed=False, lost=False):
     service, client = s.two()

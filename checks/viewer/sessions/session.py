@@ -88,7 +88,8 @@ class Thread:
 
     # -- handles
 
-    def is_given(self, server, handle, code=5, take=True, node=None, server_handle=None, via=0, ptr=0, body=b""):
+    def is_given(self, server, handle, code=5, take=True, node=None, server_handle=None, via=0, ptr=0, body=b"",
+                 weakly=False):
         """Gets this handle in the answer to a call: an object of the server, or one that the server has a handle of."""
         theirs = of_handle(2, server_handle) if server_handle else node_object(node or 0x100 * handle)
         ours, listed = of_handle(2, handle), offsets(0)
@@ -96,7 +97,7 @@ class Thread:
         reply = server.replies(address, theirs, listed)
         got = self.answered(reply, ours, free=False)
         if take:
-            self.writes(*each(BC_ACQUIRE, handle))
+            self.writes(*each(BC_INCREFS if weakly else BC_ACQUIRE, handle))
         self.frees(got)
 
     def gives(self, server, handle, code=4, node=None, before=b"", after=b"", flags=0):

@@ -1,6 +1,6 @@
 """More sessions as in cases.py: handles, nodes, deaths, clears, frees, objects, and oneway sends that never came."""
 
-from checks.viewer.sessions.cases import case, with_server
+from checks.viewer.sessions.cases import case
 from checks.viewer.sessions.session import *
 
 
@@ -22,18 +22,25 @@ def handle_from_nowhere(s, met, lost=False, unseen=False):
     client.main.writes(*each(BC_ACQUIRE, 7))
 
 
-@case("H2:1", met="from-start")
+@case("H2:1", "(1 time too often; given by replies to code 5 of service 100 node 0x0: 1 of 1 that came so)")
+@case("H2:1", "(3 times too often; given by replies to code 5 of service 100 node 0x0: 3 of 3 that came so)", again=3)
+@case("H2:1", "(2 times too often; given by replies to code 5 of service 100 node 0x0: 2 of 5 that came so)", again=2,
+      well=3)
+@case("H2:1", "(2 times too often; given by replies to code 5 of service 100 node 0x0: 2 of 2 that came so)", again=2,
+      weakly=True)
 @case("P1:1", met="in-mid-life")
-@case("M1:1", met="from-start", lost=True)
-def let_go_too_often(s, met, lost=False):
+@case("M1:1", lost=True)
+def let_go_too_often(s, again=1, well=0, weakly=False, met="from-start", lost=False):
+    """One handle after another of the same number is taken, and let go of twice; then others once."""
     service, client = s.two(met)
-    client.main.is_given(service.main, 1)
-    if lost:
-        s.loses(client)
-    client.main.writes(*each(BC_RELEASE, 1, 1))
+    for at in range(again + well):
+        client.main.is_given(service.main, 1, node=0x100 * (at + 1), weakly=weakly)
+        if lost:
+            s.loses(client)
+        client.main.writes(*each(BC_DECREFS if weakly else BC_RELEASE, *[1] * (2 if at < again else 1)))
 
 
-def told_dead(s, count, wait, lost=False):
+def told_dead(s, count, wait):
     """The client holds handles of processes of whose death it is told."""
     service, client = s.two()
     others = [s.process(300 + at, "short-lived") for at in range(count)]
@@ -49,7 +56,7 @@ def told_dead(s, count, wait, lost=False):
     s.wait(wait)
 
 
-@case("H3:1", "told at", count=1, wait=1100)
+@case("H3:1", "; given by replies to code 41 of service 100 node 0x0: 1 of 1 that came so)", count=1, wait=1100)
 @case("", count=1, wait=900)
 @case("", count=2, wait=900)
 @case("H3:3", count=3, wait=200)
@@ -107,52 +114,6 @@ def handles_and_nodes(s):
         service.main.reads(node(BR_ACQUIRE, ptr, 0))
         service.main.writes(node(BC_ACQUIRE_DONE, ptr, 0))
     service.main.reads(node(BR_RELEASE, 0x200, 0))
-
-
-@case("H5:4", "given by replies to code 5 of server 300 node 0x9000", kept=4, let_go=0)
-@case("", kept=3, let_go=0)
-@case("H5:4", kept=4, let_go=1)
-@case("H5:4", "other 400 keeps 1 of 3", kept=4, let_go=1, others=3)
-@case("", kept=4, let_go=2)
-def sessions_kept(s, kept, let_go, others=0):
-    """A client keeps what replies gave it, or some of it; another one lets go of all but one."""
-    manager, client, server = with_server(s)
-    for handle in range(2, 2 + kept + let_go):
-        client.main.is_given(server.main, handle, via=1, ptr=0x9000)
-    client.main.writes(*each(BC_RELEASE, *range(2, 2 + let_go)))
-    if others:
-        other = s.process(400, "other")
-        other.main.is_given(manager.main, 1, server_handle=3)
-        for handle in range(2, 2 + others):
-            other.main.is_given(server.main, handle, via=1, ptr=0x9000, node=0xA00 + 0x100 * handle)
-        other.main.writes(*each(BC_RELEASE, *range(2, 1 + others)))
-    s.wait(300)
-
-
-@case("H5:4", "given by calls of code 4 from client 200", senders=1, each_gives=4)
-@case("", senders=4, each_gives=1)
-@case("", senders=2, each_gives=2)
-@case("", senders=1, each_gives=3)
-@case("", senders=1, each_gives=4, to_manager=True)
-def callbacks_kept(s, senders, each_gives, to_manager=False):
-    """Handles that calls brought: many from one client, or one from each of many. The context manager keeps all."""
-    manager, client, server = with_server(s)
-    others = [client] + [s.process(400 + at, "other") for at in range(1, senders)]
-    handle = 10
-    for other in others:
-        for _ in range(each_gives):
-            if to_manager:
-                other.main.gives(manager.main, handle)
-            else:
-                if other is not client and handle % each_gives == 10 % each_gives:
-                    other.main.is_given(manager.main, 1, server_handle=3)
-                body, listed = node_object(0x9000 + 0x100 * handle), offsets(0)
-                address = server.main.gets(other.main.sends(1, 4, body=body, listed=listed), 0x9000,
-                                           of_handle(2, handle))
-                server.main.writes(*each(BC_ACQUIRE, handle))
-                other.main.answered(server.main.replies(address))
-            handle += 1
-    s.wait(300)
 
 
 @case("U4:1", then=2, ends=0)
@@ -347,7 +308,7 @@ def unknown_flag(s):
 
 
 @case("W1:1", flags=ONE_WAY | UPDATE_TXN)
-@case("W3:1", flags=ONE_WAY)
+@case("W3:1", "W3 by service 100: 1", flags=ONE_WAY)
 @case("W3:1", flags=ONE_WAY | 0x20)
 @case("U6:1", flags=ONE_WAY, wait=50)
 @case("M1:1", flags=ONE_WAY, lost=True)

@@ -1,0 +1,94 @@
+"""More sessions as in cases.py: what comes of the death of a process, and what tells of one death in one group."""
+
+from checks.viewer.sessions.cases import case, with_server
+from checks.viewer.sessions.kept_cases import calls_back
+from checks.viewer.sessions.session import *
+
+
+@case("H3:3", "given by calls of code 4: 3 of 5 that came so)", dead=3, alive=2)
+@case("H3:4", "given by calls of code 4: 4 of 4 that came so)", dead=4, alive=0)
+@case("H3:3 U4:1", "3 of 3 handles, short-lived H3 (told at 5220; given by calls of code 4: 3 of 3 that came so; with 1"
+      " death not acknowledged)", "groups that are maybe: 1", dead=3, alive=0, done=2)
+def callbacks_of_the_dead(s, dead, alive, done=9):
+    """A server keeps an object of each of some clients, of which some end. It acknowledges the first deaths."""
+    manager, _, server = with_server(s)
+    others = [s.process(400 + at, "short-lived") for at in range(dead + alive)]
+    for handle, other in enumerate(others, 20):
+        other.main.is_given(manager.main, 1, server_handle=3)
+        calls_back(other.main, server.main, handle)
+        server.main.writes(watch(BC_REQUEST_DEATH_NOTIFICATION, handle, handle))
+    for handle, other in enumerate(others[:dead], 20):
+        other.ends()
+        server.main.reads(*each_long(BR_DEAD_BINDER, handle))
+        server.main.writes(*(each_long(BC_DEAD_BINDER_DONE, handle) if handle < 20 + done else [ENTER]))
+    server.main.writes(ENTER)
+    s.wait(200)
+
+
+# ---- what tells of one death
+
+
+@case("H3:1", "maybe references to an object told dead: 1 of 1 handle 1, ", "groups that are maybe: 1", done=True)
+@case("H3:1 U4:1", "maybe references to an object told dead: 1 of 1 handle 1, ", "groups that are maybe: 1",
+      "1 of 1 that came so; with 1 death not acknowledged)")
+@case("D3:1 H3:1 U4:1", "groups that are maybe: 1", "groups that are explained: 0",
+      "1 of 1 that came so; with 1 death not acknowledged and 1 clear not confirmed)", clears=True)
+@case("D3:1 U4:1", "groups that are maybe: 1", "groups that are explained: 0", "(with 1 clear not confirmed)",
+      clears=True, lets_go=True)
+@case("E1:2 H3:1", "real calls that failed: 2 of 2 code 7 to short-lived 300 node 0x9000 E1",
+      "groups that are maybe: 0", "; with 1 reference to the dead)", done=True, calls=2)
+@case("D3:1 E1:2 H3:1 U4:1", "real calls that failed: 2 of 2 code 7 to ", "groups that are maybe: 0",
+      "groups that are explained: 0",
+      "; with 1 reference to the dead and 1 death not acknowledged and 1 clear not confirmed)", clears=True, calls=2)
+@case("E1:2 U4:1", "real calls that failed: 2 of 2 code 7 to ", "groups that are maybe: 0",
+      "; with 1 death not acknowledged)", calls=2, lets_go=True)
+@case("H3:2 U4:2", "maybe references to an object told dead: 2 of 2 handles, short-lived H3",
+      "groups that are maybe: 1", "; with 2 deaths not acknowledged)", objects=2)
+@case("H3:1 U4:2", "maybe references to an object told dead: 1 of 1 handle 1, ", "groups that are maybe: 1",
+      "; with 2 deaths not acknowledged)", objects=2, lets_go_of=2)
+@case("H3:1 L1:1", "groups that are maybe: 1", "groups that are explained: 1", "1 of 1 that came so)", done=True,
+      objects=2, lets_go_of=2, late=True)
+@case("H3:1 U4:2", "maybe references to an object told dead: 1 of 1 handle 1, ",
+      "maybe deaths not acknowledged: 1 of - handle 20, other 500 node 0x9000 U4", "groups that are maybe: 2",
+      "; with 1 death not acknowledged)", other=True)
+def death(s, done=False, clears=False, calls=0, lets_go=False, objects=1, lets_go_of=0, other=False,
+          late=False):
+    """A client is told of the death of a process by each of its objects. It acknowledges that or not, lets go of them
+    or not, clears its requests, and makes calls to the first object, all the same. `other`: it is also told of the
+    death of another process, whose object it lets go of, and does not acknowledge that either. `late`: of the last
+    object it is told after the end of the recording."""
+    service, client = s.two()
+    short = s.process(300, "short-lived")
+    handles = list(range(1, 1 + objects))
+    for handle in handles:
+        short.main.gives(service.main, 20 + handle, 20 + handle, 0x9000 * handle)
+        client.main.is_given(service.main, handle, 40 + handle, server_handle=20 + handle)
+    ends = [short]
+    if other:
+        ends.append(s.process(500, "other"))
+        ends[1].main.gives(service.main, 40, 24, 0x9000)
+        client.main.is_given(service.main, 20, 50, server_handle=40)
+        handles.append(20)
+    for handle in handles:
+        client.main.writes(watch(BC_REQUEST_DEATH_NOTIFICATION, handle, 0xD0 + handle))
+    for process in ends:
+        process.ends()
+    last = handles.pop() if late else None
+    for handle in handles:
+        client.main.reads(*each_long(BR_DEAD_BINDER, 0xD0 + handle))
+        if done:
+            client.main.writes(*each_long(BC_DEAD_BINDER_DONE, 0xD0 + handle))
+        if clears:
+            client.main.writes(watch(BC_CLEAR_DEATH_NOTIFICATION, handle, 0xD0 + handle))
+    for _ in range(calls):
+        client.main.sends(1, 7)
+        client.main.reads(record(BR_DEAD_REPLY))
+    gone = handles if lets_go else [handle for handle in handles if handle in (lets_go_of, 20)]
+    if gone:
+        client.main.writes(*each(BC_RELEASE, *gone))
+    for _ in range(2):
+        client.main.writes(ENTER)
+    s.wait(1100)
+    if late:
+        s.stops()
+        client.main.reads(*each_long(BR_DEAD_BINDER, 0xD0 + last))

@@ -1,0 +1,220 @@
+"""More sessions as in cases.py: handles that came the same way, of which a process keeps nearly all or some."""
+
+from checks.viewer.sessions.cases import case, with_server
+from checks.viewer.sessions.session import *
+
+# How the client of with_server calls its server.
+SERVER = {"via": 1, "ptr": 0x9000}
+
+
+def calls_back(client, server, handle):
+    """A client calls the server with an object, which the server takes by this handle."""
+    body, listed = node_object(0x9000 + 0x100 * handle), offsets(0)
+    address = server.gets(client.sends(1, 4, body=body, listed=listed), 0x9000, of_handle(2, handle))
+    server.writes(*each(BC_ACQUIRE, handle))
+    client.answered(server.replies(address))
+
+
+def passes(s, count, client, manager):
+    """So many milliseconds or, without a side list, calls."""
+    for _ in range(0 if s.has_side else count):
+        client.main.asks(manager.main)
+    s.wait(count)
+
+
+# ---- nearly all are kept
+
+
+@case("H5:4", "given by replies to code 5 of server 300 node 0x9000", kept=4, let_go=0)
+@case("", kept=3, let_go=0)
+@case("H5:4", kept=4, let_go=1)
+@case("H5:4", "other 400 keeps 1 of 3", kept=4, let_go=1, others=3)
+@case("", kept=4, let_go=2)
+def sessions_kept(s, kept, let_go, others=0):
+    """A client keeps what replies gave it, or some of it; another one lets go of all but one."""
+    manager, client, server = with_server(s)
+    for handle in range(2, 2 + kept + let_go):
+        client.main.is_given(server.main, handle, via=1, ptr=0x9000)
+    client.main.writes(*each(BC_RELEASE, *range(2, 2 + let_go)))
+    if others:
+        other = s.process(400, "other")
+        other.main.is_given(manager.main, 1, server_handle=3)
+        for handle in range(2, 2 + others):
+            other.main.is_given(server.main, handle, via=1, ptr=0x9000, node=0xA00 + 0x100 * handle)
+        other.main.writes(*each(BC_RELEASE, *range(2, 1 + others)))
+    s.wait(300)
+
+
+@case("H5:4", "given by calls of code 4 from client 200", senders=1, each_gives=4)
+@case("", senders=4, each_gives=1)
+@case("", senders=2, each_gives=2)
+@case("", senders=1, each_gives=3)
+@case("", senders=1, each_gives=4, to_manager=True)
+def callbacks_kept(s, senders, each_gives, to_manager=False):
+    """Handles that calls brought: many from one client, or one from each of many. The context manager keeps all."""
+    manager, client, server = with_server(s)
+    others = [client] + [s.process(400 + at, "other") for at in range(1, senders)]
+    handle = 10
+    for other in others:
+        for _ in range(each_gives):
+            if to_manager:
+                other.main.gives(manager.main, handle)
+            else:
+                if other is not client and handle % each_gives == 10 % each_gives:
+                    other.main.is_given(manager.main, 1, server_handle=3)
+                calls_back(other.main, server.main, handle)
+            handle += 1
+    s.wait(300)
+
+
+@case("H6:6", "given by replies to code 5 of server 300 node 0x9000 (handle 2, server 300 node 0x200; all 4 that are"
+      " kept are in use, and none came lately)", before=150, used=200, then=180)
+@case("H5:4", before=150, used=200, then=260)
+@case("H5:4", before=550, used=200, then=180)
+@case("H5:4", before=150, used=200, then=180, skips=1)
+@case("H6:6", "all 4 that are kept are in use", before=350, used=400, then=180)
+@case("H5:5", before=350, used=200, then=180, late=1)
+@case("H6:5", "(handle 2, server 300 node 0x200)", before=150, used=200, then=180, kept=3)
+@case("H6:6", "all 4 that are kept are in use", before=150, used=200, then=180, let_go=1)
+@case("H6:6", "(handle 2, server 300 node 0x200)", before=150, used=200, then=180, let_go=2)
+@case("H4:1 H6:6", "all 4 that are kept are in use", before=150, used=200, then=180, twice=1)
+@case("H6:6", "all 4 that are kept are in use", before=150, used=200, then=180, ends=True)
+@case("H6:6", "all 4 that are kept are in use", before=4, used=6, then=4, has_side=False)
+@case("H5:4", before=4, used=6, then=16, has_side=False)
+@case("H5:4", before=30, used=6, then=4, has_side=False)
+def cache(s, before, used, then, kept=4, skips=0, late=0, let_go=0, twice=0, ends=False):
+    """A client gets handles, and uses all, or all but some, a while later. `late`: then it gets more, and again uses
+    all a while later. Some it had let go of, and one it took twice and does not use. Or it ends long before the end."""
+    manager, client, server = with_server(s)
+    passes(s, before, client, manager)
+    for handle in range(2, 2 + kept + let_go):
+        client.main.is_given(server.main, handle, **SERVER)
+    if let_go:
+        client.main.writes(*each(BC_RELEASE, *range(2 + kept, 2 + kept + let_go)))
+    for handle in range(50, 50 + twice):
+        client.main.is_given(server.main, handle, **SERVER)
+        client.main.writes(*each(BC_ACQUIRE, handle))
+    passes(s, used, client, manager)
+    for handle in range(60, 60 + late):
+        client.main.is_given(server.main, handle, **SERVER)
+        passes(s, used, client, manager)
+    for handle in *range(2 + skips, 2 + kept), *range(60, 60 + late):
+        client.main.asks(server.main, 8, handle, 0x100 * handle)
+    passes(s, then, client, manager)
+    if ends:
+        client.ends()
+        s.wait(3000)
+
+
+@case("H5:8")
+def kept_to_the_end(s):
+    """Handles come up to the end, and each is used only at once."""
+    _, client, server = with_server(s)
+    for handle in range(2, 10):
+        client.main.is_given(server.main, handle, **SERVER)
+        client.main.asks(server.main, 8, handle, 0x100 * handle)
+        s.wait(50)
+
+
+# ---- some are kept, and others let go of
+
+
+@case("H8:3", "given by replies to code 5 of server 300 node 0x9000 (4 others were let go of, each within 20 ms)")
+@case("", let_go=3)
+@case("", kept=2)
+@case("", wait=190)
+@case("", wait=190, brief=1)
+@case("H8:3", "each within 3 ms", held=0, wait=105)
+@case("", held=0, wait=90)
+@case("", used=100, wait=150)
+@case("H8:3", used=300, wait=400)
+@case("", used=300, wait=250)
+@case("H5:16", kept=16)
+@case("", takes=False)
+@case("M1:3", lost=True)
+@case("", code=6)
+@case("H8:3", "each within 20 ms; other 400 keeps 0 of 4", others=4)
+@case("", let_go=0, others=4)
+@case("H8:3", "each within 3 frames", held=0, wait=5, has_side=False)
+@case("", held=0, wait=4, has_side=False)
+def one_in_ten(s, let_go=4, kept=3, held=17, wait=205, used=None, takes=True, code=5, lost=False, others=0,
+               brief=0):
+    """A client lets go of some handles a while after they came, and keeps others. It may use those once more later. Or
+    what it lets go of came by another code, or was never taken, or went to another process."""
+    manager, client, server = with_server(s)
+    for at in range(let_go + brief):
+        client.main.is_given(server.main, 50, code, takes, **SERVER)
+        s.wait(held if at < let_go else 0)
+        if takes:
+            client.main.writes(*each(BC_RELEASE, 50))
+    if others:
+        other = s.process(400, "other")
+        other.main.is_given(manager.main, 1, server_handle=3)
+        for _ in range(others):
+            other.main.is_given(server.main, 2, node=0x8000, **SERVER)
+            other.main.writes(*each(BC_RELEASE, 2))
+    if lost:
+        s.loses(client)
+    for handle in range(2, 2 + kept):
+        client.main.is_given(server.main, handle, **SERVER)
+    if used is not None:
+        s.wait(used)
+        for handle in range(2, 2 + kept):
+            client.main.asks(server.main, 8, handle, 0x100 * handle)
+    passes(s, wait, client, manager)
+
+
+@case("")
+def one_in_ten_services(s):
+    """The same of what the context manager gives."""
+    service, client = s.two()
+    for _ in range(4):
+        client.main.is_given(service.main, 50)
+        client.main.writes(*each(BC_RELEASE, 50))
+    for handle in range(2, 5):
+        client.main.is_given(service.main, handle)
+    s.wait(300)
+
+
+@case("H8:3", "given by calls of code 4 from client 200 (4 others were let go of, each within ", one=True)
+@case("", one=False)
+def one_in_ten_callbacks(s, one):
+    """A server keeps some of the objects that a client hands over, and lets go of others, or of those of another
+    client."""
+    manager, client, server = with_server(s)
+    other = s.process(400, "other")
+    other.main.is_given(manager.main, 1, server_handle=3)
+    for handle in range(20, 24):
+        calls_back(client.main if one else other.main, server.main, handle)
+        server.main.writes(*each(BC_RELEASE, handle))
+    for handle in range(30, 33):
+        calls_back(client.main, server.main, handle)
+    s.wait(300)
+
+
+# ---- processes of one name
+
+
+@case("H5:24", "maybe references kept: 12 of 12 given by calls of code 4 from broker (3 processes) H5",
+      "maybe references kept: 12 of 12 given by replies to code 5 of maker 350 node 0xa000 in 3 processes H5",
+      "groups that are maybe: 2", names=("broker", "broker", "broker"))
+@case("H5:24", "maybe references kept: 8 of 8 given by calls of code 4 from broker (2 processes) H5",
+      "maybe references kept: 4 of 4 given by calls of code 4 from agent 402 H5",
+      "groups that are maybe: 3", names=("broker", "broker", "agent"))
+def kept_of_one_name(s, names):
+    """Three processes get objects from a maker, keep them, and hand them over to a server, which keeps them too."""
+    manager, _, server = with_server(s)
+    maker = s.process(350, "maker")
+    maker.main.gives(manager.main, 4, node=0xA000)
+    for number, name in enumerate(names):
+        broker = s.process(400 + number, name)
+        broker.main.is_given(manager.main, 1, server_handle=3)
+        broker.main.is_given(manager.main, 2, server_handle=4)
+        for handle in range(10, 14):
+            node_of = 0xB000 + 0x1000 * number + 0x100 * handle
+            broker.main.is_given(maker.main, handle, via=2, ptr=0xA000, node=node_of)
+            sent = broker.main.sends(1, 4, body=of_handle(2, handle), listed=offsets(0))
+            address = server.main.gets(sent, 0x9000, of_handle(2, 10 * number + handle))
+            server.main.writes(*each(BC_ACQUIRE, 10 * number + handle))
+            broker.main.answered(server.main.replies(address))
+    s.wait(300)

@@ -1,0 +1,147 @@
+"""More sessions as in cases.py: pools of threads that calls use up, whether these or those that wait are answered or
+not."""
+
+from checks.viewer.sessions.cases import case
+from checks.viewer.sessions.session import *
+
+
+def waits_for_one(s, service, caller, victim, took=1100, idle=0, code=10, through=None):
+    """The caller's call keeps the only looper of a service, which is free then for a while; a victim's call waits as
+    long. `through`: what the looper does meanwhile."""
+    address = service.main.gets(caller.main.sends(0, code))
+    waiting = victim.main.sends(0, 1)
+    s.wait(took)
+    if through:
+        through()
+    caller.main.answered(service.main.replies(address))
+    s.wait(idle)
+    return waiting
+
+
+def is_served(service, victim, waiting):
+    victim.main.answered(service.main.replies(service.main.gets(waiting)))
+
+
+@case("Q1:1", "code 10 at service 100 node 0x0", "3 calls waited up to 1.1 s (the median is 1 ms) for its 1 looper: ",
+      "2 of victim 301, 1 of victim 300", "Q1 by service 100: 1")
+@case("Q2:1", "2 calls waited up to 1.1 s (the median is 1 ms)", "1 of victim 300, 1 of victim 301", victims=2)
+@case("", took=900)
+@case("", victims=1, free=True)
+@case("Q2:1", "for its 1 looper", victims=1, free="later")
+@case("Q2:1", "for its 1 looper", victims=1, free="exits")
+@case("Q2:1", "for its 1 looper", victims=1, free="ends")
+@case("Q2:1", "for its 1 looper", victims=1, free="only calls")
+@case("Q2:1", victims=1, took=1020, idle=180)
+@case("", victims=1, took=900, idle=300)
+@case("Q1:1", usual=100, took=1150)
+@case("Q2:1", usual=130, took=1150)
+@case("", victims=1, lost=True)
+@case("Q2:1", "for 1 looper: ", met="in-mid-life", victims=1)
+def calls_wait(s, victims=3, took=1100, idle=0, usual=0, free=None, lost=False, met="from-start"):
+    """Slow calls keep the only looper of a service, one after another, and other calls wait meanwhile. Another thread
+    is free, or becomes a looper later, or is none any more, or has ended, or only makes calls."""
+    service, client = s.two(met)
+    others = [s.process(300, "victim"), s.process(301, "victim")]
+    for _ in range(4):
+        sent = client.main.sends(0, 1)
+        s.wait(usual)
+        client.main.answered(service.main.replies(service.main.gets(sent)))
+    second = service.thread(1) if free else None
+    if free in (True, "exits", "ends"):
+        second.writes(ENTER)
+    if free == "exits":
+        second.writes(record(BC_EXIT_LOOPER))
+    if free == "ends":
+        second.ends()
+    if free == "only calls":
+        second.writes(*each(BC_ACQUIRE, 0))
+    if lost:
+        s.loses(service)
+    for at in range(victims):
+        waiting = waits_for_one(s, service, client, others[at % 2 if victims < 3 else at > 0], took, idle,
+                                through=(lambda: second.writes(ENTER)) if free == "later" else None)
+        is_served(service, others[at % 2 if victims < 3 else at > 0], waiting)
+
+
+@case("Q2:1", "code 10 at service 100 node 0x0", more=150)
+@case("Q2:1", "code 10, code 11 at service 100 (", more=300)
+def kept_by_two_methods(s, more):
+    """Two calls wait, one for a call that takes long, and one for a call of another method that takes some time."""
+    service, client = s.two()
+    victim, other = s.process(300, "victim"), s.process(301, "other")
+    address = service.main.gets(client.main.sends(0, 11))
+    waiting = victim.main.sends(0, 1)
+    s.wait(more)
+    client.main.answered(service.main.replies(address))
+    address = service.main.gets(other.main.sends(0, 10))
+    s.wait(1000)
+    other.main.answered(service.main.replies(address))
+    is_served(service, victim, waiting)
+
+
+@case("Q2:1", "for its 2 loopers", busy=True)
+@case("", busy=False)
+def two_loopers(s, busy):
+    """Of two loopers one is in a call, and the other one, too, or in none."""
+    service, client = s.two()
+    victim, other, second = s.process(300, "victim"), s.process(301, "other"), service.looper(1)
+    address = second.gets(other.main.sends(0, 10)) if busy else None
+    waiting = waits_for_one(s, service, client, victim)
+    is_served(service, victim, waiting)
+    if busy:
+        other.main.answered(second.replies(address))
+
+
+@case("Q2:1", "the loopers wait for third 302", "Q2 by third 302: 1", share=0.85)
+@case("Q2:1", "Q2 by service 100: 1", share=0.75)
+@case("Q2:1", "a call of its own, code 12 at service 100", "the loopers wait for third 302", share=1)
+def kept_by_another(s, share):
+    """A looper waits for a third process in a call that it serves, for so much of the time; or in a call of its own,
+    without serving any."""
+    service, client = s.two()
+    victim, third = s.process(300, "victim"), s.process(302, "third")
+    third.main.gives(service.main, 8)
+    if share < 1:
+        address = service.main.gets(client.main.sends(0, 10))
+    waiting = victim.main.sends(0, 1)
+    got = third.main.gets(service.main.sends(8, 12), 0x9800)
+    s.wait(1100 * share)
+    service.main.answered(third.main.replies(got))
+    s.wait(1100 * (1 - share))
+    if share < 1:
+        client.main.answered(service.main.replies(address))
+    is_served(service, victim, waiting)
+
+
+@case("Q2:1", "oneway code 7 at service 100 node 0x0", by=0)
+@case("", by=1)
+def kept_by_a_oneway_transaction(s, by):
+    """The only looper is in a oneway transaction, and frees it at its end; or another thread frees it."""
+    service, client = s.two()
+    victim, threads = s.process(300, "victim"), (service.main, service.thread(1))
+    address = service.main.gets(client.main.sends(0, 7, ONE_WAY))
+    waiting = victim.main.sends(0, 1)
+    s.wait(1100)
+    threads[by].frees(address)
+    is_served(service, victim, waiting)
+
+
+@case("C7:1 A1:2 Q2:1", "it waited 1.1 s for a looper", since=50)
+@case("U2:1 A1:2 Q2:1", since=150)
+@case("C7:1 A1:2 Q2:1", since=150, usual=20)
+def still_served(s, since, usual=0):
+    """A call that waited for a looper has one for so long, at the end."""
+    service, client = s.two()
+    victim = s.process(300, "victim")
+    for _ in range(4):
+        victim.main.asks(service.main, 1, took=usual)
+    service.main.gets(waits_for_one(s, service, client, victim))
+    s.wait(since)
+
+
+@case("C7:1 Q2:1", "it waited 1.15 s for a looper")
+def waits_to_the_end(s):
+    """The only looper is in a call to nearly the end, and free then: the call that waits is not got."""
+    service, client = s.two()
+    waits_for_one(s, service, client, s.process(300, "victim"))
+    s.wait(50)

@@ -1,0 +1,104 @@
+-- Pools that are used up: calls that waited long for their delivery, while all loopers of their server were busy, and
+-- what kept these busy.
+-- needs: database/schema.sql: finding, raw_call, raw_delivery, raw_record, raw_send, raw_thread, side_time;
+--   database/views.sql: came_to, sent_to; ages.sql: last, life; waits.sql: queued; rule.sql: lossy; judging.py:
+--   call_name
+-- makes: temporary tables: long_wait, looper_says, pool_looper, busy, full_wait, full_time, kept_by, kept_by_method,
+--   kept_for; indexes: pool_looper_of, busy_at, full_wait_of
+
+-- The calls that waited over :VERY_LONG, from the send to the delivery to a thread that was in no call, or to the end.
+CREATE TEMP TABLE long_wait AS
+SELECT s.place, s.utid, t.upid AS server, x.ts AS since, y.ts AS until
+FROM raw_call v JOIN raw_delivery d USING (place) JOIN raw_send s ON s.place = d.send
+  JOIN raw_thread t ON t.utid = v.utid JOIN side_time x ON x.seq = s.seq JOIN side_time y ON y.seq = v.seq
+WHERE v.served AND v.depth = 1 AND s.certain AND y.ts - x.ts > :VERY_LONG AND t.upid NOT IN (SELECT upid FROM lossy)
+UNION ALL SELECT f.place, f.utid, q.upid, x.ts, x.ts + f.age
+FROM queued q JOIN waits w USING (id) JOIN finding f USING (id) JOIN side_time x USING (seq)
+WHERE f.age > :VERY_LONG AND q.upid NOT IN (SELECT upid FROM lossy);
+
+-- ---- when the loopers of these servers were busy
+
+-- When a thread says that it is a looper, or that it is none any more, and when it takes its first call.
+CREATE TEMP TABLE looper_says AS
+SELECT r.utid, r.kind <> :BC_EXIT_LOOPER AS enters, r.place, x.ts
+FROM (SELECT 1 FROM long_wait LIMIT 1) CROSS JOIN raw_record r JOIN raw_thread t USING (utid)
+  JOIN side_time x ON x.seq = r.seq
+WHERE r.kind IN (:BC_ENTER_LOOPER, :BC_REGISTER_LOOPER, :BC_EXIT_LOOPER)
+  AND t.upid IN (SELECT server FROM long_wait);
+INSERT INTO looper_says
+SELECT f.utid, 1, f.place, x.ts
+FROM (SELECT t.utid, (SELECT c.place FROM raw_call c WHERE c.utid = t.utid AND c.served AND c.depth = 1
+      ORDER BY c.place LIMIT 1) AS place
+    FROM raw_thread t WHERE t.upid IN (SELECT server FROM long_wait)) f
+  JOIN raw_call c USING (place) JOIN side_time x ON x.seq = c.seq;
+CREATE TEMP TABLE pool_looper AS
+SELECT t.utid, t.upid, s.since, min(coalesce(s.stops, last.ts), coalesce(l.ended, last.ts)) AS until
+FROM (SELECT utid, min(iif(enters, ts, NULL)) AS since,
+    iif(max(iif(enters, place, 0)) < max(iif(enters, 0, place)), max(iif(enters, 0, ts)), NULL) AS stops
+  FROM looper_says GROUP BY utid) s JOIN raw_thread t USING (utid) LEFT JOIN life l USING (utid), last
+WHERE s.since NOTNULL;
+CREATE INDEX temp.pool_looper_of ON pool_looper(upid);
+
+-- What a looper is in: a call that it serves or makes, and a oneway transaction until it frees it, or to the end if it
+-- did nothing since. Where these overlap, the later one begins when the one before it ends. `before` is how long it was
+-- busy before.
+CREATE TEMP TABLE busy AS
+SELECT utid, place, since, until,
+  sum(until - since) OVER (PARTITION BY utid ORDER BY since, place) - (until - since) AS before
+FROM (SELECT utid, place, until, max(since, coalesce(max(until) OVER (PARTITION BY utid ORDER BY since, place
+      ROWS BETWEEN UNBOUNDED PRECEDING AND 1 PRECEDING), since)) AS since
+  FROM (SELECT k.utid, c.place, x.ts AS since, coalesce(z.ts, k.until) AS until
+    FROM pool_looper k CROSS JOIN raw_call c ON c.utid = k.utid AND c.depth = 1 JOIN side_time x ON x.seq = c.seq
+      LEFT JOIN side_time z ON z.seq = c.seq + c.dur_seq
+    UNION ALL SELECT k.utid, d.place, x.ts, coalesce(z.ts, k.until)
+    FROM (SELECT 1 FROM pool_looper LIMIT 1) CROSS JOIN raw_delivery d JOIN pool_looper k USING (utid)
+      JOIN raw_record r USING (place) JOIN raw_thread t USING (utid) JOIN side_time x ON x.seq = d.seq
+      LEFT JOIN raw_record f ON f.place = d.freed_by LEFT JOIN side_time z ON z.seq = f.seq
+    WHERE r.kind <> :BR_REPLY AND r.flags & :TF_ONE_WAY AND coalesce(f.utid = d.utid, t.last_record = d.place)))
+WHERE until > since;
+CREATE INDEX temp.busy_at ON busy(utid, since);
+
+-- ---- the pools that were used up
+
+-- Each looper that was there for the whole of a wait was busy for nearly all of it.
+CREATE TEMP TABLE full_wait AS
+SELECT w.* FROM long_wait w
+WHERE EXISTS (SELECT 1 FROM pool_looper k WHERE k.upid = w.server AND k.since <= w.since AND k.until >= w.until)
+  AND NOT EXISTS (SELECT 1 FROM pool_looper k WHERE k.upid = w.server AND k.since <= w.since AND k.until >= w.until
+    AND coalesce((SELECT b.before + min(b.until, w.until) - b.since FROM busy b
+          WHERE b.utid = k.utid AND b.since <= w.until ORDER BY b.since DESC LIMIT 1), 0)
+      - coalesce((SELECT b.before + min(b.until, w.since) - b.since FROM busy b
+          WHERE b.utid = k.utid AND b.since <= w.since ORDER BY b.since DESC LIMIT 1), 0)
+      < :NEARLY_ALL * (w.until - w.since));
+CREATE INDEX temp.full_wait_of ON full_wait(place);
+-- The times when such calls waited, each as long as they follow one another.
+CREATE TEMP TABLE full_time AS
+SELECT server, min(since) AS since, max(until) AS until
+FROM (SELECT server, since, until, sum(begins) OVER (PARTITION BY server ORDER BY since, place) AS n
+  FROM (SELECT server, place, since, until, coalesce(since > max(until) OVER (PARTITION BY server ORDER BY since, place
+      ROWS BETWEEN UNBOUNDED PRECEDING AND 1 PRECEDING), 1) AS begins FROM full_wait))
+GROUP BY server, n;
+-- What its loopers were in then, and for how long.
+CREATE TEMP TABLE kept_by AS
+SELECT p.server, b.utid, b.place, min(b.until, p.until) - max(b.since, p.since) AS ns, p.since, p.until
+FROM full_time p CROSS JOIN pool_looper k ON k.upid = p.server CROSS JOIN busy b ON b.utid = k.utid
+  AND b.since < p.until AND b.since >= coalesce((SELECT max(x.since) FROM busy x WHERE x.utid = k.utid
+    AND x.since <= p.since), p.since)
+WHERE b.until > p.since;
+-- The same by method, the one that kept them longest first. `own` is a call that a looper makes, and serves none.
+CREATE TEMP TABLE kept_by_method AS
+SELECT server, place, utid, code, ptr, call, ns, sum(ns) OVER (PARTITION BY server) AS whole,
+  row_number() OVER (PARTITION BY server ORDER BY ns DESC, place) AS nth
+FROM (SELECT k.server, k.place, k.utid, coalesce(c.code, s.code) AS code, c.ptr, max(k.ns), sum(k.ns) AS ns,
+    iif(c.place IS NULL, 'a call of its own, ', iif(r.flags & :TF_ONE_WAY, 'oneway ', ''))
+      || call_name(r.code, coalesce(c.upid, s.upid), coalesce(c.ptr, s.ptr)) AS call
+  FROM kept_by k JOIN raw_record r USING (place) LEFT JOIN came_to c USING (place) LEFT JOIN sent_to s USING (place)
+  GROUP BY k.server, call, c.ptr);
+-- A process that answers the calls which loopers make meanwhile, for nearly all of that time.
+CREATE TEMP TABLE kept_for AS
+SELECT k.server, s.upid, sum(min(coalesce(z.ts, k.until), k.until) - max(x.ts, k.since)) AS ns
+FROM kept_by k JOIN raw_call o USING (place) CROSS JOIN raw_call c ON c.utid = k.utid AND c.place >= o.place
+    AND c.place < coalesce(o.closer, (SELECT max(place) FROM raw_record)) AND c.served = 0 AND c.depth <= 2
+  JOIN sent_to s ON s.place = c.place JOIN side_time x ON x.seq = c.seq
+  LEFT JOIN side_time z ON z.seq = c.seq + c.dur_seq
+WHERE s.upid > 0 AND x.ts < k.until AND coalesce(z.ts > k.since, 1) GROUP BY 1, 2;

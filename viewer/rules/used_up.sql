@@ -1,0 +1,42 @@
+-- Q: pools that are used up, which are findings of their own, one for each server.
+-- needs: database/schema.sql: finding, raw_call, raw_delivery, raw_record, raw_send, raw_thread, side_time; nodes.sql:
+--   who; ages.sql: process_life; waits.sql: holder; pools.sql: full_wait, kept_by, kept_by_method, kept_for;
+--   judging.py: counted, duration, service_name
+-- makes: temporary tables: usual_wait, used_up
+
+-- The median of the waits of all calls to these servers.
+CREATE TEMP TABLE usual_wait AS
+SELECT server, dur
+FROM (SELECT server, dur, row_number() OVER (PARTITION BY server ORDER BY dur) AS nth,
+    count(*) OVER (PARTITION BY server) AS n
+  FROM (SELECT t.upid AS server, max(y.ts - x.ts, 0) AS dur
+    FROM (SELECT 1 FROM full_wait LIMIT 1) CROSS JOIN raw_call v JOIN raw_delivery d USING (place)
+      JOIN raw_send s ON s.place = d.send JOIN raw_thread t ON t.utid = v.utid JOIN side_time x ON x.seq = s.seq
+      JOIN side_time y ON y.seq = v.seq
+    WHERE v.served AND v.depth = 1 AND s.certain AND t.upid IN (SELECT server FROM full_wait)))
+WHERE nth = (n + 1) / 2;
+-- If a call keeps the pool busy to the end, or is in a ring, that call is the finding.
+CREATE TEMP TABLE used_up AS
+SELECT w.server, count(*) AS n, max(w.until - w.since) AS longest, u.dur AS usual,
+  coalesce(sum(w.until - w.since > :OLD * u.dur) >= :OFTEN, 0) AS is_real
+FROM full_wait w LEFT JOIN usual_wait u USING (server)
+WHERE w.server NOT IN (SELECT h.upid FROM holder h JOIN finding f USING (id) WHERE f.rule IN ('C3', 'C6', 'C7', 'C8'))
+GROUP BY w.server;
+-- Named are the method that kept its loopers longest, and those that took their share, too.
+INSERT INTO finding(section, what, place, seq, upid, utid, code, ptr, path, waiting, rule, note, culprit)
+SELECT 'pools', 'used up', m.place, r.seq, u.server, m.utid, m.code, m.ptr,
+  (SELECT group_concat(call, ', ') FROM (SELECT o.call FROM kept_by_method o WHERE o.server = u.server
+      AND (o.nth = 1 OR o.ns >= (1 - :NEARLY_ALL) * o.whole) ORDER BY o.nth LIMIT :NAMED))
+    || ' at ' || w.who || iif(m.ns > :NEARLY_ALL * m.whole, coalesce(printf(' node 0x%x', m.ptr)
+      || service_name(u.server, m.ptr), ''), ''),
+  u.n, iif(u.is_real, 'Q1', 'Q2'),
+  counted(u.n, 'call') || ' waited up to ' || duration(u.longest)
+    || coalesce(' (the median is ' || duration(u.usual) || ')', '') || ' for '
+    || (SELECT iif(p.known, 'its ', '') || counted(count(DISTINCT b.utid), 'looper') FROM kept_by b
+      JOIN process_life p ON p.upid = b.server WHERE b.server = u.server)
+    || ': ' || (SELECT group_concat(n || ' of ' || who, ', ') FROM (SELECT c.who, count(*) AS n
+      FROM full_wait l JOIN raw_thread t USING (utid) JOIN who c ON c.upid = t.upid WHERE l.server = u.server
+      GROUP BY c.upid ORDER BY n DESC, c.upid LIMIT :NAMED))
+    || coalesce('; the loopers wait for ' || (SELECT who FROM who WHERE upid = k.upid), ''), k.upid
+FROM used_up u JOIN kept_by_method m ON m.server = u.server AND m.nth = 1 JOIN raw_record r ON r.place = m.place
+  JOIN who w ON w.upid = u.server LEFT JOIN kept_for k ON k.server = u.server AND k.ns >= :NEARLY_ALL * m.whole;
