@@ -18,7 +18,8 @@ newest() {
   else
     of+=("$here/../../../lib/binder-audit")
   fi
-  find "${of[@]}" -type f \( -name '*.sql' -o -name '*.py' -o -path '*/binder_*' \) -printf '%T@\n' | sort -n | tail -n 1
+  find "${of[@]}" -type f \( -name '*.sql' -o -name '*.py' -o -path '*/binder_*' \) -printf '%T@\n' |
+    sort -n | tail -n 1
 }
 
 # Each capture, side list and result: its time and the session that it is of.

@@ -476,8 +476,8 @@ static __noinline int meet_return(u32 id, u32 process)
 }
 
 /* Whether the first command of a write was the one that failed, so that nothing was consumed. Otherwise the driver
- * would have begun the next command, or the write has none, and would not have failed. It could not begin one whose code
- * word can't be read. */
+ * would have begun the next command, or the write has none, and would not have failed. It could not begin one whose
+ * code word can't be read. */
 static __noinline int failed_at_once(struct thread *t)
 {
 	u32 word;

@@ -13,8 +13,8 @@ What must hold:
 - A lab of results, which are made of stored captures put together in many ways, with a fault put into one build:
   however many loaders there are, killed or not, in whatever order, each capture counts once. What the lab has does
   not depend on the order.
-- The fault is the only new line of that build, and the only one that is gone in the build in which it is mended. Another
-  one grows. Malformed and failed captures are told apart, and count for nothing.
+- The fault is the only new line of that build, and the only one that is gone in the build in which it is mended.
+  Another one grows. Malformed and failed captures are told apart, and count for nothing.
 - Keys of two designs, and with and without tables of methods, are refused.
 - Each question that has a name has an answer, and so has SQL. `each` asks kept databases.
 - Known defects do not fail, and a line names one that does not occur.

@@ -76,8 +76,8 @@ def due_of(one: Case) -> Counter:
 
 
 def texts_of(database: sqlite3.Connection) -> str:
-    """Paths and notes of the findings; how many of each rule a process causes; the groups, and how many each verdict has;
-    who sent how many of which code to whom, and how many of these came; and the defects with their keys."""
+    """Paths and notes of the findings; how many of each rule a process causes; the groups, and how many each verdict
+    has; who sent how many of which code to whom, and how many of these came; and the defects with their keys."""
     return "\n".join(text for text, in database.execute(
         "SELECT coalesce(path, '') || ' (' || coalesce(note, '') || ')' FROM finding"
         " UNION ALL SELECT rule || ' by ' || who || ': ' || count(*) FROM finding f"

@@ -41,8 +41,8 @@ What must hold:
 - A service has its name, and what means harm names nothing. In the captures of clients on libgbinder each transaction
   has its interface and each registered object its service, the page has the methods of a table from sources, and those
   without a fault have no verdict real and at most two maybe.
-- Against the database of another capture, lines and marks say what is new, worse, grown or gone, and `gone` only of what
-  could have come up again. Keys that are not alike are refused. `--fail-on` gives status 10 for what is not known.
+- Against the database of another capture, lines and marks say what is new, worse, grown or gone, and `gone` only of
+  what could have come up again. Keys that are not alike are refused. `--fail-on` gives status 10 for what is not known.
 - SIGKILL leaves a folder, which the next `view` removes.
 - The loader in C and the one in Python make the same database of the same rows.
 - No statement of the rules takes the square of what a capture has.

@@ -3,8 +3,8 @@
 -- Since version 4, method and node_interface are new.
 -- Since version 5, command and uid of process, the names that begin with book, disagreement, side_call, side_unstacked,
 -- stack, finding_stack, service and node_service are, and the column service of record.
--- Since version 7, program, call_text, defect, finding_defect, talk, book_process, book_open, book_stats, and the columns
--- fault of rule, culprit of finding, driver of device and of book_opening, and those of freeze notifications in
+-- Since version 7, program, call_text, defect, finding_defect, talk, book_process, book_open, book_stats, and the
+-- columns fault of rule, culprit of finding, driver of device and of book_opening, and those of freeze notifications in
 -- book_opening are new; the notifications have their names in record; what the driver in Rust does not tell is NULL.
 -- needs: nothing
 -- makes: tables: raw_capture, raw_process, raw_thread, raw_frame, raw_record, raw_interface, raw_service, raw_object,

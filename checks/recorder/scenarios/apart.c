@@ -77,7 +77,8 @@ static void unwritable_client(void)
 static void unwritten(void) { play("client", unwritable_client); }
 
 /* ---- outsider: a service of which no thread says that it takes calls. The driver in C hands a call to any thread that
- * reads, and the one in Rust to none. It reads again and again without waiting, also into room for a code word alone. */
+ * reads, and the one in Rust to none. It reads again and again without waiting, also into room for a code word
+ * alone. */
 
 static void read_some(struct exchange *exchange, size_t room)
 {

@@ -1,5 +1,5 @@
-/* A scenario about freeze notifications: a service is frozen and thawed, and others asked to be told of it. Before Linux
- * 6.12 the driver refuses their requests, and nothing more is done. */
+/* A scenario about freeze notifications: a service is frozen and thawed, and others asked to be told of it. Before
+ * Linux 6.12 the driver refuses their requests, and nothing more is done. */
 #include <string.h>
 #include <sys/ioctl.h>
 #include "service.h"

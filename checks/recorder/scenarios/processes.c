@@ -150,8 +150,8 @@ static void write_moment(const char *suffix)
 	if (fclose(file)) fail(path);
 }
 
-/* The driver in C has its books in debugfs, and the one in Rust in its binderfs; of two drivers the one in C comes first.
- * Only the one in C has the last of them. */
+/* The driver in C has its books in debugfs, and the one in Rust in its binderfs; of two drivers the one in C comes
+ * first. Only the one in C has the last of them. */
 void dump_books(const char *suffix)
 {
 	static const char *const folders[] = {"/sys/kernel/debug/binder", "/dev/binderfs/binder_logs"};

@@ -31,7 +31,8 @@ QUEUES = ("SELECT s.place FROM send s LEFT JOIN node_of n USING (generation) WHE
 OTHERS = {
     "interface": "SELECT place, interface FROM record WHERE interface NOTNULL AND code NOTNULL",
     "refused": "SELECT place, refused FROM send WHERE refused NOTNULL AND oneway",
-    "from": "SELECT s.delivery, who FROM send s JOIN who USING (upid) WHERE s.certain AND s.kind LIKE 'BC_TRANSACTION%'",
+    "from": "SELECT s.delivery, who FROM send s JOIN who USING (upid)"
+            " WHERE s.certain AND s.kind LIKE 'BC_TRANSACTION%'",
     "to": "SELECT s.place, who || iif(n.certain, '', ', not certain') FROM send s JOIN node_of n USING (generation)"
           " JOIN who w ON w.upid = n.upid"}
 # Arguments of slices that do not come of the records alone. The interface does if the data name it.

@@ -199,8 +199,8 @@ def check_hostile(tool: TraceProcessor, folder: pathlib.Path, room: pathlib.Path
     _, side = texts_stored("hello-answers")
     (room / "hostile.side").write_text(re.sub("name=.*$", lambda _: "name=" + HOSTILE, side, flags=re.MULTILINE))
     database = loaded(folder, room / "hostile.db", [DRIVER / "hello-answers/capture-1.cap"], room / "hostile.side")
-    database.execute("INSERT OR REPLACE INTO method SELECT i.name, r.code, ?, '-' FROM interface i, (SELECT DISTINCT code"
-                     " FROM raw_record WHERE code NOTNULL) r", (HOSTILE,))
+    database.execute("INSERT OR REPLACE INTO method SELECT i.name, r.code, ?, '-' FROM interface i,"
+                     " (SELECT DISTINCT code FROM raw_record WHERE code NOTNULL) r", (HOSTILE,))
     write_timelines(database, room)
     name = HOSTILE.replace("\\x09", "\t").replace("\\x0a", "\n")
     for path in (room / PLAIN, room / ANDROID, room / JSON):
