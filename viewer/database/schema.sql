@@ -12,8 +12,7 @@
 --   side_clock, side_lost, interface, service, method, call_interface, object_interface, object_service, status,
 --   side_missed, side_calls, side_handle, book, book_opening, book_handle, book_node, book_buffer, book_call,
 --   book_process, book_open, book_stats, disagreement, side_call, side_pc, side_map, side_unstacked, symbol, capture,
---   report, finding; indexes:
---   side_process_of_pid, side_thread_of_tid
+--   report, finding; indexes: side_process_of_pid, side_thread_of_tid
 
 PRAGMA user_version = 7;
 
