@@ -93,7 +93,7 @@ def expectations() -> dict[str, Expected]:
     """All sessions, by their names."""
     blocks: dict[str, list[str]] = {}
     for line in TABLE.read_text().splitlines():
-        if not line or line.startswith("#"):
+        if not line or line.lstrip().startswith("#"):
             continue
         if line.startswith(" "):
             blocks[name].append(line)
