@@ -11,7 +11,7 @@ DOCUMENTS = "/usr/share/doc/binder-audit"
 WIDTH = 78
 
 
-# The page that has the way from a running system to the cause of a leak.
+# The page that has the way from a capture to the cause of a leak.
 FIRST = "binder-view"
 
 
@@ -32,7 +32,7 @@ PAGES = (
     Page("binder-record", 1, "records the Binder traffic of a running system",
          {"RECORDER": ("./record", "The side list of record")}),
     Page(FIRST, 1, "shows a capture as a page, a database or a timeline",
-         {"../README": ("A leak, from a running system to its record",), "VIEW": (), "PERFETTO": ()}),
+         {"../README": ("An answer",), "VIEW": (), "PERFETTO": ()}),
     Page("binder-fleet", 1, "keeps what is found in many captures, and compares builds", {"FLEET": ()}),
     Page("binder-methods", 1, "makes a table of the methods of interfaces", {"VIEW": ("Names of methods",)}),
     Page("binder-capture", 5, "captures of Binder traffic", {"ENVELOPE": (), "COMMANDS": ()}),
@@ -288,7 +288,7 @@ def also_lines(page: Page) -> Iterator[str]:
     for at, it in enumerate(others, 1):
         yield f".BR {escaped(it.name)} ({it.section})" + ("" if at == len(others) else " ,")
     if page.name != FIRST:
-        yield from (".PP", f".BR {escaped(FIRST)} (1)", "has the way from a running system to the cause of a leak.")
+        yield from (".PP", f".BR {escaped(FIRST)} (1)", "has the way from a capture to the cause of a leak.")
 
 
 def made(page: Page, programs: pathlib.Path, version: str, date: str) -> str:
