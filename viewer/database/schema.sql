@@ -288,14 +288,14 @@ CREATE TABLE interface(id INTEGER PRIMARY KEY, name TEXT NOT NULL) STRICT;
 CREATE TABLE service(id INTEGER PRIMARY KEY, name TEXT NOT NULL) STRICT;
 -- The methods of these interfaces, as far as they are known, and those that all objects have.
 CREATE TABLE method(interface TEXT, code INTEGER, method TEXT NOT NULL, source TEXT NOT NULL,
-  PRIMARY KEY(interface, code)) STRICT, WITHOUT ROWID;
+  PRIMARY KEY(interface, code)) STRICT;
 -- The interface of each code at a node, that of each node, and the service that a node is. In names.sql.
 CREATE TABLE call_interface(code INTEGER, upid INTEGER, ptr INTEGER, interface INTEGER NOT NULL,
-  others INTEGER NOT NULL, PRIMARY KEY(code, upid, ptr)) STRICT, WITHOUT ROWID;
+  others INTEGER NOT NULL, PRIMARY KEY(code, upid, ptr)) STRICT;
 CREATE TABLE object_interface(upid INTEGER, ptr INTEGER, interface INTEGER NOT NULL, n INTEGER NOT NULL,
-  others INTEGER NOT NULL, PRIMARY KEY(upid, ptr)) STRICT, WITHOUT ROWID;
+  others INTEGER NOT NULL, PRIMARY KEY(upid, ptr)) STRICT;
 CREATE TABLE object_service(upid INTEGER, ptr INTEGER, service INTEGER, registered INTEGER, n INTEGER NOT NULL,
-  others INTEGER NOT NULL, PRIMARY KEY(upid, ptr)) STRICT, WITHOUT ROWID;
+  others INTEGER NOT NULL, PRIMARY KEY(upid, ptr)) STRICT;
 -- The number that a BR_REPLY with TF_STATUS_CODE has in place of data; NULL if its data are not in the capture.
 CREATE TABLE status(place INTEGER PRIMARY KEY, value INTEGER) STRICT;
 CREATE TABLE side_missed(id INTEGER PRIMARY KEY, what TEXT NOT NULL, count INTEGER NOT NULL, from_seq INTEGER NOT NULL,
@@ -333,15 +333,15 @@ CREATE TABLE disagreement(id INTEGER PRIMARY KEY, upid INTEGER NOT NULL, section
 -- and pc is where it goes on. A map is told with the address that the symbols of its file have where it starts.
 CREATE TABLE side_call(seq INTEGER PRIMARY KEY, stack INTEGER NOT NULL) STRICT;
 CREATE TABLE side_pc(stack INTEGER, idx INTEGER, memory INTEGER NOT NULL, pid INTEGER NOT NULL, pc INTEGER NOT NULL,
-  PRIMARY KEY(stack, idx)) STRICT, WITHOUT ROWID;
+  PRIMARY KEY(stack, idx)) STRICT;
 CREATE TABLE side_map(memory INTEGER, start INTEGER, end INTEGER NOT NULL, address INTEGER NOT NULL, build_id TEXT,
-  path TEXT NOT NULL, PRIMARY KEY(memory, start)) STRICT, WITHOUT ROWID;
+  path TEXT NOT NULL, PRIMARY KEY(memory, start)) STRICT;
 CREATE TABLE side_unstacked(id INTEGER PRIMARY KEY, what TEXT NOT NULL, count INTEGER NOT NULL,
   from_seq INTEGER NOT NULL, after INTEGER NOT NULL) STRICT;
 -- What the files of --symbols say of these addresses. `inlined` is 0 for the innermost function at an address, and
 -- rises to the one into which the others were put.
 CREATE TABLE symbol(build_id TEXT, address INTEGER, inlined INTEGER, function TEXT NOT NULL, source TEXT,
-  PRIMARY KEY(build_id, address, inlined)) STRICT, WITHOUT ROWID;
+  PRIMARY KEY(build_id, address, inlined)) STRICT;
 CREATE TABLE capture(key TEXT PRIMARY KEY, value);
 CREATE TABLE report(id INTEGER PRIMARY KEY, section TEXT NOT NULL, place INTEGER, device INTEGER, process INTEGER,
   text TEXT NOT NULL) STRICT;

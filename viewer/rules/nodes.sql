@@ -24,7 +24,7 @@ FROM process p LEFT JOIN side_device d USING (device);
 -- The nodes that a generation of a handle leads to, by the deliveries of what was sent to it.
 CREATE TABLE peer(generation INTEGER NOT NULL, node_upid INTEGER NOT NULL, ptr INTEGER NOT NULL,
   cookie INTEGER NOT NULL, deliveries INTEGER NOT NULL, certain INTEGER NOT NULL,
-  PRIMARY KEY(generation, node_upid, ptr, cookie)) STRICT, WITHOUT ROWID;
+  PRIMARY KEY(generation, node_upid, ptr, cookie)) STRICT;
 INSERT INTO peer
 SELECT s.generation, t.upid, r.ptr, r.cookie, count(*), sum(s.certain)
 FROM raw_send s JOIN raw_record r ON r.place = s.delivery JOIN raw_thread t ON t.utid = r.utid

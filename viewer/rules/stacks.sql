@@ -42,7 +42,7 @@ FROM finding f WHERE f.what <> 'balanced' AND EXISTS (SELECT 1 FROM side_call);
 
 -- `n` rises with each stack of a finding.
 CREATE TABLE finding_stack(id INTEGER, n INTEGER, place INTEGER NOT NULL, seq INTEGER NOT NULL, stack INTEGER NOT NULL,
-  whose TEXT NOT NULL, PRIMARY KEY(id, n)) STRICT, WITHOUT ROWID;
+  whose TEXT NOT NULL, PRIMARY KEY(id, n)) STRICT;
 INSERT INTO finding_stack
 SELECT t.id, row_number() OVER (PARTITION BY t.id ORDER BY t.n), t.place, r.seq, c.stack, t.whose
 FROM tells t JOIN raw_record r USING (place) JOIN side_call c ON c.seq = r.seq;
