@@ -30,7 +30,7 @@ INSERT INTO title VALUES
   ('H2', 'nodes', NULL, 'references given back too often'),
   ('H3', 'handles', NULL, 'references to an object told dead'),
   ('H4', 'handles', NULL, 'references taken more than once'), ('H5', 'handles', NULL, 'references kept'),
-  ('H8', 'handles', NULL, 'references kept'),
+  ('H8', 'handles', NULL, 'references kept'), ('H9', 'handles', NULL, 'references kept'),
   ('U4', 'nodes', NULL, 'references never acknowledged'), ('U6', 'nodes', NULL, 'references not acknowledged yet'),
   ('T1', 'nodes', NULL, 'references not acknowledged yet'), ('F1', 'frees', NULL, 'buffers freed twice'),
   ('C6', NULL, NULL, 'calls that keep a pool busy'), ('S1', NULL, NULL, 'sends that were refused'),
@@ -48,7 +48,7 @@ SELECT f.id, f.path, likeness(f.path, t.who, p.name, o.who, q.name, s.who, x.nam
     ORDER BY t.rule IS NULL, t.what IS NULL LIMIT 1) AS title
 FROM finding f JOIN rule r ON r.id = f.rule LEFT JOIN who t ON t.upid = f.target
   LEFT JOIN process p ON p.upid = f.target LEFT JOIN who o ON o.upid = f.upid LEFT JOIN process q ON q.upid = f.upid
-  LEFT JOIN given v ON v.generation = f.generation AND f.rule IN ('H5', 'H6', 'H8')
+  LEFT JOIN given v ON v.generation = f.generation AND f.rule IN ('H5', 'H6', 'H8', 'H9')
   LEFT JOIN who s ON s.upid = v.sender LEFT JOIN process x ON x.upid = v.sender
 WHERE f.lead IS NULL;
 -- What is real and what is maybe on like paths is one group, with the strongest verdict of its findings.
@@ -85,7 +85,7 @@ CREATE TABLE finding_group(grp INTEGER PRIMARY KEY, verdict TEXT NOT NULL, title
 INSERT INTO finding_group
 SELECT h.grp, CASE k.rank WHEN 1 THEN 'real' WHEN 2 THEN 'maybe' WHEN 3 THEN 'explained' ELSE 'normal' END, n.title,
   iif(min(iif(f.lead IS NULL, f.path, NULL)) = max(iif(f.lead IS NULL, f.path, NULL)), n.path, o.likeness)
-    || iif(count(DISTINCT iif(f.lead IS NULL, f.upid, NULL)) > 1 AND (n.rule IN ('H5', 'H8')
+    || iif(count(DISTINCT iif(f.lead IS NULL, f.upid, NULL)) > 1 AND (n.rule IN ('H5', 'H8', 'H9')
       OR min(iif(f.lead IS NULL, f.path, NULL)) <> max(iif(f.lead IS NULL, f.path, NULL))),
       ' in ' || count(DISTINCT iif(f.lead IS NULL, f.upid, NULL)) || ' processes', ''),
   sum(f.lead IS NULL), s.n_all,

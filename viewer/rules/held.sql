@@ -1,9 +1,9 @@
--- H3 to H8, T, U: references to handles and nodes that are held, and those that are balanced.
+-- H3 to H9, T, U: references to handles and nodes that are held, and those that are balanced.
 -- needs: database/schema.sql: finding, raw_generation, raw_record, raw_thread, side_time; nodes.sql: who; facts.sql:
 --   given, given_way, told_death; ages.sql: ended, last, leaving, process_life; rule.sql: lossy; handles.sql:
---   handle_row; ways.sql: kept_handle, kept_way, let_go; judging.py: counted, duration
--- makes: temporary tables: mourned, dead_way, taken_again, most_held, cache, kept_elsewhere, overdue; indexes:
---   taken_again_of, most_held_of
+--   handle_row; ways.sql: earlier, kept_handle, kept_way, let_go, of_way; judging.py: counted, duration
+-- makes: temporary tables: mourned, dead_way, taken_again, most_held, nearly_all, growing, cache, overdue,
+--   kept_elsewhere; indexes: taken_again_of, most_held_of, cache_of
 
 -- The proxies of the dead go with the next collection of garbage: one is held for long after :VERY_LONG, and several
 -- after :LONG.
@@ -47,24 +47,34 @@ UPDATE finding SET rule = 'H4',
 FROM raw_generation g JOIN most_held m ON m.generation = g.id
 WHERE rule IS NULL AND section = 'handles' AND what = 'held' AND g.id = finding.generation
   AND (m.strong > 1 AND g.strong > 0 OR m.weak > 1 AND g.weak > 0);
--- H5. One handle from each of many is registration, many from one may be a leak. But what is in use and does not grow
--- is a cache: so the ways of it, of which nearly all handles are kept, with how many have no rule yet.
+-- H5. One handle from each of many is registration, many from one may be a leak: the ways of which nearly all handles
+-- are kept.
+CREATE TEMP TABLE nearly_all AS
+SELECT w.id AS way FROM kept_way w LEFT JOIN earlier b ON b.way = w.id
+WHERE w.kept >= :MANY AND w.kept >= :NEARLY_ALL * (w.n + coalesce(b.let_go, 0));
+-- A leak grows to the end: how many of a way are held at the half of what was recorded of the process, and at the end,
+-- if that is more by enough, and the last two quarters have each made it more.
+CREATE TEMP TABLE growing AS
+SELECT way, half || ' held at half of its time, ' || kept || ' at the end'
+  || iif(early, ', with what came before the capture', '') AS told
+FROM (SELECT o.way, coalesce(b.kept, 0) AS early,
+    coalesce(b.half, 0) + sum(came_left >= :LATELY AND (o.kept OR went_left < :LATELY)) AS half,
+    coalesce(b.later, 0) + sum(came_left >= :LATELY / 2 AND (o.kept OR went_left < :LATELY / 2)) AS later,
+    coalesce(b.kept, 0) + sum(o.kept) AS kept
+  FROM of_way o LEFT JOIN earlier b USING (way)
+  WHERE o.generation NOT IN (SELECT generation FROM finding WHERE rule IN ('H3', 'H4')) GROUP BY o.way)
+WHERE kept - half >= max(:MANY, :GROWTH * kept) AND half < later AND later < kept;
+-- But what is in use and does not grow is a cache, also one that goes on changing what it has: so the ways of it, with
+-- how many have no rule yet, and how many of these are in use.
 CREATE TEMP TABLE cache AS
-SELECT k.way, count(*) AS n FROM kept_handle k JOIN kept_way w ON w.id = k.way JOIN finding f USING (generation)
-WHERE f.rule IS NULL AND f.section = 'handles' AND w.kept >= :MANY AND w.kept >= :NEARLY_ALL * w.n
-GROUP BY 1 HAVING min(k.in_use) AND NOT max(k.is_late);
--- What others keep that get replies to the same code says more.
-CREATE TEMP TABLE kept_elsewhere AS
-SELECT w.id AS way, (SELECT group_concat(who || ' keeps ' || kept || ' of ' || n, ', ')
-  FROM (SELECT x.who, o.kept, o.n FROM given_way o JOIN who x USING (upid)
-    WHERE o.way = w.way AND o.sender = w.sender AND o.upid <> w.upid ORDER BY o.n DESC, o.upid LIMIT :NAMED)) AS told
-FROM kept_way w;
-UPDATE finding SET rule = 'H5', code = g.code,
-  path = g.way || iif(g.reply, '', ' from ' || (SELECT who FROM who WHERE who.upid = g.sender)),
-  note = (SELECT e.told FROM kept_elsewhere e WHERE g.reply AND e.way = k.way)
-FROM kept_handle k JOIN kept_way w ON w.id = k.way JOIN given g USING (generation)
+SELECT k.way, count(*) AS n, sum(k.in_use) AS used FROM kept_handle k JOIN finding f USING (generation)
+WHERE f.rule IS NULL AND f.section = 'handles' AND k.way IN (SELECT way FROM nearly_all)
+  AND k.way NOT IN (SELECT way FROM growing)
+GROUP BY 1 HAVING avg(k.in_use) > :MOST;
+CREATE UNIQUE INDEX temp.cache_of ON cache(way);
+UPDATE finding SET rule = 'H5' FROM kept_handle k
 WHERE rule IS NULL AND section = 'handles' AND what = 'held' AND k.generation = finding.generation
-  AND w.kept >= :MANY AND w.kept >= :NEARLY_ALL * w.n AND k.way NOT IN (SELECT way FROM cache);
+  AND k.way IN (SELECT way FROM nearly_all) AND k.way NOT IN (SELECT way FROM cache);
 -- H8. If others of the way were let go of, the longest of them says how long one is needed.
 CREATE TEMP TABLE overdue AS
 SELECT f.id, k.way, count(*) OVER (PARTITION BY k.way) AS of, l.n || ' others were let go of, each within '
@@ -72,11 +82,24 @@ SELECT f.id, k.way, count(*) OVER (PARTITION BY k.way) AS of, l.n || ' others we
 FROM finding f JOIN kept_handle k USING (generation) JOIN let_go l USING (way)
 WHERE f.rule IS NULL AND f.section = 'handles' AND f.what = 'held' AND l.n >= :MANY AND NOT k.in_use
   AND coalesce(k.idle > max(:LONG, :OLD * l.longest), k.idle_seq > :OLD * l.longest_seq);
-UPDATE finding SET rule = iif(finding.upid IN (SELECT upid FROM lossy), 'M1', 'H8'), code = g.code,
+UPDATE finding SET rule = 'H8', note = o.told FROM overdue o WHERE o.id = finding.id AND o.of >= :OFTEN;
+-- H9. What grows, whatever share of it is kept, and whether it is used.
+UPDATE finding SET rule = 'H9' FROM kept_handle k
+WHERE rule IS NULL AND section = 'handles' AND what = 'held' AND k.generation = finding.generation
+  AND k.way IN (SELECT way FROM growing);
+-- What others keep that get replies to the same code says more.
+CREATE TEMP TABLE kept_elsewhere AS
+SELECT w.id AS way, (SELECT group_concat(who || ' keeps ' || kept || ' of ' || n, ', ')
+  FROM (SELECT x.who, o.kept, o.n FROM given_way o JOIN who x USING (upid)
+    WHERE o.way = w.way AND o.sender = w.sender AND o.upid <> w.upid ORDER BY o.n DESC, o.upid LIMIT :NAMED)) AS told
+FROM kept_way w;
+-- What is said of a whole way. Where only some are kept, the missing frames may have let go of these.
+UPDATE finding SET rule = iif(rule <> 'H5' AND finding.upid IN (SELECT upid FROM lossy), 'M1', rule), code = g.code,
   path = g.way || iif(g.reply, '', ' from ' || (SELECT who FROM who WHERE who.upid = g.sender)),
-  note = o.told || coalesce((SELECT '; ' || e.told FROM kept_elsewhere e WHERE g.reply AND e.way = o.way), '')
-FROM overdue o, given g
-WHERE o.id = finding.id AND o.of >= :OFTEN AND g.generation = finding.generation;
+  note = nullif(ltrim(coalesce(note, '') || coalesce('; ' || w.told, '') || coalesce('; ' || e.told, ''), '; '), '')
+FROM kept_handle k JOIN given g USING (generation) LEFT JOIN growing w ON w.way = k.way
+  LEFT JOIN kept_elsewhere e ON g.reply AND e.way = k.way
+WHERE rule IN ('H5', 'H8', 'H9') AND k.generation = finding.generation;
 UPDATE finding SET rule = CASE WHEN later = 0 AND finding.id IN (SELECT id FROM ended)
     OR finding.id IN (SELECT id FROM leaving) THEN 'T1'
   WHEN finding.upid IN (SELECT upid FROM lossy) THEN 'M1' WHEN later > 1 THEN 'U4' ELSE 'U6' END
@@ -86,8 +109,8 @@ WHERE rule IS NULL AND section = 'nodes' AND h.id = finding.id AND h.more;
 -- way.
 UPDATE finding SET rule = 'H7' FROM handle_row h
 WHERE rule IS NULL AND h.id = finding.id AND h.what = 'balanced' AND NOT h.more;
-UPDATE finding SET rule = 'H6', path = g.way, note = path || coalesce((SELECT '; all ' || c.n
-    || ' that are kept are in use, and none came lately' FROM kept_handle k JOIN cache c USING (way)
+UPDATE finding SET rule = 'H6', path = g.way, note = path || coalesce((SELECT '; ' || c.used || ' of ' || c.n
+    || ' that are kept are in use, and their number does not grow' FROM kept_handle k JOIN cache c USING (way)
   WHERE k.generation = finding.generation), '')
 FROM given g
 WHERE rule IS NULL AND section = 'handles' AND what = 'held' AND g.generation = finding.generation AND g.way NOTNULL;

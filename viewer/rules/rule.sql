@@ -65,6 +65,7 @@ INSERT INTO rule(id, verdict, text) VALUES
   ('H6', 'normal', 'Still held, and nothing says that this is too long.'),
   ('H7', 'normal', 'Taken and let go of.'),
   ('H8', 'maybe', 'Kept, and not used, for over ten times as long as the longest of its way that was let go of.'),
+  ('H9', 'maybe', 'Its process holds more and more that came this way, up to the end.'),
   ('D1', 'explained', 'Nothing of the handle is held any more: the driver has dropped the request.'),
   ('D2', 'maybe', 'A second request of a handle, which the driver does not take.'),
   ('D3', 'explained', 'The driver waits for the acknowledgement of the death, or of the freeze.'),

@@ -21,11 +21,14 @@ THRESHOLDS = {
     # This share of a path is nearly all of it (U3, R1, H5); so is that of a time for which loopers were busy, and the
     # rest of it is enough for a method to be named (Q1, Q2).
     "NEARLY_ALL": 0.8,
-    # So many handles that one process handed over may be a leak (H5), and so many that were let go of tell how long one
-    # is needed (H8).
+    # So many handles that one process handed over may be a leak (H5, H9), and so many that were let go of tell how long
+    # one is needed (H8).
     "MANY": 4,
-    # What came, or was used, in this last part of a time came, or was used, lately (H5, H6, H8).
-    "LATELY": 0.5,
+    # What was used in this last part of a time was used lately, and what grows does so in this last part (H5, H6, H8,
+    # H9), by this share of what is held at its end.
+    "LATELY": 0.5, "GROWTH": 0.1,
+    # If more than this share of what is kept of a way is in use, it is a cache (H5, H6).
+    "MOST": 0.5,
 
     # -- How far statements look, since more says no more.
     # `later` of a finding rises up to here, and so many calls, or frames, after it are looked at.

@@ -1,44 +1,69 @@
 -- The ways by which handles came of which a process keeps several: how long it held those that it let go of, and
 -- whether it uses those that it keeps.
--- needs: database/schema.sql: raw_generation, raw_process, raw_record, raw_send, side_time; nodes.sql: manager;
---   facts.sql: given, given_way; ages.sql: last, process_life
--- makes: temporary tables: kept_way, of_way, let_go, kept_handle; indexes: of_way_generation, let_go_of, kept_handle_of
+-- needs: database/schema.sql: raw_generation, raw_process, raw_record, raw_send, side_time; nodes.sql: manager,
+--   node_of; facts.sql: given, given_way; ages.sql: last, process_life
+-- makes: temporary tables: kept_way, recorded, of_way, had_before, earlier, let_go, kept_handle; indexes: recorded_of,
+--   of_way_generation, had_before_of, earlier_of, let_go_of, kept_handle_of
 
 -- What the context manager gives, or gets, are services, which are meant to be kept.
 CREATE TEMP TABLE kept_way AS
 SELECT row_number() OVER () AS id, * FROM given_way
 WHERE kept >= :OFTEN AND upid NOT IN (SELECT upid FROM manager);
--- Those that are kept, and those that were taken and let go of, `went` then.
+-- How long a process was recorded: from its first frame to its end, or to that of the capture.
+CREATE TEMP TABLE recorded AS
+SELECT q.upid, q.first_seq, x.ts AS first_ts, coalesce(p.ended_after, last.seq) AS end_seq,
+  coalesce(p.ended, last.ts) AS end_ts
+FROM raw_process q JOIN process_life p USING (upid) LEFT JOIN side_time x ON x.seq = q.first_seq, last
+WHERE q.upid IN (SELECT upid FROM kept_way);
+CREATE UNIQUE INDEX temp.recorded_of ON recorded(upid);
+-- Those that are kept, and those that were taken and let go of, `went` then. `came_left` and `went_left` are the shares
+-- of what was recorded of the process that were left then.
 CREATE TEMP TABLE of_way AS
-SELECT w.id AS way, v.generation, v.kept, b.seq AS came, e.seq AS went
-FROM (SELECT 1 FROM kept_way LIMIT 1) CROSS JOIN given v JOIN kept_way w ON (w.upid, w.way) = (v.upid, v.way)
-    AND w.sender IS v.sender
-  JOIN raw_generation g ON g.id = v.generation JOIN raw_record b ON b.place = g.given_by
-  LEFT JOIN raw_record e ON e.place = g.end
-WHERE coalesce(v.asked, 1) <> 0 AND (v.reply OR v.sender NOTNULL)
-  AND (v.kept OR g.end NOTNULL AND g.acquired + g.increfs > 0);
+SELECT way, generation, kept, came, came_ts, went, went_ts,
+  coalesce(1.0 * (end_ts - came_ts) / (end_ts - first_ts), 1.0 * (end_seq - came) / (end_seq - first_seq)) AS came_left,
+  coalesce(1.0 * (end_ts - went_ts) / (end_ts - first_ts), 1.0 * (end_seq - went) / (end_seq - first_seq)) AS went_left
+FROM (SELECT w.id AS way, w.upid, v.generation, v.kept, b.seq AS came, x.ts AS came_ts, e.seq AS went, z.ts AS went_ts
+  FROM (SELECT 1 FROM kept_way LIMIT 1) CROSS JOIN given v JOIN kept_way w ON (w.upid, w.way) = (v.upid, v.way)
+      AND w.sender IS v.sender
+    JOIN raw_generation g ON g.id = v.generation JOIN raw_record b ON b.place = g.given_by
+    LEFT JOIN raw_record e ON e.place = g.end
+    LEFT JOIN side_time x ON x.seq = b.seq LEFT JOIN side_time z ON z.seq = e.seq
+  WHERE coalesce(v.asked, 1) <> 0 AND (v.reply OR v.sender NOTNULL)
+    AND (v.kept OR g.end NOTNULL AND g.acquired + g.increfs > 0))
+  JOIN recorded USING (upid);
 CREATE UNIQUE INDEX temp.of_way_generation ON of_way(generation);
+-- What a process had before the capture, by the process that it leads to, or -1: how many it held at the half, at three
+-- quarters and at the end of what was recorded of it, and how many it let go of.
+CREATE TEMP TABLE had_before AS
+SELECT upid, sender, sum(went_left IS NULL OR went_left < :LATELY) AS half,
+  sum(went_left IS NULL OR went_left < :LATELY / 2) AS later, sum(went_left IS NULL) AS kept, count(went_left) AS let_go
+FROM (SELECT g.upid, coalesce(n.upid, -1) AS sender,
+    coalesce(1.0 * (end_ts - z.ts) / (end_ts - first_ts), 1.0 * (end_seq - e.seq) / (end_seq - first_seq)) AS went_left
+  FROM recorded JOIN raw_generation g USING (upid) LEFT JOIN node_of n ON n.generation = g.id
+    LEFT JOIN raw_record e ON e.place = g.end LEFT JOIN side_time z ON z.seq = e.seq
+  WHERE g.given_by IS NULL AND g.handle <> 0)
+GROUP BY 1, 2;
+CREATE UNIQUE INDEX temp.had_before_of ON had_before(upid, sender);
+-- Of these, what may have come by a way: it leads to the process that handed over what came so, or it is not known
+-- where.
+CREATE TEMP TABLE earlier AS
+SELECT w.id AS way, sum(h.half) AS half, sum(h.later) AS later, sum(h.kept) AS kept, sum(h.let_go) AS let_go
+FROM kept_way w JOIN had_before h ON h.upid = w.upid AND h.sender IN (w.sender, -1) GROUP BY 1;
+CREATE UNIQUE INDEX temp.earlier_of ON earlier(way);
 -- How many were let go of, and the longest that one of them was held.
 CREATE TEMP TABLE let_go AS
-SELECT o.way, count(*) AS n, max(o.went - o.came) AS longest_seq, max(z.ts - x.ts) AS longest
-FROM of_way o LEFT JOIN side_time x ON x.seq = o.came LEFT JOIN side_time z ON z.seq = o.went
-WHERE NOT o.kept GROUP BY 1;
+SELECT way, count(*) AS n, max(went - came) AS longest_seq, max(went_ts - came_ts) AS longest
+FROM of_way WHERE NOT kept GROUP BY 1;
 CREATE UNIQUE INDEX temp.let_go_of ON let_go(way);
 -- Each that is kept, up to the end of its process or of the capture. `idle` goes from the last send to it, or else from
--- when it came. It is in use if something was sent to it in the last half of the time since it came; and it came lately
--- if it did so in the last half of the time that was recorded of its process.
+-- when it came. It is in use if something was sent to it in the last half of the time since it came.
 CREATE TEMP TABLE kept_handle AS
-SELECT way, generation, idle, idle_seq, coalesce(idle <= :LATELY * age, idle_seq <= :LATELY * age_seq) AS in_use,
-  coalesce(age < :LATELY * recorded, age_seq < :LATELY * recorded_seq) AS is_late
-FROM (SELECT o.way, o.generation,
-    coalesce(p.ended_after, last.seq) - coalesce(u.seq, o.came) AS idle_seq,
-    coalesce(p.ended, last.ts) - (SELECT ts FROM side_time x WHERE x.seq = coalesce(u.seq, o.came)) AS idle,
-    coalesce(p.ended_after, last.seq) - o.came AS age_seq,
-    coalesce(p.ended, last.ts) - (SELECT ts FROM side_time x WHERE x.seq = o.came) AS age,
-    coalesce(p.ended_after, last.seq) - q.first_seq AS recorded_seq,
-    coalesce(p.ended, last.ts) - (SELECT ts FROM side_time x WHERE x.seq = q.first_seq) AS recorded
-  FROM of_way o JOIN kept_way w ON w.id = o.way JOIN process_life p USING (upid) JOIN raw_process q USING (upid)
+SELECT way, generation, idle, idle_seq, coalesce(idle <= :LATELY * age, idle_seq <= :LATELY * age_seq) AS in_use
+FROM (SELECT o.way, o.generation, l.end_seq - coalesce(u.seq, o.came) AS idle_seq,
+    l.end_ts - (SELECT ts FROM side_time x WHERE x.seq = coalesce(u.seq, o.came)) AS idle,
+    l.end_seq - o.came AS age_seq, l.end_ts - o.came_ts AS age
+  FROM of_way o JOIN kept_way w ON w.id = o.way JOIN recorded l USING (upid)
     LEFT JOIN (SELECT generation, max(seq) AS seq FROM raw_send
-      WHERE generation IN (SELECT generation FROM of_way WHERE kept) GROUP BY 1) u USING (generation), last
+      WHERE generation IN (SELECT generation FROM of_way WHERE kept) GROUP BY 1) u USING (generation)
   WHERE o.kept);
 CREATE UNIQUE INDEX temp.kept_handle_of ON kept_handle(generation);

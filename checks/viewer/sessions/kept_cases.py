@@ -67,21 +67,22 @@ def callbacks_kept(s, senders, each_gives, to_manager=False):
     s.wait(300)
 
 
-@case("H6:6", "given by replies to code 5 of server 300 node 0x9000 (handle 2, server 300 node 0x200; all 4 that are"
-      " kept are in use, and none came lately)", before=150, used=200, then=180)
+@case("H6:6", "given by replies to code 5 of server 300 node 0x9000 (handle 2, server 300 node 0x200; 4 of 4 that are"
+      " kept are in use, and their number does not grow)", before=150, used=200, then=180)
 @case("H5:4", before=150, used=200, then=260)
-@case("H5:4", before=550, used=200, then=180)
-@case("H5:4", before=150, used=200, then=180, skips=1)
-@case("H6:6", "all 4 that are kept are in use", before=350, used=400, then=180)
-@case("H5:5", before=350, used=200, then=180, late=1)
+@case("H6:6", "4 of 4 that are kept are in use", before=550, used=200, then=180)
+@case("H6:6", "3 of 4 that are kept are in use", before=150, used=200, then=180, skips=1)
+@case("H5:4", before=150, used=200, then=180, skips=2)
+@case("H6:6", "4 of 4 that are kept are in use", before=350, used=400, then=180)
+@case("H6:7", "5 of 5 that are kept are in use", before=350, used=200, then=180, late=1)
 @case("H6:5", "(handle 2, server 300 node 0x200)", before=150, used=200, then=180, kept=3)
-@case("H6:6", "all 4 that are kept are in use", before=150, used=200, then=180, let_go=1)
+@case("H6:6", "4 of 4 that are kept are in use", before=150, used=200, then=180, let_go=1)
 @case("H6:6", "(handle 2, server 300 node 0x200)", before=150, used=200, then=180, let_go=2)
-@case("H4:1 H6:6", "all 4 that are kept are in use", before=150, used=200, then=180, twice=1)
-@case("H6:6", "all 4 that are kept are in use", before=150, used=200, then=180, ends=True)
-@case("H6:6", "all 4 that are kept are in use", before=4, used=6, then=4, has_side=False)
+@case("H4:1 H6:6", "4 of 4 that are kept are in use", before=150, used=200, then=180, twice=1)
+@case("H6:6", "4 of 4 that are kept are in use", before=150, used=200, then=180, ends=True)
+@case("H6:6", "4 of 4 that are kept are in use", before=4, used=6, then=4, has_side=False)
 @case("H5:4", before=4, used=6, then=16, has_side=False)
-@case("H5:4", before=30, used=6, then=4, has_side=False)
+@case("H6:6", "4 of 4 that are kept are in use", before=30, used=6, then=4, has_side=False)
 def cache(s, before, used, then, kept=4, skips=0, late=0, let_go=0, twice=0, ends=False):
     """A client gets handles, and uses all, or all but some, a while later. `late`: then it gets more, and again uses
     all a while later. Some it had let go of, and one it took twice and does not use. Or it ends long before the end."""
@@ -114,6 +115,116 @@ def kept_to_the_end(s):
         client.main.is_given(server.main, handle, **SERVER)
         client.main.asks(server.main, 8, handle, 0x100 * handle)
         s.wait(50)
+
+
+# ---- what is held of a way grows, or does not
+
+
+class Quarters:
+    """What is recorded of a client in four parts, each of a second or, without a side list, of 400 frames."""
+
+    def __init__(self, s, client, manager):
+        self.s, self.client, self.manager, self.time, self.sequence = s, client, manager, s.time, s.sequence
+
+    def lasts(self, parts):
+        """Goes on until so many parts have passed."""
+        if self.s.has_side:
+            self.s.wait(max(0, self.time + parts * 1_000_000_000 - self.s.time) / 1_000_000)
+        while not self.s.has_side and self.s.sequence < self.sequence + 400 * parts:
+            self.client.main.asks(self.manager.main)
+
+    def plays(self, server, gains, passing=0, drops=(0, 0, 0, 0), twice=(0, 0, 0, 0), uses=True,
+              of_before=(0, 0, 0, 0), at=100):
+        """In each part the client gets some handles. It lets go of others at once, and of some that it had, and uses
+        all that it has. Or some of these it takes twice, and it lets go of what it had before."""
+        main, held, before = self.client.main, [], 20
+        for part, gained in enumerate(gains):
+            self.lasts(part + 0.2)
+            if of_before[part]:
+                main.writes(*each(BC_RELEASE, *range(before, before + of_before[part])))
+                before += of_before[part]
+            for _ in range(passing):
+                main.is_given(server.main, 9, **SERVER)
+                main.writes(*each(BC_RELEASE, 9))
+            for handle in range(at, at + gained + twice[part]):
+                main.is_given(server.main, handle, **SERVER)
+                if handle < at + gained:
+                    held.append(handle)
+                else:
+                    main.writes(*each(BC_ACQUIRE, handle))
+            at += gained + twice[part]
+            if drops[part]:
+                main.writes(*each(BC_RELEASE, *held[:drops[part]]))
+                held = held[drops[part]:]
+            self.lasts(part + 0.8)
+            for handle in held if uses else ():
+                main.asks(server.main, 8, handle, 0x100 * handle)
+        self.lasts(len(gains))
+
+
+@case("H9:8", "given by replies to code 5 of server 300 node 0x9000 (4 held at half of its time, 8 at the end)",
+      "maybe references kept: 8 of 16 given by replies to code 5 of server 300 node 0x9000 H9")
+@case("H9:4", gains=(0, 0, 2, 2))
+@case("", gains=(0, 0, 2, 1))
+@case("H9:40", gains=(18, 18, 2, 2), passing=3)
+@case("", gains=(19, 18, 2, 2), passing=3)
+@case("", gains=(2, 2, 4, 0))
+@case("", gains=(2, 2, 0, 4))
+@case("", gains=(4, 4, 4, 4), drops=(0, 0, 4, 4))
+@case("H9:11", "7 held at half of its time, 11 at the end", gains=(4, 4, 4, 4), drops=(0, 1, 2, 2))
+@case("", gains=(6, 3, 1, 1))
+@case("H5:8", "4 held at half of its time, 8 at the end", passing=0)
+@case("H6:10", "8 of 8 that are kept are in use, and their number does not grow", gains=(5, 2, 1, 0), passing=0)
+@case("H8:8", "(8 others were let go of, each within 3 ms; 4 held at half of its time, 8 at the end)", uses=False)
+@case("H4:4", gains=(4, 0, 0, 0), twice=(0, 0, 2, 2))
+@case("M1:8", lost=True)
+@case("H5:8", passing=0, lost=True)
+@case("", gains=(6, 3, 2, 0), late=True)
+@case("H9:8", late=True)
+@case("H9:8", ends=True)
+@case("", gains=(2, 2, 4, 0), ends=True)
+@case("H9:8", has_side=False)
+@case("", gains=(2, 2, 4, 0), has_side=False)
+@case("", gains=(2, 2, 0, 4), has_side=False)
+@case("H9:11", "7 held at half of its time, 11 at the end", gains=(4, 4, 4, 4), drops=(0, 1, 2, 2), has_side=False)
+def more_and_more(s, gains=(2, 2, 2, 2), passing=2, drops=(0, 0, 0, 0), twice=(0, 0, 0, 0), uses=True, lost=False,
+                  late=False, ends=False):
+    """A client is recorded from its start: it leaks, or fills a cache. Or its frames are missing, it starts late, or
+    it ends early."""
+    if late:
+        s.process(400, "early").main.writes(ENTER)
+        s.wait(4000)
+    manager, client, server = with_server(s)
+    if lost:
+        s.loses(client)
+    Quarters(s, client, manager).plays(server, gains, passing, drops, twice, uses)
+    if ends:
+        client.ends()
+        s.wait(6000)
+
+
+@case("P1:8")
+@case("H5:8 P1:8", "(0 held at half of its time, 8 at the end)", of_other=True, gains=(0, 0, 4, 4))
+@case("P1:8", known=False)
+@case("H9:8 P1:4", "4 held at half of its time, 8 at the end", lets_go=(1, 1, 1, 1), gains=(1, 1, 3, 3))
+@case("P1:4", lets_go=(1, 1, 1, 1), gains=(1, 1, 7, 1))
+@case("H9:4 P1:8", "4 held at half of its time, 8 at the end", lets_go=(8, 0, 0, 0), at=16)
+@case("H9:4", "36 held at half of its time, 40 at the end, with what came before the capture", stays=36,
+      lets_go=(0, 0, 0, 0), gains=(0, 0, 2, 2), passing=2)
+@case("", stays=37, lets_go=(0, 0, 0, 0), gains=(0, 0, 2, 2), passing=2)
+@case("P1:8", has_side=False)
+def had_before(s, gains=(2, 2, 2, 2), lets_go=(2, 2, 2, 2), stays=0, passing=0, known=True, of_other=False, at=100):
+    """A client that is recorded from mid-life gets handles, and in each part lets go of some that it had before, the
+    numbers of which may come again. It is known where these lead, to the server or to another one, if something was
+    sent to them."""
+    manager, client = s.two("in-mid-life")
+    server, other = s.process(300, "server"), s.process(400, "other")
+    quarters = Quarters(s, client, manager)
+    server.main.gives(manager.main, 3, node=0x9000)
+    client.main.is_given(manager.main, 1, server_handle=3)
+    for handle in range(20, 20 + sum(lets_go) + stays) if known else ():
+        client.main.asks((other if of_other else server).main, 8, handle, 0x100 * handle)
+    quarters.plays(server, gains, passing, of_before=lets_go, at=at)
 
 
 # ---- some are kept, and others let go of
