@@ -5,21 +5,22 @@
 
 -- The error reply that closed a failed call or refused a send: its kind, and the send.
 CREATE TEMP TABLE failure AS
-SELECT f.id, e.kind, f.generation, f.place, e.place AS reply, s.refused = e.place AS refused FROM finding f
+SELECT f.id, e.kind, f.generation, f.place, e.place AS reply, e.utid, s.refused = e.place AS refused FROM finding f
   JOIN raw_call c USING (place) JOIN raw_record e ON e.place = c.closer LEFT JOIN raw_send s USING (place)
 WHERE f.section = 'calls' AND f.what = 'failed'
-UNION ALL SELECT f.id, e.kind, f.generation, s.place, e.place, 1 FROM finding f JOIN raw_record e USING (place)
+UNION ALL SELECT f.id, e.kind, f.generation, s.place, e.place, e.utid, 1 FROM finding f JOIN raw_record e USING (place)
   JOIN raw_send s ON s.refused = f.place WHERE f.section = 'refused'
-UNION ALL SELECT f.id, e.kind, NULL, NULL, e.place, 1 FROM finding f JOIN raw_record e USING (place)
+UNION ALL SELECT f.id, e.kind, NULL, NULL, e.place, e.utid, 1 FROM finding f JOIN raw_record e USING (place)
 WHERE f.section = 'refused' AND NOT EXISTS (SELECT 1 FROM raw_send s WHERE s.refused = f.place);
 CREATE UNIQUE INDEX temp.failure_of ON failure(id);
--- The first news that an object has ended: of its death, or by BR_DEAD_REPLY. One thread reads it while another sends:
--- a single send soon after the news says nothing.
+-- The first news that an object has ended: of its death, or by BR_DEAD_REPLY. One thread reads it while others send,
+-- and a process may keep the handle in several places: a single send of a thread with a code soon after says nothing.
 CREATE TEMP TABLE too_late AS
-SELECT e.id, n.rule, n.place, count(*) OVER (PARTITION BY n.rule, e.generation) > 1 OR coalesce(
-  (SELECT ts FROM side_time x JOIN raw_record r USING (seq) WHERE r.place = e.place)
+SELECT e.id, n.rule, n.place, count(*) OVER (PARTITION BY n.rule, e.generation, e.utid, f.code) > 1 OR coalesce(
+    (SELECT ts FROM side_time x JOIN raw_record r USING (seq) WHERE r.place = e.place)
     - (SELECT ts FROM side_time x JOIN raw_record r USING (seq) WHERE r.place = n.place) > :VERY_LONG, 0) AS certain
-FROM failure e JOIN (SELECT 'E1' AS rule, generation, min(place) AS place FROM told_death GROUP BY 2
+FROM failure e JOIN finding f USING (id)
+  JOIN (SELECT 'E1' AS rule, generation, min(place) AS place FROM told_death GROUP BY 2
     UNION ALL SELECT 'E2', generation, min(reply) FROM failure WHERE kind = :BR_DEAD_REPLY GROUP BY 2) n
   ON n.generation = e.generation
 WHERE e.kind = :BR_DEAD_REPLY AND n.place < e.place;

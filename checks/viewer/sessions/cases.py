@@ -280,8 +280,14 @@ def answer_unread(s, ends=0, wait=0):
 @case("E1:1", "told at", "E1 by client 200: 1", sends=1, after=1500)
 @case("E1:2", "told at", sends=2, after=10)
 @case("E1:3", "told at", sends=3, after=10)
-def calls_the_dead(s, sends, after):
-    """The client is told of a death, and calls the dead object."""
+@case("E3:3", sends=1, after=10, threads=3)
+@case("E1:4", "told at", sends=2, after=10, threads=2)
+@case("E1:2 E3:1", "told at", sends=2, after=10, once=1)
+@case("E3:3", sends=1, after=10, codes=3)
+@case("E1:4", "told at", sends=2, after=10, codes=2)
+def calls_the_dead(s, sends, after, threads=1, once=0, codes=1):
+    """The client is told of a death, and calls the dead object, each of some threads so many times with each of some
+    codes; `once`: so many more threads call it once each."""
     service, client = s.two()
     other = s.process(300, "short-lived")
     other.main.gives(service.main, 3)
@@ -291,9 +297,11 @@ def calls_the_dead(s, sends, after):
     client.main.reads(*each_long(BR_DEAD_BINDER, 0xD))
     client.main.writes(*each_long(BC_DEAD_BINDER_DONE, 0xD), *each(BC_RELEASE, 1))
     s.wait(after)
-    for _ in range(sends):
-        client.main.sends(1, 1)
-        client.main.reads(record(BR_DEAD_REPLY))
+    callers = [client.main, *(client.thread(1 + at) for at in range(threads + once - 1))]
+    for one in callers[:threads] * sends + callers[threads:]:
+        for code in range(1, 1 + codes):
+            one.sends(1, code)
+            one.reads(record(BR_DEAD_REPLY))
 
 
 @case("E3:2")
@@ -321,9 +329,11 @@ def news_during_calls(s):
 @case("E3:2", wait=900)
 @case("E2:1 E3:1", "told at", wait=1100)
 @case("E2:2 E3:1", "told at", sends=2)
-def dead_reply_before(s, crossing=False, sends=1, before=0, wait=0):
+@case("E3:3", then=1)
+@case("E2:2 E3:2", "told at", then=2)
+def dead_reply_before(s, crossing=False, sends=1, before=0, wait=0, then=0):
     """Two threads call an object that ends, both before it ends; or the second after the first has read so, soon or
-    not, once or twice."""
+    not, once or twice. `then`: so many times the first one calls it again."""
     service, client = s.two()
     one, two = client.main, client.thread(1)
     one.sends(0, 1)
@@ -336,6 +346,21 @@ def dead_reply_before(s, crossing=False, sends=1, before=0, wait=0):
         if not crossing:
             two.sends(0, 1)
         two.reads(record(BR_DEAD_REPLY))
+    for _ in range(then):
+        one.sends(0, 1)
+        one.reads(record(BR_DEAD_REPLY))
+
+
+@case("E3:4", times=2)
+@case("E2:4 E3:2", times=3)
+def two_dead_objects(s, times):
+    """A thread calls two objects that have ended, so many times each."""
+    service, client = s.two()
+    client.main.is_given(service.main, 1)
+    for _ in range(times):
+        for handle in 0, 1:
+            client.main.sends(handle, 1)
+            client.main.reads(record(BR_DEAD_REPLY))
 
 
 @case("E4:1", "E4 by service 100: 1", then="nothing")
