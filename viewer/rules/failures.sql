@@ -1,7 +1,8 @@
 -- E: calls and sends that failed, and oneway sends that may be spam.
 -- needs: database/schema.sql: finding, raw_call, raw_delivery, raw_record, raw_send, raw_thread, side_time; nodes.sql:
 --   node_of, who; facts.sql: told_death; judging.py: counted
--- makes: temporary tables: failure, too_late, got_call, refused_first, in_the_way; indexes: failure_of, got_call_by
+-- makes: temporary tables: failure, too_late, got_call, in_freeze, refused_first, in_the_way; indexes: failure_of,
+--   got_call_by, in_freeze_of
 
 -- The error reply that closed a failed call or refused a send: its kind, and the send.
 CREATE TEMP TABLE failure AS
@@ -33,11 +34,18 @@ SELECT t.upid, c.place FROM (SELECT 1 FROM failure WHERE kind = :BR_FROZEN_REPLY
   JOIN raw_thread t USING (utid)
 WHERE c.served AND t.upid IN (SELECT target FROM failure e JOIN finding f USING (id) WHERE e.kind = :BR_FROZEN_REPLY);
 CREATE INDEX temp.got_call_by ON got_call(upid, place);
+-- How many calls of its thread were refused in the same freeze: up to the same call that the process got, or the end.
+CREATE TEMP TABLE in_freeze AS
+SELECT id, thawed, count(*) OVER (PARTITION BY utid, target, thawed) AS n
+FROM (SELECT e.id, e.utid, f.target, (SELECT min(c.place) FROM got_call c WHERE c.upid = f.target AND c.place > e.reply)
+    AS thawed FROM failure e JOIN finding f USING (id) WHERE e.kind = :BR_FROZEN_REPLY AND f.target NOTNULL);
+CREATE UNIQUE INDEX temp.in_freeze_of ON in_freeze(id);
+UPDATE finding SET rule = 'E4', note = 'one of ' || counted(n, 'call') || ' that its thread made while '
+  || (SELECT who FROM who WHERE upid = target) || ' was frozen'
+FROM in_freeze z WHERE rule IS NULL AND z.id = finding.id AND n >= :OFTEN;
 UPDATE finding SET rule = 'E8',
-  note = (SELECT who FROM who WHERE upid = target) || ' was frozen, and got a call again at ' || g.place
-FROM (SELECT e.id, (SELECT min(c.place) FROM got_call c WHERE c.upid = f.target AND c.place > e.reply) AS place
-  FROM failure e JOIN finding f USING (id) WHERE e.kind = :BR_FROZEN_REPLY) g
-WHERE rule IS NULL AND g.id = finding.id AND g.place NOTNULL;
+  note = (SELECT who FROM who WHERE upid = target) || ' was frozen, and got a call again at ' || thawed
+FROM in_freeze z WHERE rule IS NULL AND z.id = finding.id AND thawed NOTNULL;
 UPDATE finding SET rule = CASE e.kind WHEN :BR_DEAD_REPLY THEN 'E3' WHEN :BR_FROZEN_REPLY THEN 'E4'
   ELSE iif(e.refused, 'E5', 'E6') END
 FROM failure e WHERE rule IS NULL AND e.id = finding.id;

@@ -17,8 +17,8 @@ THRESHOLDS = {
     "USUAL": 2,
     # So many must have come to a good end before the longest of them says something (U1, U2).
     "ENOUGH": 3,
-    # So many are no accident: of one path (U3, R1, E9), of one process (H3), for one pool (Q1), or times that a thread
-    # went on (U2).
+    # So many are no accident: of one path (U3, R1, E9), of one thread (E4) or process (H3), for one pool (Q1), or times
+    # that a thread went on (U2).
     "OFTEN": 3,
     # This share of a path is nearly all of it (U3, R1, H5); so is that of a time for which loopers were busy, and the
     # rest of it is enough for a method to be named (Q1, Q2).

@@ -382,6 +382,40 @@ def frozen(s, then):
         service.main.writes(ENTER)
 
 
+@case("E8:2", "E8 by service 100: 2", freezes=((2,),))
+@case("E4:3", "one of 3 calls that its thread made while service 100 was frozen", "E4 by client 200: 3",
+      freezes=((3,),))
+@case("E8:4", freezes=((2,), (2,)))
+@case("E4:3 E8:1", "E8 by service 100: 1", freezes=((3,), (1,)))
+@case("E8:4", freezes=((2, 2),))
+@case("E4:3 E8:2", freezes=((2, 3),))
+@case("E4:2", "E4 by service 100: 2", freezes=((2,),), thaws=False)
+@case("E4:3", "E4 by client 200: 3", freezes=((3,),), thaws=False)
+@case("E8:4", freezes=((2,),), servers=2)
+@case("E4:4", "E4 by service 100: 2", "E4 by server 300: 2", freezes=((2,),), servers=2, thaws=False)
+def goes_on_calling_the_frozen(s, freezes, thaws=True, servers=1):
+    """In each freeze of a service threads make so many calls; then it is thawed, and gets a call. `servers`: so many
+    are frozen at the same time, and called by the same threads."""
+    service, client = s.two()
+    frozen = [(0, 0, service)]
+    if servers > 1:
+        server = s.process(300, "server")
+        server.main.writes(ENTER)
+        server.main.gives(service.main, 3, node=0x9000)
+        client.main.is_given(service.main, 1, server_handle=3)
+        frozen.append((1, 0x9000, server))
+    threads = [client.main, *(client.thread(1 + at) for at in range(max(map(len, freezes)) - 1))]
+    for handle, ptr, process in frozen:
+        client.main.asks(process.main, 1, handle, ptr)
+    for calls in freezes:
+        for one, times in zip(threads, calls):
+            for handle, _, _ in frozen * times:
+                one.sends(handle, 1)
+                one.reads(record(BR_FROZEN_REPLY))
+        for handle, ptr, process in frozen if thaws else ():
+            client.main.asks(process.main, 1, handle, ptr)
+
+
 @case("R1:3", "code 7 to service 100 node 0x0: -74 EBADMSG", "R1 by client 200: 3", wrong=3, right=0)
 @case("R1:3", "R1 by service 100: 3", wrong=3, right=0, others=1)
 @case("R2:2", wrong=2, right=0)
