@@ -24,6 +24,7 @@ UPDATE rule SET fault = CASE id
   WHEN 'H5' THEN 'references kept'
   WHEN 'H8' THEN 'references kept'
   WHEN 'H9' THEN 'references kept'
+  WHEN 'E9' THEN 'calls in which the server ended'
   WHEN 'F1' THEN 'buffers freed twice'
   WHEN 'D2' THEN 'second requests for a death'
   WHEN 'S1' THEN 'sends that were refused'

@@ -1,25 +1,27 @@
 -- E: calls and sends that failed, and oneway sends that may be spam.
 -- needs: database/schema.sql: finding, raw_call, raw_delivery, raw_record, raw_send, raw_thread, side_time; nodes.sql:
 --   node_of, who; facts.sql: told_death; judging.py: counted
--- makes: temporary tables: failure, too_late, got_call, refused_first, in_the_way; indexes: failure_of, got_call_by
+-- makes: temporary tables: failure, too_late, got_call, in_freeze, refused_first, in_the_way; indexes: failure_of,
+--   got_call_by, in_freeze_of
 
 -- The error reply that closed a failed call or refused a send: its kind, and the send.
 CREATE TEMP TABLE failure AS
-SELECT f.id, e.kind, f.generation, f.place, e.place AS reply, s.refused = e.place AS refused FROM finding f
+SELECT f.id, e.kind, f.generation, f.place, e.place AS reply, e.utid, s.refused = e.place AS refused FROM finding f
   JOIN raw_call c USING (place) JOIN raw_record e ON e.place = c.closer LEFT JOIN raw_send s USING (place)
 WHERE f.section = 'calls' AND f.what = 'failed'
-UNION ALL SELECT f.id, e.kind, f.generation, s.place, e.place, 1 FROM finding f JOIN raw_record e USING (place)
+UNION ALL SELECT f.id, e.kind, f.generation, s.place, e.place, e.utid, 1 FROM finding f JOIN raw_record e USING (place)
   JOIN raw_send s ON s.refused = f.place WHERE f.section = 'refused'
-UNION ALL SELECT f.id, e.kind, NULL, NULL, e.place, 1 FROM finding f JOIN raw_record e USING (place)
+UNION ALL SELECT f.id, e.kind, NULL, NULL, e.place, e.utid, 1 FROM finding f JOIN raw_record e USING (place)
 WHERE f.section = 'refused' AND NOT EXISTS (SELECT 1 FROM raw_send s WHERE s.refused = f.place);
 CREATE UNIQUE INDEX temp.failure_of ON failure(id);
--- The first news that an object has ended: of its death, or by BR_DEAD_REPLY. One thread reads it while another sends:
--- a single send soon after the news says nothing.
+-- The first news that an object has ended: of its death, or by BR_DEAD_REPLY. One thread reads it while others send,
+-- and a process may keep the handle in several places: a single send of a thread with a code soon after says nothing.
 CREATE TEMP TABLE too_late AS
-SELECT e.id, n.rule, n.place, count(*) OVER (PARTITION BY n.rule, e.generation) > 1 OR coalesce(
-  (SELECT ts FROM side_time x JOIN raw_record r USING (seq) WHERE r.place = e.place)
+SELECT e.id, n.rule, n.place, count(*) OVER (PARTITION BY n.rule, e.generation, e.utid, f.code) > 1 OR coalesce(
+    (SELECT ts FROM side_time x JOIN raw_record r USING (seq) WHERE r.place = e.place)
     - (SELECT ts FROM side_time x JOIN raw_record r USING (seq) WHERE r.place = n.place) > :VERY_LONG, 0) AS certain
-FROM failure e JOIN (SELECT 'E1' AS rule, generation, min(place) AS place FROM told_death GROUP BY 2
+FROM failure e JOIN finding f USING (id)
+  JOIN (SELECT 'E1' AS rule, generation, min(place) AS place FROM told_death GROUP BY 2
     UNION ALL SELECT 'E2', generation, min(reply) FROM failure WHERE kind = :BR_DEAD_REPLY GROUP BY 2) n
   ON n.generation = e.generation
 WHERE e.kind = :BR_DEAD_REPLY AND n.place < e.place;
@@ -32,11 +34,18 @@ SELECT t.upid, c.place FROM (SELECT 1 FROM failure WHERE kind = :BR_FROZEN_REPLY
   JOIN raw_thread t USING (utid)
 WHERE c.served AND t.upid IN (SELECT target FROM failure e JOIN finding f USING (id) WHERE e.kind = :BR_FROZEN_REPLY);
 CREATE INDEX temp.got_call_by ON got_call(upid, place);
+-- How many calls of its thread were refused in the same freeze: up to the same call that the process got, or the end.
+CREATE TEMP TABLE in_freeze AS
+SELECT id, thawed, count(*) OVER (PARTITION BY utid, target, thawed) AS n
+FROM (SELECT e.id, e.utid, f.target, (SELECT min(c.place) FROM got_call c WHERE c.upid = f.target AND c.place > e.reply)
+    AS thawed FROM failure e JOIN finding f USING (id) WHERE e.kind = :BR_FROZEN_REPLY AND f.target NOTNULL);
+CREATE UNIQUE INDEX temp.in_freeze_of ON in_freeze(id);
+UPDATE finding SET rule = 'E4', note = 'one of ' || counted(n, 'call') || ' that its thread made while '
+  || (SELECT who FROM who WHERE upid = target) || ' was frozen'
+FROM in_freeze z WHERE rule IS NULL AND z.id = finding.id AND n >= :OFTEN;
 UPDATE finding SET rule = 'E8',
-  note = (SELECT who FROM who WHERE upid = target) || ' was frozen, and got a call again at ' || g.place
-FROM (SELECT e.id, (SELECT min(c.place) FROM got_call c WHERE c.upid = f.target AND c.place > e.reply) AS place
-  FROM failure e JOIN finding f USING (id) WHERE e.kind = :BR_FROZEN_REPLY) g
-WHERE rule IS NULL AND g.id = finding.id AND g.place NOTNULL;
+  note = (SELECT who FROM who WHERE upid = target) || ' was frozen, and got a call again at ' || thawed
+FROM in_freeze z WHERE rule IS NULL AND z.id = finding.id AND thawed NOTNULL;
 UPDATE finding SET rule = CASE e.kind WHEN :BR_DEAD_REPLY THEN 'E3' WHEN :BR_FROZEN_REPLY THEN 'E4'
   ELSE iif(e.refused, 'E5', 'E6') END
 FROM failure e WHERE rule IS NULL AND e.id = finding.id;

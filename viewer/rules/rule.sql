@@ -51,6 +51,7 @@ INSERT INTO rule(id, verdict, text) VALUES
   ('E6', 'real', 'The driver refused its reply.'),
   ('E7', 'maybe', 'The driver warns: much of the space of the receiver for oneway sends holds what this process sent.'),
   ('E8', 'explained', 'The process that serves it was frozen then, and was thawed later.'),
+  ('E9', 'maybe', 'Its server ended while it served this and nothing else, three times or more.'),
   ('R1', 'maybe', 'Nearly all calls of its path are answered with this status.'),
   ('R2', 'normal', 'Answered with a status.'),
   ('S1', 'real', 'The driver refused a send, one of several in one write.'),

@@ -3,10 +3,12 @@ If one changes, the sentences of its rules change too, in rule.sql and in docs/V
 
 THRESHOLDS = {
     # Nothing younger is old or late (U2, U4, C1, H3); what is left undone so shortly before an end, or freed only then,
-    # comes of that end (T1, W2); and a thread that did something so shortly before it waits for no lock (C8, C9).
+    # comes of that end (T1, W2); a thread that did something so shortly before it waits for no lock (C8, C9); and a
+    # process that ends so shortly after another one does not end by itself (E9).
     "LONG": 100_000_000,
     # Long even for a single send or handle after the news of a death (E1, E2, H3), and for what waits for a busy pool
-    # (C6, Q1, Q2). Up to here a buffer is also under way if no more frames came over it than over others (U1).
+    # (C6, Q1, Q2). Up to here a buffer is also under way if no more frames came over it than over others (U1). A
+    # process that ends in this last time of the recording ends with it (E9).
     "VERY_LONG": 1_000_000_000,
     # Old is what has lasted over so many times as long as the longest of its path that came to a good end (U2, C8), or
     # what waits for a pool so many times as long as the median (Q1).
@@ -15,8 +17,8 @@ THRESHOLDS = {
     "USUAL": 2,
     # So many must have come to a good end before the longest of them says something (U1, U2).
     "ENOUGH": 3,
-    # So many are no accident: of one path (U3, R1), of one process (H3), for one pool (Q1), or times that a thread went
-    # on (U2).
+    # So many are no accident: of one path (U3, R1, E9), of one thread (E4) or process (H3), for one pool (Q1), or times
+    # that a thread went on (U2).
     "OFTEN": 3,
     # This share of a path is nearly all of it (U3, R1, H5); so is that of a time for which loopers were busy, and the
     # rest of it is enough for a method to be named (Q1, Q2).

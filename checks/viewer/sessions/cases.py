@@ -280,8 +280,14 @@ def answer_unread(s, ends=0, wait=0):
 @case("E1:1", "told at", "E1 by client 200: 1", sends=1, after=1500)
 @case("E1:2", "told at", sends=2, after=10)
 @case("E1:3", "told at", sends=3, after=10)
-def calls_the_dead(s, sends, after):
-    """The client is told of a death, and calls the dead object."""
+@case("E3:3", sends=1, after=10, threads=3)
+@case("E1:4", "told at", sends=2, after=10, threads=2)
+@case("E1:2 E3:1", "told at", sends=2, after=10, once=1)
+@case("E3:3", sends=1, after=10, codes=3)
+@case("E1:4", "told at", sends=2, after=10, codes=2)
+def calls_the_dead(s, sends, after, threads=1, once=0, codes=1):
+    """The client is told of a death, and calls the dead object, each of some threads so many times with each of some
+    codes; `once`: so many more threads call it once each."""
     service, client = s.two()
     other = s.process(300, "short-lived")
     other.main.gives(service.main, 3)
@@ -291,9 +297,11 @@ def calls_the_dead(s, sends, after):
     client.main.reads(*each_long(BR_DEAD_BINDER, 0xD))
     client.main.writes(*each_long(BC_DEAD_BINDER_DONE, 0xD), *each(BC_RELEASE, 1))
     s.wait(after)
-    for _ in range(sends):
-        client.main.sends(1, 1)
-        client.main.reads(record(BR_DEAD_REPLY))
+    callers = [client.main, *(client.thread(1 + at) for at in range(threads + once - 1))]
+    for one in callers[:threads] * sends + callers[threads:]:
+        for code in range(1, 1 + codes):
+            one.sends(1, code)
+            one.reads(record(BR_DEAD_REPLY))
 
 
 @case("E3:2")
@@ -321,9 +329,11 @@ def news_during_calls(s):
 @case("E3:2", wait=900)
 @case("E2:1 E3:1", "told at", wait=1100)
 @case("E2:2 E3:1", "told at", sends=2)
-def dead_reply_before(s, crossing=False, sends=1, before=0, wait=0):
+@case("E3:3", then=1)
+@case("E2:2 E3:2", "told at", then=2)
+def dead_reply_before(s, crossing=False, sends=1, before=0, wait=0, then=0):
     """Two threads call an object that ends, both before it ends; or the second after the first has read so, soon or
-    not, once or twice."""
+    not, once or twice. `then`: so many times the first one calls it again."""
     service, client = s.two()
     one, two = client.main, client.thread(1)
     one.sends(0, 1)
@@ -336,6 +346,21 @@ def dead_reply_before(s, crossing=False, sends=1, before=0, wait=0):
         if not crossing:
             two.sends(0, 1)
         two.reads(record(BR_DEAD_REPLY))
+    for _ in range(then):
+        one.sends(0, 1)
+        one.reads(record(BR_DEAD_REPLY))
+
+
+@case("E3:4", times=2)
+@case("E2:4 E3:2", times=3)
+def two_dead_objects(s, times):
+    """A thread calls two objects that have ended, so many times each."""
+    service, client = s.two()
+    client.main.is_given(service.main, 1)
+    for _ in range(times):
+        for handle in 0, 1:
+            client.main.sends(handle, 1)
+            client.main.reads(record(BR_DEAD_REPLY))
 
 
 @case("E4:1", "E4 by service 100: 1", then="nothing")
@@ -355,6 +380,40 @@ def frozen(s, then):
         service.main.frees(service.main.gets(client.main.sends(0, 7, ONE_WAY)))
     elif then == "work":
         service.main.writes(ENTER)
+
+
+@case("E8:2", "E8 by service 100: 2", freezes=((2,),))
+@case("E4:3", "one of 3 calls that its thread made while service 100 was frozen", "E4 by client 200: 3",
+      freezes=((3,),))
+@case("E8:4", freezes=((2,), (2,)))
+@case("E4:3 E8:1", "E8 by service 100: 1", freezes=((3,), (1,)))
+@case("E8:4", freezes=((2, 2),))
+@case("E4:3 E8:2", freezes=((2, 3),))
+@case("E4:2", "E4 by service 100: 2", freezes=((2,),), thaws=False)
+@case("E4:3", "E4 by client 200: 3", freezes=((3,),), thaws=False)
+@case("E8:4", freezes=((2,),), servers=2)
+@case("E4:4", "E4 by service 100: 2", "E4 by server 300: 2", freezes=((2,),), servers=2, thaws=False)
+def goes_on_calling_the_frozen(s, freezes, thaws=True, servers=1):
+    """In each freeze of a service threads make so many calls; then it is thawed, and gets a call. `servers`: so many
+    are frozen at the same time, and called by the same threads."""
+    service, client = s.two()
+    frozen = [(0, 0, service)]
+    if servers > 1:
+        server = s.process(300, "server")
+        server.main.writes(ENTER)
+        server.main.gives(service.main, 3, node=0x9000)
+        client.main.is_given(service.main, 1, server_handle=3)
+        frozen.append((1, 0x9000, server))
+    threads = [client.main, *(client.thread(1 + at) for at in range(max(map(len, freezes)) - 1))]
+    for handle, ptr, process in frozen:
+        client.main.asks(process.main, 1, handle, ptr)
+    for calls in freezes:
+        for one, times in zip(threads, calls):
+            for handle, _, _ in frozen * times:
+                one.sends(handle, 1)
+                one.reads(record(BR_FROZEN_REPLY))
+        for handle, ptr, process in frozen if thaws else ():
+            client.main.asks(process.main, 1, handle, ptr)
 
 
 @case("R1:3", "code 7 to service 100 node 0x0: -74 EBADMSG", "R1 by client 200: 3", wrong=3, right=0)

@@ -1,0 +1,33 @@
+-- E9: calls in which their server ended, several times. What ended once while it served a call may have been ended from
+-- outside (E3).
+-- needs: database/schema.sql: finding, raw_call, raw_delivery, raw_record, raw_send, raw_thread, side_time;
+--   database/views.sql: process; nodes.sql: who; ages.sql: last, process_life; rule.sql: lossy; failures.sql: failure;
+--   judging.py: likeness
+-- makes: temporary tables: ended_alone, serving, fell; indexes: ended_alone_upid, serving_upid
+
+-- The processes that ended by themselves, as far as times tell: neither with the recording, nor right after another.
+CREATE TEMP TABLE ended_alone AS
+SELECT p.upid, p.ended
+FROM (SELECT upid, ended, ended - lag(ended) OVER (ORDER BY ended, ended_after) AS since FROM process_life
+  WHERE ended NOTNULL) p, last
+WHERE coalesce(p.since > :LONG, 1) AND last.ts - p.ended > :VERY_LONG AND p.upid NOT IN (SELECT upid FROM lossy);
+CREATE UNIQUE INDEX temp.ended_alone_upid ON ended_alone(upid);
+-- How many calls they had not replied to.
+CREATE TEMP TABLE serving AS
+SELECT t.upid, count(*) AS n FROM (SELECT 1 FROM finding WHERE rule = 'E3' LIMIT 1) CROSS JOIN raw_call c
+  JOIN raw_thread t USING (utid)
+WHERE c.served AND c.verdict = 0 AND t.upid IN (SELECT upid FROM ended_alone) GROUP BY 1;
+CREATE UNIQUE INDEX temp.serving_upid ON serving(upid);
+-- The calls that failed because of such an end, and were the only one that the process served. If only their thread
+-- ended, the call failed before. A process that is started again has the same name, and its calls the same interface.
+CREATE TEMP TABLE fell AS
+SELECT f.id, p.name, likeness(f.path, w.who, p.name) AS path
+FROM finding f JOIN failure e USING (id) JOIN raw_send s ON s.place = e.place
+  JOIN raw_delivery d ON d.place = s.delivery JOIN raw_thread t ON t.utid = d.utid
+  JOIN ended_alone a ON a.upid = t.upid JOIN serving v ON v.upid = t.upid
+  JOIN process p ON p.upid = t.upid JOIN who w ON w.upid = t.upid JOIN raw_record r ON r.place = e.reply
+  JOIN side_time x ON x.seq = r.seq
+WHERE f.rule = 'E3' AND s.certain AND v.n = 1 AND a.ended - x.ts <= :LONG;
+UPDATE finding SET rule = 'E9', note = coalesce(o.name, 'its server') || ' ended so ' || o.n || ' times'
+FROM (SELECT id, name, count(*) OVER (PARTITION BY path) AS n FROM fell) o
+WHERE o.id = finding.id AND o.n >= :OFTEN;
