@@ -27,8 +27,8 @@ from checks.kit.second_reading import reading
 from checks.viewer.edits import Edit, edited, edits_of
 from checks.viewer.heads import faults_of_heads
 from checks.viewer.sessions import (  # noqa: F401
-    book_cases, crash_cases, death_cases, defect_cases, freeze_cases, kept_cases, late_cases, limit_cases, name_cases,
-    pool_cases, stack_cases, state_cases)
+    behind_cases, book_cases, crash_cases, death_cases, defect_cases, freeze_cases, kept_cases, late_cases, limit_cases,
+    name_cases, pool_cases, stack_cases, state_cases)
 from checks.viewer.sessions.cases import CASES, Case
 from checks.viewer.sessions.session import Session
 from viewer.database import loading, raw_tables

@@ -66,11 +66,11 @@ SELECT f.id, f.section, f.what, f.place, f.rule, f.upid AS own, coalesce(w.code,
     WHEN f.section = 'objects' THEN 'a reply to'
     WHEN f.section = 'buffers' AND f.what = 'BR_REPLY' THEN 'reply to'
     WHEN f.section = 'buffers' AND (SELECT oneway FROM delivery d WHERE d.place = f.place) THEN 'oneway'
-    WHEN f.section IN ('buffers', 'served', 'pools') THEN 'at'
+    WHEN f.section IN ('buffers', 'served', 'pools', 'queues') THEN 'at'
     WHEN f.section IN ('handles', 'requests', 'deaths', 'clears', 'freezes', 'freeze_clears')
       THEN iif(f.handle IS NULL, 'cookie', 'handle')
     WHEN f.section = 'nodes' THEN 'node' WHEN f.section = 'frees' THEN 'address' END AS how
-FROM (SELECT *, section IN ('served', 'nodes', 'pools') OR section = 'buffers' AND what <> 'BR_REPLY'
+FROM (SELECT *, section IN ('served', 'nodes', 'pools', 'queues') OR section = 'buffers' AND what <> 'BR_REPLY'
     OR section = 'objects' AND generation IS NULL AS is_own FROM finding WHERE lead IS NULL) f
   JOIN rule r ON r.id = f.rule LEFT JOIN came_by w ON w.id = f.id
 WHERE r.verdict <> 'normal';

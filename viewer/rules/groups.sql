@@ -35,7 +35,8 @@ INSERT INTO title VALUES
   ('T1', 'nodes', NULL, 'references not acknowledged yet'), ('F1', 'frees', NULL, 'buffers freed twice'),
   ('C6', NULL, NULL, 'calls that keep a pool busy'), ('S1', NULL, NULL, 'sends that were refused'),
   ('S2', NULL, NULL, 'replies without a call'), (NULL, 'pools', NULL, 'pools that calls use up'),
-  (NULL, 'books', NULL, 'calls open throughout'), ('E9', NULL, NULL, 'calls in which the server ended');
+  (NULL, 'books', NULL, 'calls open throughout'), ('E9', NULL, NULL, 'calls in which the server ended'),
+  (NULL, 'queues', NULL, 'oneway sends that wait longer and longer');
 
 -- The group of each finding, named by its leading finding: an open call leads its served end and its buffer.
 CREATE TABLE finding_head(id INTEGER PRIMARY KEY, grp INTEGER NOT NULL) STRICT;

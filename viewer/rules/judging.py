@@ -15,8 +15,8 @@ FOLDER = pathlib.Path(__file__).resolve().parent
 JUDGING = ("nodes.sql", "names.sql", "freeze_facts.sql", "facts.sql", "late.sql", "ages.sql", "waits.sql", "rule.sql",
            "pools.sql", "calls.sql", "used_up.sql", "failures.sql", "crashes.sql", "limits.sql", "answers.sql",
            "strays.sql", "buffers.sql", "handles.sql", "ways.sql", "held.sql", "requests.sql", "deaths.sql",
-           "freezes.sql", "frees.sql", "objects.sql", "oneway.sql", "culprits.sql", "causes.sql", "groups.sql",
-           "defects.sql", "stacks.sql")
+           "freezes.sql", "frees.sql", "objects.sql", "oneway.sql", "behind.sql", "culprits.sql", "causes.sql",
+           "groups.sql", "defects.sql", "stacks.sql")
 
 
 def judge(database: sqlite3.Connection, folder: pathlib.Path = FOLDER) -> None:

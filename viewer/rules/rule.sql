@@ -81,4 +81,5 @@ INSERT INTO rule(id, verdict, text) VALUES
   ('O3', 'normal', 'Flags that the header does not name.'),
   ('W1', 'explained', 'Dropped for a newer one (TF_UPDATE_TXN).'),
   ('W2', 'explained', 'It waits for the oneway delivery before it to be freed.'),
-  ('W3', 'maybe', 'Sent and confirmed, and never seen to come.');
+  ('W3', 'maybe', 'Sent and confirmed, and never seen to come.'),
+  ('W4', 'maybe', 'Its receiver falls behind: sends to one object wait longer and longer, at last over 1 s.');

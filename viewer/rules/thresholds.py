@@ -15,7 +15,8 @@ THRESHOLDS = {
     "OLD": 10,
     # For up to so many times as long, a call or a oneway send is under way (U1).
     "USUAL": 2,
-    # So many must have come to a good end before the longest of them says something (U1, U2).
+    # So many must have come to a good end before the longest of them says something (U1, U2), or how
+    # those waited that came to a node (W4).
     "ENOUGH": 3,
     # So many are no accident: of one path (U3, R1, E9), of one thread (E4) or process (H3), for one pool (Q1), or times
     # that a thread went on (U2).

@@ -1,0 +1,67 @@
+"""More sessions as in cases.py: listeners that fall behind."""
+
+from checks.viewer.sessions.cases import case
+from checks.viewer.sessions.session import *
+
+
+def told(s, count, came_at, ends=True, lost=False, more=0):
+    """A client tells a service something each 0.1 s, in oneway sends. The service takes each of them at a time, if it
+    does so before the end, `more` milliseconds after the last of them, and then ends or does not. `lost`: its last
+    frame is missing."""
+    service, client = s.two()
+    client.main.asks(service.main)
+    begin, sent = s.time, {}
+    stops = 100 * count + more
+    steps = [(100 * at, 0, at) for at in range(count)]
+    steps += [(came_at(at), 1, at) for at in range(count) if came_at(at) < stops]
+    for time, takes, at in sorted(steps):
+        s.wait(max(0, time - (s.time - begin) / 1_000_000))
+        if lost and at == count - 1:
+            s.loses(service)
+        if takes:
+            service.main.frees(service.main.gets(sent[at]))
+        else:
+            sent[at] = client.main.sends(0, 7, ONE_WAY)
+    s.wait(max(0, stops - (s.time - begin) / 1_000_000))
+    if ends:
+        service.ends()
+
+
+@case("E3:16 W4:1", "maybe oneway sends that wait longer and longer: 1 of - code 7 at service 100 node 0x0 W4",
+      "; 16 sends did not come", "W4 by service 100: 1",
+      "defect: oneway sends that wait longer and longer | service on binder | code 7 at service", every=170)
+@case("U1:16 W4:1", every=170, ends=False)
+@case("E3:6", every=120)
+@case("E3:18", every=170, late=300)
+@case("E3:16", every=170, lost=True)
+@case("E3:123 W4:1", "; 123 sends did not come", every=170, count=300)
+def falls_behind(s, every, late=0, ends=True, lost=False, count=40):
+    """The service takes one in so many milliseconds, the first of them late or not. If many wait, the pairs of sends
+    and deliveries are guesses."""
+    told(s, count, lambda at: late + every * at, ends, lost)
+
+
+@case("E3:1 W3:19")
+def takes_nothing_any_more(s):
+    """The service takes 20 at once, and then nothing more: it does not fall behind, but hangs."""
+    told(s, 40, lambda at: 100 * at + 1 if at < 20 else 9999)
+
+
+@case("W4:1", "one waited 1.1 s, an earlier one 2 ms", wait=1100)
+@case("", wait=900)
+@case("", wait=1100, usual=200)
+@case("", wait=1100, late=33)
+@case("", wait=1100, count=8, late=6)
+@case("", wait=900, last=1200)
+@case("E3:6 W4:1", "groups that are maybe: 1", wait=1100, late=15, more=500)
+def is_late_at_last(s, wait, usual=1, count=40, late=28, last=0, more=2000):
+    """The service takes all, the last ones of them late, and the very last one maybe later; or it does not take all."""
+    told(s, count, lambda at: 100 * at + (usual if at < late else last if last and at == count - 1 else wait),
+         more=more)
+
+
+@case("E3:8")
+def was_late_once(s):
+    """The service takes the first ones over a second late, and others at once. It falls behind at last, and what it has
+    not taken when it ends has waited for less than a second."""
+    told(s, 60, lambda at: 100 * at + 1100 if at < 8 else max(100 * at + 1, 1900) if at < 30 else 140 * at - 1200)

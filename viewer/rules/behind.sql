@@ -1,0 +1,53 @@
+-- W4: listeners that fall behind, which are findings of their own, one for each node: oneway sends to it wait longer
+-- and longer.
+-- needs: database/schema.sql: finding, raw_delivery, raw_record, raw_send, raw_thread, side_time; nodes.sql: node_of,
+--   who; ages.sql: last, process_life; rule.sql: lossy; judging.py: call_name, counted, duration, service_name
+-- makes: temporary tables: oneway_wait, slow_wait, by_quarter, not_come, behind; indexes: slow_wait_of, not_come_of
+
+-- How long each oneway send waited for its delivery, or if it did not come, for the end of its receiver. Which of those
+-- that wait for one node a delivery belongs to may be a guess, which keeps their order, as the driver does.
+CREATE TEMP TABLE oneway_wait AS
+SELECT s.place, n.upid, n.ptr, n.cookie, x.ts AS since, coalesce(y.ts, p.ended, last.ts) AS until, y.ts NOTNULL AS came
+FROM raw_send s JOIN raw_record r USING (place) JOIN node_of n USING (generation) JOIN process_life p USING (upid)
+  JOIN side_time x ON x.seq = s.seq LEFT JOIN raw_delivery d ON d.place = s.delivery
+  LEFT JOIN raw_record c ON c.place = d.place LEFT JOIN raw_thread t ON t.utid = d.utid
+  LEFT JOIN side_time y ON y.seq = d.seq, last
+WHERE r.flags & :TF_ONE_WAY AND NOT r.flags & :TF_UPDATE_TXN AND s.refused IS NULL
+  AND (d.place IS NULL OR (t.upid, c.ptr, c.cookie) = (n.upid, n.ptr, n.cookie))
+  AND n.upid NOT IN (SELECT upid FROM lossy);
+-- Those of the nodes for which one waited over :VERY_LONG.
+CREATE TEMP TABLE slow_wait AS
+SELECT *, until - since AS wait FROM oneway_wait
+WHERE (upid, ptr, cookie) IN (SELECT upid, ptr, cookie FROM oneway_wait WHERE until - since > :VERY_LONG);
+CREATE INDEX temp.slow_wait_of ON slow_wait(upid, ptr, cookie, place);
+-- The first and the last quarter of those that came: how many they are, their median, and the least.
+CREATE TEMP TABLE by_quarter AS
+SELECT upid, ptr, cookie, quarter, min(wait) AS least, max(iif(nth = (n + 1) / 2, wait, NULL)) AS median, n
+FROM (SELECT *, row_number() OVER (PARTITION BY upid, ptr, cookie, quarter ORDER BY wait) AS nth,
+    count(*) OVER (PARTITION BY upid, ptr, cookie, quarter) AS n
+  FROM (SELECT *, ntile(4) OVER (PARTITION BY upid, ptr, cookie ORDER BY place) AS quarter FROM slow_wait WHERE came))
+WHERE quarter IN (1, 4) GROUP BY 1, 2, 3, 4;
+-- The first one that did not come. Later ones did not either: the driver keeps the order of a node.
+CREATE TEMP TABLE not_come AS
+SELECT upid, ptr, cookie, min(place) AS place, min(since) AS since, max(wait) AS wait, count(*) AS n FROM slow_wait
+WHERE NOT came GROUP BY 1, 2, 3;
+CREATE UNIQUE INDEX temp.not_come_of ON not_come(upid, ptr, cookie);
+-- A listener that hangs takes nothing any more: of one that falls behind others came while what did not come waited.
+CREATE TEMP TABLE behind AS
+SELECT s.upid, s.ptr, s.cookie, u.place, u.n AS missing, u.wait, min(s.wait) AS quickest
+FROM not_come u JOIN slow_wait s USING (upid, ptr, cookie)
+WHERE s.came AND u.wait > :VERY_LONG GROUP BY 1, 2, 3
+HAVING sum(s.wait < u.wait / :OLD) >= :ENOUGH AND sum(s.until > u.since) >= :ENOUGH;
+INSERT INTO behind
+SELECT z.upid, z.ptr, z.cookie, (SELECT place FROM slow_wait s WHERE s.came
+    AND (s.upid, s.ptr, s.cookie) = (z.upid, z.ptr, z.cookie) ORDER BY s.wait DESC, place LIMIT 1), 0,
+  (SELECT max(wait) FROM slow_wait s WHERE s.came AND (s.upid, s.ptr, s.cookie) = (z.upid, z.ptr, z.cookie)), a.least
+FROM by_quarter a JOIN by_quarter z USING (upid, ptr, cookie)
+WHERE a.quarter = 1 AND z.quarter = 4 AND z.n >= :ENOUGH AND z.least > max(:VERY_LONG, :OLD * a.median)
+  AND (z.upid, z.ptr, z.cookie) NOT IN (SELECT upid, ptr, cookie FROM behind);
+INSERT INTO finding(section, what, place, seq, upid, utid, code, ptr, cookie, path, rule, note)
+SELECT 'queues', 'behind', b.place, r.seq, b.upid, r.utid, r.code, b.ptr, b.cookie,
+  call_name(r.code, b.upid, b.ptr) || ' at ' || w.who || printf(' node 0x%x', b.ptr) || service_name(b.upid, b.ptr),
+  'W4', 'one waited ' || duration(b.wait) || ', an earlier one ' || duration(b.quickest)
+    || iif(b.missing, '; ' || counted(b.missing, 'send') || ' did not come', '')
+FROM behind b JOIN raw_record r USING (place) JOIN who w USING (upid);
