@@ -30,9 +30,10 @@ PAGES = (
     Page("binder-listing", 1, "lists the records of a capture of Binder traffic",
          {"REPORT": ("From a row to its record",)}),
     Page("binder-record", 1, "records the Binder traffic of a running system",
-         {"RECORDER": ("./record", "The side list of record")}),
+         {"RECORDER": ("Recording by example", "What a recording needs", "What a capture holds", "The driver's books",
+                       "Stacks", "How it works, and its bounds"), "SIDE-LIST": ()}),
     Page(FIRST, 1, "shows a capture as a page, a database or a timeline",
-         {"../README": ("An answer",), "VIEW": (), "PERFETTO": ()}),
+         {"../README": ("An answer",), "VIEW": (), "RULES": (), "PERFETTO": ()}),
     Page("binder-fleet", 1, "keeps what is found in many captures, and compares builds", {"FLEET": ()}),
     Page("binder-methods", 1, "makes a table of the methods of interfaces", {"VIEW": ("Names of methods",)}),
     Page("binder-capture", 5, "captures of Binder traffic", {"ENVELOPE": (), "COMMANDS": ()}),
@@ -160,7 +161,7 @@ def table(lines: list[str]) -> Iterator[str]:
     names = cells_of(lines[0])
     for line in lines[2:]:
         first, *others = cells_of(line)
-        yield from tagged(first, ["; ".join(f"{name}: {cell}" for name, cell in zip(names[1:], others))])
+        yield from tagged(first, ["; ".join(f"{name}: {cell}" for name, cell in zip(names[1:], others) if cell)])
 
 
 def block_lines(lines: list[str]) -> Iterator[str]:

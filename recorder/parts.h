@@ -1,5 +1,5 @@
 /* The capture, in files of a limited size: OUT-1.cap, OUT-2.cap and so on, with the side list OUT.side. Their forms are
- * in docs/ENVELOPE.md and docs/RECORDER.md. With --files only the newest ones are kept, and each has a side list. */
+ * in docs/ENVELOPE.md and docs/SIDE-LIST.md. With --files only the newest ones are kept, and each has a side list. */
 #ifndef RECORDER_PARTS_H
 #define RECORDER_PARTS_H
 #include "common.h"

@@ -1,4 +1,4 @@
-/* The side list. Its form is in docs/RECORDER.md. */
+/* The side list. Its form is in docs/SIDE-LIST.md. */
 #ifndef RECORDER_SIDE_H
 #define RECORDER_SIDE_H
 #include "common.h"

@@ -1,5 +1,6 @@
-"""Checks the rules of `view` on small sessions, one on either side of each threshold and order; and that the head of
-each SQL file of `view` says what its statements need and make.
+"""Checks the rules of `view` on small sessions, one on either side of each threshold and order; that the head of
+each SQL file of `view` says what its statements need and make; and that docs/RULES.md has the thresholds and, for each
+rule, a session that gets it.
 
     checks/run rules                    plays the sessions of sessions/*cases.py, and compares the rules that they get
     checks/run rules -- --edits [EDIT]  also tries wrong rules: each edit of sessions/edits.txt must change what a
@@ -26,6 +27,7 @@ from checks.kit.programs import CHECKS, DRIVER, LISTING, ROOT
 from checks.kit.second_reading import reading
 from checks.viewer.edits import Edit, edited, edits_of
 from checks.viewer.heads import faults_of_heads
+from checks.viewer.rule_page import faults_of_page
 from checks.viewer.sessions import (  # noqa: F401
     behind_cases, book_cases, crash_cases, death_cases, defect_cases, freeze_cases, kept_cases, late_cases, limit_cases,
     name_cases, pool_cases, stack_cases, state_cases)
@@ -189,7 +191,7 @@ def show(bases: list[bytes], text: str) -> None:
 
 def judge(given: argparse.Namespace, room: pathlib.Path, fail: Fail) -> None:
     build_programs(ROOT)
-    for fault in faults_of_heads():
+    for fault in (*faults_of_heads(), *faults_of_page(CASES)):
         fail(fault)
     with ThreadPoolExecutor(os.cpu_count()) as pool:
         bases = list(pool.map(made, repeat(room), range(len(CASES)), CASES))

@@ -1,5 +1,5 @@
 -- The rules, of which the first one that fits a finding decides, and the processes of which frames are missing.
--- docs/VIEW.md has the rules in words.
+-- docs/RULES.md has the rules in words.
 -- needs: database/schema.sql: raw_capture, raw_process, side_lost, side_missed; ages.sql: last, process_life
 -- makes: tables: rule; temporary tables: lossy
 
@@ -17,10 +17,10 @@ INSERT INTO lossy SELECT upid FROM process_life p WHERE EXISTS (SELECT 1 FROM si
 
 CREATE TABLE rule(id TEXT PRIMARY KEY, verdict TEXT NOT NULL, text TEXT NOT NULL, fault TEXT) STRICT;
 INSERT INTO rule(id, verdict, text) VALUES
-  ('A1', 'explained', 'The other end, or the buffer, of a call: one finding with it.'),
+  ('A1', 'explained', 'Same finding as the call: this is its other end, or its buffer.'),
   ('L1', 'explained', 'It comes of what was read after the end of the recording.'),
   ('M1', 'explained', 'Frames of its process are missing, and the one that it lacks may be among them.'),
-  ('M2', 'maybe', 'It has lasted as what is real does, but frames of its process, or of whom it calls, are missing.'),
+  ('M2', 'maybe', 'It would be real, but frames of its process, or of the one that it calls, are missing.'),
   ('M3', 'maybe', 'An error reply ended a send, and it need not be this one: frames of its process are missing.'),
   ('P1', 'explained', 'Not all that came before is known: before the capture, or in data that it does not have.'),
   ('P2', 'explained', 'It began before the recording: the driver had it in its books then.'),
@@ -72,7 +72,7 @@ INSERT INTO rule(id, verdict, text) VALUES
   ('D3', 'explained', 'The driver waits for the acknowledgement of the death, or of the freeze.'),
   ('D4', 'maybe', 'It answers nothing.'),
   ('D5', 'normal', 'No death was told: it waits for one.'),
-  ('D6', 'explained', 'Of its cookie there are as many before it as it answers.'),
+  ('D6', 'explained', 'Enough earlier deaths, or clears, had this cookie.'),
   ('D7', 'real', 'Until it is acknowledged, the driver does not tell it of the change that others were told of.'),
   ('F1', 'real', 'Freed before.'),
   ('F2', 'real', 'An address that was never delivered to it.'),

@@ -1,5 +1,5 @@
 """The thresholds of the rules, by the names that statements have for them: `:LONG` is 0.1 s. Times are in nanoseconds.
-If one changes, the sentences of its rules change too, in rule.sql and in docs/VIEW.md."""
+If one changes, docs/RULES.md and the sentences of its rules in rule.sql change too."""
 
 THRESHOLDS = {
     # Nothing younger is old or late (U2, U4, C1, H3); what is left undone so shortly before an end, or freed only then,

@@ -21,10 +21,10 @@ from checks.viewer.page.reports import check_harmless, shown_of
 
 
 def check_rules(made: pathlib.Path, fail: Fail) -> None:
-    """Checks that the rules in docs/VIEW.md are those of the database."""
+    """Checks that the rules in docs/RULES.md are those of the database."""
     rows = sqlite3.connect(made).execute("SELECT id, verdict, text FROM rule").fetchall()
-    told = re.findall(r"^    ([A-Z]\d) +(\w+) +(.*)$", (ROOT / "docs/VIEW.md").read_text(), re.MULTILINE)
-    compare("the rules of docs/VIEW.md", told, rows, fail)
+    told = re.findall(r"^\| ([A-Z]\d) \| (\w+) \| ([^|]*) \|", (ROOT / "docs/RULES.md").read_text(), re.MULTILINE)
+    compare("the rules of docs/RULES.md", sorted(told), sorted(rows), fail)
 
 
 def check_names(made: pathlib.Path, fail: Fail) -> None:

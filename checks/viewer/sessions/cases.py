@@ -705,6 +705,20 @@ def refused_of_two(s, known, lost=False):
     service.main.frees(service.main.gets(Sent(client.main, 7, ONE_WAY, b"", b"")))
 
 
+@case("S1:1 S3:1", "the send at")
+def after_a_crossed_call(s):
+    """While a service serves a call, the driver refuses the second of two oneway sends in one write. The error reply
+    crosses the served call, so the reply to that call is a stray."""
+    service, client = s.two()
+    client.main.gives(service.main, 7)
+    address = service.main.gets(client.main.sends(0, 1))
+    sent = Sent(None, 7, ONE_WAY, b"", b"").record(BC_TRANSACTION, 7)
+    service.main.writes(sent, sent)
+    service.main.reads(DONE, record(BR_FAILED_REPLY))
+    client.main.frees(client.main.gets(Sent(service.main, 7, ONE_WAY, b"", b""), 0x9700))
+    client.main.answered(service.main.replies(address))
+
+
 @case("E5:1 S2:1", "refused at")
 def reply_to_nothing(s):
     service, client = s.two()

@@ -1,0 +1,63 @@
+"""docs/RULES.md: its thresholds have their values, and the sessions that it names get their rules."""
+
+import re
+from typing import Iterable, Iterator
+
+from checks.kit.programs import CHECKS, DRIVER, ROOT
+from checks.viewer.sessions.cases import Case
+from viewer.rules.thresholds import THRESHOLDS
+
+PAGE = ROOT / "docs/RULES.md"
+VERDICTS = CHECKS / "recorder/driver/verdicts.txt"
+NAMED = re.compile(r"`([^`]+)`")
+# Thresholds in seconds.
+TIMES = ("LONG", "VERY_LONG")
+
+
+def rows(text: str) -> Iterator[list[str]]:
+    """The rows of the tables of rules: rule, verdict, sentence, thresholds and session."""
+    for line in text.splitlines():
+        if re.match(r"\| [A-Z]\d \| ", line):
+            yield [cell.strip() for cell in line.strip("|").split("|")]
+
+
+def value_of(name: str) -> str:
+    """A threshold as the page shows it."""
+    value = THRESHOLDS[name]
+    return f"{value / 1_000_000_000:g} s" if name in TIMES else f"{value:g}"
+
+
+def wrong_thresholds(text: str) -> Iterator[str]:
+    """Thresholds that the page leaves out, that have another value there, or that no statement has."""
+    for name, value in re.findall(r"^\| `([A-Z_]+)` \| ([^|]+) \|", text, re.MULTILINE):
+        if name not in THRESHOLDS or value.strip() != value_of(name):
+            yield f"{name} is {value_of(name) if name in THRESHOLDS else 'no threshold'}, not {value.strip()}"
+    told = set(NAMED.findall(text))
+    yield from (f"nothing of the threshold {name}" for name in THRESHOLDS if name not in told)
+    for rule, _, _, names, _ in rows(text):
+        yield from (f"{rule}: no threshold {name}" for name in NAMED.findall(names) if name not in THRESHOLDS)
+
+
+def stored_rules() -> set[tuple[str, str]]:
+    """The scenarios of samples/driver, each with its rules of verdict real or maybe."""
+    lines = [line.split("\t") for line in VERDICTS.read_text().splitlines() if not line.startswith("#")]
+    return {(fields[0], rule) for fields in lines for rule in fields[-1].split(",")}
+
+
+def wrong_sessions(text: str, cases: Iterable[Case]) -> Iterator[str]:
+    """Rules whose session is none, or does not get the rule."""
+    small = {(one.name.split()[0], word.partition(":")[0]) for one in cases for word in one.due.split()}
+    stored = stored_rules()
+    for rule, _, _, _, session in rows(text):
+        found = re.match(r"`([\w-]+)(\(\))?`", session)
+        if found is None or (found[1], rule) not in (small if found[2] else stored):
+            yield f"{rule}: not the rule of {session or 'a session'}"
+        elif not found[2] and not (DRIVER / found[1]).is_dir():
+            yield f"{rule}: no capture {found[1]}"
+
+
+def faults_of_page(cases: Iterable[Case]) -> Iterator[str]:
+    """What is wrong with the page."""
+    text = PAGE.read_text()
+    for what in (*wrong_thresholds(text), *wrong_sessions(text, cases)):
+        yield f"docs/RULES.md: {what}"
