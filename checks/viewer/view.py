@@ -46,7 +46,8 @@ What must hold:
 - SIGKILL leaves a folder, which the next `view` removes.
 - The loader in C and the one in Python make the same database of the same rows.
 - No statement of the rules takes the square of what a capture has.
-- The rules in docs/RULES.md are those of the database, and so are the names and columns in docs/DATABASE.md.
+- The rules in docs/RULES.md are those of the database, and so are the names, columns, types and keys in
+  docs/DATABASE.md.
 
 It calls the programs of the repository, and takes some 40 seconds on four cores.
 """

@@ -16,6 +16,7 @@ from checks.kit.checking import Fail, compare
 from checks.kit.frames import frames_of
 from checks.kit.programs import DRIVER, ROOT
 from checks.recorder.driver.compare import SECRETS, TO_CLEAR
+from checks.viewer.page.columns import check_columns
 from checks.viewer.page.common import stored, texts_of, told_by, view
 from checks.viewer.page.reports import check_harmless, shown_of
 
@@ -25,19 +26,6 @@ def check_rules(made: pathlib.Path, fail: Fail) -> None:
     rows = sqlite3.connect(made).execute("SELECT id, verdict, text FROM rule").fetchall()
     told = re.findall(r"^\| ([A-Z]\d) \| (\w+) \| ([^|]*) \|", (ROOT / "docs/RULES.md").read_text(), re.MULTILINE)
     compare("the rules of docs/RULES.md", sorted(told), sorted(rows), fail)
-
-
-def check_names(made: pathlib.Path, fail: Fail) -> None:
-    """Compares the names and columns in docs/DATABASE.md with the database. `about` must have each name."""
-    text = (ROOT / "docs/DATABASE.md").read_text().partition("What there is:")[2].partition("Of some of them:")[0]
-    told = {name: re.split(r",\s+", columns)
-            for name, columns in re.findall(r"^    (\w+)\(([^)]*)\)", text, re.MULTILINE)}
-    database = sqlite3.connect(made)
-    there = {name: [column[0] for column in database.execute(f"SELECT * FROM {name} LIMIT 0").description]
-             for name in told}
-    compare("the names of docs/DATABASE.md", told, there, fail)
-    about = {name for name, in database.execute("SELECT name FROM about")}
-    compare("about", sorted(set(told) - about), ["about"], fail)
 
 
 def check_words(folder: pathlib.Path, room: pathlib.Path, fail: Fail) -> None:
@@ -64,7 +52,7 @@ def check_words(folder: pathlib.Path, room: pathlib.Path, fail: Fail) -> None:
     count, = database.execute("SELECT count(*) FROM finding_group").fetchone()
     compare("--groups", (status, len(lines.splitlines())), (0, count), fail)
     check_rules(room / "d.db", fail)
-    check_names(room / "d.db", fail)
+    check_columns(room / "d.db", fail)
 
 
 def check_templates(fail: Fail) -> None:
