@@ -35,7 +35,7 @@ int side_create(const char *out, u32 number)
 	else
 		snprintf(path, sizeof path, "%s.side", out);
 	int error = file_create(&side, path);
-	side_text("binder side list 1\n");
+	side_text("binder side list 2\n");
 	return error;
 }
 

@@ -86,6 +86,12 @@ def joined_sides(paths: list[str], to: pathlib.Path) -> str:
     return str(to)
 
 
+# The first lines of the forms that are read: of earlier recorders, and of today's.
+VERSIONS = {"binder side list 1\n": 1, "binder side list 2\n": 2}
+
+# The fields of `begin` since version 2. Lists of version 1 may lack some of them.
+BEGIN_FIELDS = frozenset(("realtime", "boottime", "kernel", "machine", "payloads", "drivers"))
+
 # The most addresses of a stack.
 MOST_OF_STACK = 64
 
@@ -101,7 +107,8 @@ class SideList:
 
     def __init__(self, database: sqlite3.Connection, has_times: bool):
         self.database, self.has_times = database, has_times
-        self.facts: dict[str, object] = {"side_list": 1}
+        self.facts: dict[str, object] = {}
+        self.version = 0
         self.pending: list[tuple[int, int]] = []
         self.calls: list[tuple[str, str]] = []
         self.frame: re.Match[str] | None = None
@@ -118,8 +125,10 @@ class SideList:
         """Takes all lines of a side list. A last line that was cut is left out."""
         try:
             with open(path, encoding="utf-8", errors="replace", newline="\n") as lines:
-                if next(lines, "") != "binder side list 1\n":
-                    raise Stopped(4, f"{path} is not a side list of version 1")
+                self.version = VERSIONS.get(next(lines, ""), 0)
+                if not self.version:
+                    raise Stopped(4, f"{path} is not a side list of version 1 or 2")
+                self.facts["side_list"] = self.version
                 self.read_lines(lines, path)
         except OSError as error:
             raise Stopped(4, f"{path}: {error.strerror}") from error
@@ -184,6 +193,8 @@ class SideList:
         self.add_time(time, seq)
 
     def take_begin(self, time: int, _: list[str], keyed: dict[str, str]) -> None:
+        if self.version > 1 and not BEGIN_FIELDS <= keyed.keys():
+            raise KeyError("begin")
         self.facts.update(begin_ts=time, realtime=number(keyed["realtime"]), kernel=keyed["kernel"],
                           machine=keyed["machine"], payloads=keyed.get("payloads"),
                           boottime=number(keyed["boottime"]) if "boottime" in keyed else None)

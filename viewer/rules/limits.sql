@@ -1,7 +1,9 @@
--- What the driver's book `stats` of the end says to C6, C7 and E5: for how many threads the driver asks the process of
--- the pool, and how much of the receiver's space for oneway sends was free.
--- needs: database/schema.sql: book_stats, finding; waits.sql: full_pool, holder, waits; judging.py: counted
--- makes: temporary tables: pool_limit
+-- What limits the driver sets. To C6, C7 and E5 its book `stats` of the end says for how many threads it asks the
+-- process of the pool, and how much of the receiver's space for oneway sends was free. The driver in Rust hands calls
+-- and oneway sends only to threads that have said that they take calls.
+-- needs: database/schema.sql: book_stats, finding, raw_thread; database/views.sql: device, process; ages.sql:
+--   process_life; waits.sql: full_pool, holder, loop, queued, waits; rule.sql: lossy; judging.py: counted
+-- makes: temporary tables: pool_limit, no_looper
 
 CREATE TEMP TABLE pool_limit AS
 SELECT upid, CASE WHEN most = 0 AND started + requested = 0 THEN 'the driver asks it for no threads'
@@ -22,3 +24,11 @@ UPDATE finding SET note = note || '; at the end ' || counted(b.oneway_free, 'byt
 FROM book_stats b
 WHERE finding.rule = 'E5' AND finding.note NOTNULL AND b.moment = 'end' AND b.upid = finding.target
   AND b.oneway_free NOTNULL;
+-- Servers of the driver in Rust of which no thread has said so, as far as something waits for them.
+CREATE TEMP TABLE no_looper AS
+SELECT p.upid, ': none of its threads has said that it takes calls, and the driver in Rust hands none to others' AS why
+FROM process p JOIN device d USING (device) JOIN process_life l USING (upid)
+WHERE p.upid IN (SELECT upid FROM queued) AND d.driver = 'Rust' AND l.known AND p.upid NOT IN (SELECT upid FROM lossy)
+  AND NOT EXISTS (SELECT 1 FROM loop o JOIN raw_thread t ON t.utid = o.utid WHERE t.upid = p.upid);
+UPDATE finding SET note = note || n.why FROM waits w JOIN no_looper n ON n.upid = w.server_upid
+WHERE finding.rule = 'C5' AND w.id = finding.id AND w.delivery IS NULL;

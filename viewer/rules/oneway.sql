@@ -1,6 +1,6 @@
 -- W, E3, U1: oneway sends that never came, and the buffers that they wait for.
 -- needs: database/schema.sql: finding, raw_delivery, raw_record, raw_thread, side_time; ages.sql: ended, old,
---   process_life; rule.sql: lossy
+--   process_life; rule.sql: lossy; limits.sql: no_looper
 -- makes: temporary tables: last_oneway
 
 UPDATE finding SET rule = 'W1' WHERE rule IS NULL AND section = 'oneway'
@@ -32,3 +32,5 @@ UPDATE finding SET rule = 'M1' WHERE rule IS NULL AND section = 'oneway' AND fin
 UPDATE finding SET rule = CASE WHEN finding.id IN (SELECT id FROM old) THEN 'W3'
   WHEN age IS NULL AND later > 0 THEN 'W3'
   ELSE 'U6' END WHERE rule IS NULL AND section = 'oneway';
+UPDATE finding SET note = coalesce(note, 'not got') || n.why FROM no_looper n
+WHERE finding.rule = 'W3' AND n.upid = finding.target;

@@ -21,6 +21,7 @@ from checks.kit.programs import ROOT
 from checks.recorder.driver import books as books_of
 from checks.recorder.driver.recording import Recording, Report, report_on
 from checks.recorder.driver.sections import both
+from checks.recorder.driver.side_form import faults
 from checks.recorder.driver.stacked import stack_differences
 from checks.viewer.page.common import groups_due, groups_of
 from viewer.database import loading
@@ -120,6 +121,14 @@ def lost_differences(recording):
         yield "lost", "all", "untold", len(unused - told), 0
     for why, count in sorted(Counter(why for _, why in recording.lost).items()):
         yield "lost", "all", why, count, 0
+
+
+def form_differences(recording):
+    """Each side list has the form that its page describes."""
+    for path in recording.sides:
+        wrong = faults(path.read_text(errors="surrogateescape"))
+        if wrong:
+            yield "form", path.stem, wrong[0][:80], len(wrong), 0
 
 
 def end_differences(recording):
@@ -373,7 +382,9 @@ class Scenario:
             if self.has_copies:
                 found += copy_differences(self.how, self.recording, self.folder)
             found += end_differences(self.recording)
-            return found, {"capture", "lost", "names", "books", "end"} | ({"view"} if self.name == "before" else set())
+            found += form_differences(self.recording)
+            return found, {"capture", "lost", "names", "books", "end", "form"} | (
+                {"view"} if self.name == "before" else set())
         if self.books is None:
             return [("status", "all", "no books", self.status, 0)], {"status"}
         sides = both(self.recording, self.report, books_of.Books(texts or self.books))
@@ -381,10 +392,11 @@ class Scenario:
         found += purpose_differences(self.name, self.report, self.recording)
         found += lost_differences(self.recording)
         found += end_differences(self.recording)
+        found += form_differences(self.recording)
         found += sender_differences(self.recording)
         found += bits_differences(self.how, self.recording)
         found += [("status", "all", "unsaid", words, 0) for words in SAYS.get(self.how, ()) if words not in self.output]
-        seen = sides.seen | {"purpose", "lost", "end", "capture", "status", "senders", "names"}
+        seen = sides.seen | {"purpose", "lost", "end", "form", "capture", "status", "senders", "names"}
         if self.name in ("people", "people-redacted"):
             found += command_differences(self.recording)
         if self.has_copies:

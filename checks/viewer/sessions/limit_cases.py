@@ -4,6 +4,10 @@ from checks.viewer.sessions.cases import case
 from checks.viewer.sessions.session import *
 
 
+def with_driver(s, driver):
+    s.lines[0] = s.lines[0].replace("\n", f" drivers=10:1:{driver}\n")
+
+
 def counts(s, threads, free=None, driver="C"):
     """The book of the service at the end. `threads` is how many the driver asked for that have not come, how many have
     come, and how many it asks for at most; `free` is how much of its oneway space is free."""
@@ -12,7 +16,7 @@ def counts(s, threads, free=None, driver="C"):
     text = f"binder stats:\nBC_REPLY: 1\nproc 100\ncontext binder\n  threads: 2\n  requested threads: {threads}\n{told}"
     text += f"  {oneway} {free}\n" if free is not None else ""
     s.copies["end.stats"] = text
-    s.lines[0] = s.lines[0].replace("\n", f" drivers=10:1:{driver}\n")
+    with_driver(s, driver)
     s.tell(f"books end stats from={s.sequence} after={s.sequence} bytes={len(text)}")
 
 
@@ -43,3 +47,29 @@ def oneway_space_is_full(s, free, driver="C"):
     client.main.writes(Sent(client.main, 1, ONE_WAY, b"", b"").record(BC_TRANSACTION, 0))
     client.main.reads(record(BR_FAILED_REPLY))
     counts(s, "0+0/15", free, driver)
+
+
+NO_LOOPER = "not got: none of its threads has said that it takes calls, and the driver in Rust hands none to others"
+
+
+@case("C5:1 W3:1", NO_LOOPER, "C5 by other 300: 1", driver="Rust")
+@case("C5:1 W3:1", "(not got)", driver="C")
+@case("C5:1 W3:1", "(not got)", driver="Rust", says="other")
+@case("U6:2", driver="Rust", wait=20)
+@case("C5:1 W3:1", "(not got)", driver="Rust", met="in-mid-life")
+@case("M1:1 M2:1", driver="Rust", loses=True)
+def threads_that_say_nothing(s, driver, says=None, met="from-start", wait=1100, loses=False):
+    """No thread of a service says that it takes calls, or one says so that does not read, and a call and a oneway send
+    wait."""
+    manager, service = s.two()
+    with_driver(s, driver)
+    server = s.process(300, "other", met)
+    server.main.gives(manager.main, 3, node=0x9000)
+    if says:
+        server.looper(1)
+    service.main.is_given(manager.main, 1, server_handle=3)
+    if loses:
+        s.loses(server)
+    service.main.sends(1, 1)
+    service.thread(1).sends(1, 2, ONE_WAY)
+    s.wait(wait)

@@ -1,0 +1,52 @@
+"""Whether a side list has today's form: the lines that the page on it has as templates."""
+
+import re
+from functools import cache
+
+from checks.kit.programs import ROOT
+
+FIRST_LINE = "binder side list 2"
+NUMBER = "[0-9]+"
+# What the words in capitals stand for; all others stand for a number.
+KINDS = {
+    **dict.fromkeys(("RELEASE", "MACHINE"), r"\S+"), **dict.fromkeys(("NAME", "COMMAND", "PATH"), ".*"),
+    **dict.fromkeys(("WHEN", "WHICH", "WHAT", "WHY", "REASON", "MET"), "[a-z0-9-]+"),
+    "DEVICES": rf"(?:{NUMBER}:{NUMBER}:(?:C|Rust)(?:,|(?= |$)))*", "ADDRESS": "(?:0x[0-9a-f]+|-)", "ID": "(?:[0-9a-f]+|-)"}
+
+
+def page() -> str:
+    """The page that says what the first line is."""
+    found = [text for path in sorted((ROOT / "docs").glob("*.md")) if f"`{FIRST_LINE}`" in (text := path.read_text())]
+    text, = found
+    return text
+
+
+def templates(text: str) -> list[str]:
+    """The lines of the blocks that show a line of each kind: a word, and words in capitals for what differs."""
+    blocks = re.findall(r"(?:^    [a-z].*\n)+", text, re.M)
+    return [line.strip() for block in blocks if re.match(r"    [a-z ]+\b.*[A-Z]{2}", block) for line in block.splitlines()]
+
+
+def pattern_of(template: str) -> str:
+    """A line without its time. `A,A..` is one A or more, with commas between."""
+    listed = re.sub(r"([A-Z]+),\1\.\.", r"\1+", template)
+
+    def kind(found: re.Match[str]) -> str:
+        one = KINDS.get(found[1], NUMBER)
+        return f"{one}(?:,{one})*" if found[2] else one
+    return re.sub(r"\b([A-Z]+)\b(\+?)", kind, listed)
+
+
+@cache
+def line_pattern() -> re.Pattern[str]:
+    """Any line but the first one."""
+    return re.compile(f"{NUMBER} (?:" + "|".join(map(pattern_of, templates(page()))) + ")")
+
+
+def faults(text: str) -> list[str]:
+    """The lines that are of another form. A last line that was cut is none."""
+    first, *lines = text.split("\n")[:-1] or [""]
+    wrong = [line for line in lines if not line_pattern().fullmatch(line)]
+    if not any(" begin " in line for line in lines[:2]):	# the first of files comes right before
+        wrong.insert(0, "no begin")
+    return [first] * (first != FIRST_LINE) + wrong
