@@ -22,7 +22,7 @@ static const char usage_of_adb[] =
 static const char help[] =
 	"Records the Binder traffic of the whole system until PROGRAM ends, or until SIGINT or SIGTERM, into\n"
 	"OUT-1.cap, OUT-2.cap and so on, the side list OUT.side, and copies of what the driver holds, OUT.begin.state and so\n"
-	"on. It needs root. docs/RECORDER.md says more.\n"
+	"on. It needs root, or CAP_BPF and CAP_PERFMON. docs/RECORDER.md says more.\n"
 	"\n"
 	"-o OUT             the start of the files' names; by default `capture`\n"
 	"--size BYTES       the most bytes of a file, 65536 to 1073741824; by default 268435456\n"
