@@ -6,6 +6,7 @@ from functools import cache
 from checks.kit.programs import ROOT
 
 FIRST_LINE = "binder side list 2"
+EARLIER_FIRST_LINE = "binder side list 1\n"
 NUMBER = "[0-9]+"
 # What the words in capitals stand for; all others stand for a number.
 KINDS = {
