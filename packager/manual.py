@@ -161,7 +161,8 @@ def table(lines: list[str]) -> Iterator[str]:
     names = cells_of(lines[0])
     for line in lines[2:]:
         first, *others = cells_of(line)
-        yield from tagged(first, ["; ".join(f"{name}: {cell}" for name, cell in zip(names[1:], others) if cell)])
+        said = "; ".join(f"{name}: {cell}" for name, cell in zip(names[1:], others) if cell)
+        yield from tagged(first.replace("`", ""), [said])
 
 
 def block_lines(lines: list[str]) -> Iterator[str]:
