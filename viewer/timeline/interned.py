@@ -3,7 +3,7 @@
 from typing import Callable
 
 from viewer.timeline.events import ADDRESSES, PLACES
-from viewer.timeline.wire import BITS, LAST, LENGTH, MORE, PAIRS, VARINT, key, message, number, varint
+from viewer.timeline.wire import BITS, LAST, LENGTH, LOW, MORE, MOST, PAIRS, RESTS, VARINT, key, message, number, varint
 
 # Fields of InternedData.
 CATEGORY_NAMES, EVENT_NAMES, ARGUMENT_NAMES, ARGUMENT_TEXTS = 1, 2, 3, 29
@@ -11,10 +11,6 @@ CATEGORY_NAMES, EVENT_NAMES, ARGUMENT_NAMES, ARGUMENT_TEXTS = 1, 2, 3, 29
 # Fields of TrackEvent and of DebugAnnotation: the one that has the number of a text, and the one that has the text.
 CATEGORY, EVENT_NAME, TEXT = (3, 22), (10, 23), (17, 6)
 ARGUMENT, ARGUMENT_NAME, UNSIGNED, SIGNED, POINTER = 4, 1, 3, 4, 7
-
-# So many texts of a kind get a number, and so many values of an argument are remembered. A reader keeps all that have
-# a number.
-MOST = 2**16
 
 LONGEST_VARINT = 10
 
@@ -51,7 +47,7 @@ class Interned:
         return made
 
     def text(self, kind: int, fields: tuple[int, int], value: str) -> bytes:
-        """A field with a text, by its number or whole."""
+        """A field with a text, by its number or whole: a reader keeps all that have a number."""
         data = value.encode(errors="replace")
         if self.counts.get(kind, 0) < MOST or (kind, data) in self.known:
             return number(fields[0], self.number_of(kind, data))
@@ -90,7 +86,6 @@ def writer_of_places(called: bytes) -> Callable[[int], bytes]:
     heads = [key(ARGUMENT, LENGTH) + varint(len(head) + length) + head for length in range(LONGEST_VARINT + 1)]
 
     def write(value: int) -> bytes:
-        made = LAST[value] if value < PAIRS else MORE[value & PAIRS - 1] + LAST[value >> BITS] \
-            if value < PAIRS * PAIRS else varint(value)
+        made = LAST[value] if value < PAIRS else MORE[value & LOW] + RESTS[value >> BITS]
         return heads[len(made)] + made
     return write

@@ -11,12 +11,14 @@ from typing import Mapping
 
 from viewer.timeline.call_stacks import CallStacks
 from viewer.timeline.clocks import Moment
-from viewer.timeline.events import ARGUMENTS, CATEGORIES, SORTS, VERBS, Called, Finding, Process, Thread
+from viewer.timeline.events import (ALL_COUNTERS, ARGUMENTS, CATEGORIES, SORTS, VERBS, Called, Finding, Process,
+                                    Thread)
 from viewer.timeline.interned import CATEGORY, CATEGORY_NAMES, EVENT_NAME, EVENT_NAMES, Interned
 from viewer.timeline.packed import File
 from viewer.timeline.system import System
 from viewer.timeline.tracks import Axis, ProcessRow, Tracks
-from viewer.timeline.wire import LENGTH, LENGTHS, PAIRS, VARINT, fixed, key, message, number, text, varint
+from viewer.timeline.wire import (LAST, LENGTH, LENGTHS, PAIRS, VARINT, fixed, key, message, number, text, varint,
+                                  varint_of_time)
 
 # The only field of Trace, and those of TracePacket.
 PACKET = 1
@@ -59,9 +61,6 @@ SEQUENCE_NUMBER = 0x42494E44
 EVENT_BEGIN = number(SEQUENCE, SEQUENCE_NUMBER) + number(FLAGS, NEEDS_STATE) + key(TIMESTAMP, VARINT)
 EVENT_KEY = key(TRACK_EVENT, LENGTH)
 
-# So many bytes are handed to the file at a time.
-CHUNK = 2**18
-
 # Numbers of tracks, and of flows of findings, of one recording.
 BITS_OF_NUMBERS = 21
 FLOWS_OF_FINDINGS = 2**62
@@ -91,7 +90,6 @@ class Packets:
         self.recording = int.from_bytes(hashlib.blake2b(repr(facts).encode(), digest_size=8).digest(), "little")
         self.uuids = itertools.count(self.recording % 2**BITS_OF_NUMBERS << BITS_OF_NUMBERS)
         self.parts: list[bytes] = []
-        self.size = 0
         self.new = self.interned.new
         self.ns, self.at, self.around = -1, b"", 0
         self.arguments = [[self.interned.writer(name) for name in names] for names in ARGUMENTS]
@@ -105,14 +103,12 @@ class Packets:
     # -- packets
 
     def packet(self, *parts: bytes) -> None:
-        made = message(PACKET, *parts, number(SEQUENCE, SEQUENCE_NUMBER))
-        self.parts.append(made)
-        self.size += len(made)
+        self.parts.append(message(PACKET, *parts, number(SEQUENCE, SEQUENCE_NUMBER)))
 
     def event(self, ns: int, body: bytes) -> None:
         """A packet with a TrackEvent."""
         if ns != self.ns:
-            self.ns, self.at = ns, EVENT_BEGIN + varint(ns) + EVENT_KEY
+            self.ns, self.at = ns, EVENT_BEGIN + varint_of_time(ns) + EVENT_KEY
             self.around = len(self.at) + LENGTH_BYTES
         if self.new:
             self.packet(message(INTERNED_DATA, *self.new), number(FLAGS, NEEDS_STATE))
@@ -121,10 +117,8 @@ class Packets:
         size = length + self.around
         if size < PAIRS:
             self.parts += PACKET_HEADS[size], self.at, LENGTHS[length], body
-            self.size += size
         else:
             self.parts.append(message(PACKET, self.at + varint(length) + body))
-            self.size += size
 
     def tell_clocks(self, moments: list[Moment]) -> None:
         """What the clocks showed, and that times are of CLOCK_MONOTONIC if they are times. The wall clock goes on as it
@@ -268,16 +262,18 @@ class Packets:
         tracks = self.counters.get(process.upid)
         if tracks is None:
             tracks = self.counters[process.upid] = self.counter_tracks(process)
-        body, zeros, changed = b"", b"", 0
-        for value, before, (own, extra) in zip(process.now, process.shown, tracks):
-            if value != before:
-                changed += 1
-                if not body:
-                    body = own + varint(value)
+        now, shown, body, zeros, changed = process.now, process.shown, b"", b"", 0
+        for at in ALL_COUNTERS:
+            value = now[at]
+            if value != shown[at]:
+                made = LAST[value] if 0 <= value < PAIRS else varint(value)
+                if not changed:
+                    body = tracks[at][0] + made
                 elif value:
-                    body += extra + varint(value)
+                    body += tracks[at][1] + made
                 else:
-                    zeros += extra + b"\0"
+                    zeros += tracks[at][1] + made
+                changed += 1
         self.event(ns, body + zeros)
         return changed
 
@@ -292,17 +288,13 @@ class Packets:
         """A flow is a field of its event here, so nothing has to wait for the end of a frame."""
 
     def flush(self) -> None:
-        if self.size > CHUNK:
-            self.hand_over()
-
-    def hand_over(self) -> None:
-        self.file.add(b"".join(self.parts))
-        self.parts.clear()
-        self.size = 0
+        if self.parts:
+            self.file.add(b"".join(self.parts))
+            self.parts.clear()
 
     def finish(self, told: dict[str, object]) -> None:
         made = [message(ATTRIBUTE, text(ATTRIBUTE_KEY, name), number(ATTRIBUTE_NUMBER, value)
                         if isinstance(value, int) else text(ATTRIBUTE_TEXT, str(value)))
                 for name, value in told.items()]
         self.packet(message(ATTRIBUTES, *made))
-        self.hand_over()
+        self.flush()

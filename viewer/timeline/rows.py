@@ -17,6 +17,9 @@ MARK, SEND, DELIVERY, RECORD, FINDING = range(5)
 # How many bytes of the capture are read at a time.
 STRETCH = 2**18
 
+# The last form of `marshal` that does not look for objects that are there twice: nearly all are small numbers.
+WITHOUT_REFERENCES = 2
+
 # The rows of a stretch of the capture.
 QUERIES = {
     # A send, its call, its delivery if each names the other, the node that its handle leads to, and its stack.
@@ -95,7 +98,7 @@ def send(path: str, into: int) -> NoReturn:
         database = sqlite3.connect(f"{pathlib.Path(path).as_uri()}?immutable=1", uri=True)
         with open(into, "wb") as pipe:
             for rows in read(database):
-                data = marshal.dumps(rows)
+                data = marshal.dumps(rows, WITHOUT_REFERENCES)
                 pipe.write(len(data).to_bytes(8, "little") + data)
         status = 0
     finally:

@@ -163,9 +163,12 @@ class Walk:
         if not self.live:
             return
         for process in self.changed:
-            if process.now != process.shown and process.head is not None:
-                self.told["counter_events"] += self.out.count(process, self.axis.on(process, ns))
-                process.shown = process.now.copy()
+            now = process.now
+            if now != process.shown and process.head is not None:
+                if ns > process.latest:
+                    process.latest = ns
+                self.told["counter_events"] += self.out.count(process, process.latest)
+                process.shown = now.copy()
         self.changed.clear()
 
     # -- rows
@@ -253,10 +256,11 @@ class Walk:
     def hold(self, process: Process, size: int, oneway: int, change: int = 1) -> None:
         """A buffer that a process gets, or frees."""
         self.changed[process] = None
-        process.now[BUFFERS] += change
-        process.now[BYTES] += change * size
+        now = process.now
+        now[BUFFERS] += change
+        now[BYTES] += change * size
         if oneway:
-            process.now[ASYNC] += change * size
+            now[ASYNC] += change * size
 
     def free(self, utid: int, place: int, size: int, oneway: int) -> None:
         """The end of a delivery."""
@@ -368,19 +372,19 @@ class Walk:
     def walk_rows(self) -> None:
         """Goes through the rows, up to the end of the window."""
         seq = thread = None
+        handlers = self.handlers
         for rows in self.with_marks():
             for row in rows:
-                what = row[1]
-                if what == MARK:
-                    if self.window.is_past(row[2].seq):
-                        return
-                    self.mark(row[2])
-                    continue
                 if row[2] != seq:
+                    if row[1] == MARK:
+                        if self.window.is_past(row[2].seq):
+                            return
+                        self.mark(row[2])
+                        continue
                     seq, thread = row[2], self.threads[row[4]]
                     if self.next_frame(seq, row[3], thread):
                         return
-                self.handlers[what](thread, row)
+                handlers[row[1]](thread, row)
             self.out.flush()
 
     def walk(self) -> None:

@@ -12,7 +12,26 @@ MORE = [bytes((n & 127 | 128, n >> 7 | 128)) for n in range(PAIRS)]
 # The same, always of two bytes, as lengths may be: so what they add to a message is known before.
 LENGTHS = [bytes((n & 127 | 128, n >> 7)) for n in range(PAIRS)]
 
+LOW = PAIRS - 1
+
 VARINT, FIXED, LENGTH = 0, 1, 2
+
+# So many values of a kind are remembered.
+MOST = 2**16
+
+
+class Rests(dict[int, bytes]):
+    """What follows the first two bytes of a number, by the number without these bits. Places and times that come one
+    after another mostly have the same."""
+
+    def __missing__(self, rest: int) -> bytes:
+        made = LAST[rest] if rest < PAIRS else MORE[rest & LOW] + self[rest >> BITS]
+        if len(self) < MOST:
+            self[rest] = made
+        return made
+
+
+RESTS = Rests()
 
 
 def varint(number: int) -> bytes:
@@ -21,12 +40,14 @@ def varint(number: int) -> bytes:
         return LAST[number]
     if number < 0:
         number += 2**64
-    made = MORE[number & PAIRS - 1]
-    number >>= BITS
-    while number >= PAIRS:
-        made += MORE[number & PAIRS - 1]
-        number >>= BITS
-    return made + LAST[number]
+    return MORE[number & LOW] + RESTS[number >> BITS]
+
+
+def varint_of_time(ns: int) -> bytes:
+    """A number of which the lowest 28 bits are hardly ever the same again."""
+    if ns < PAIRS * PAIRS:
+        return varint(ns)
+    return MORE[ns & LOW] + MORE[ns >> BITS & LOW] + RESTS[ns >> 2 * BITS]
 
 
 @functools.cache
