@@ -24,8 +24,9 @@ What must hold:
 - The files of a flight recorder, each with its side list, are shown like the whole capture; the last one alone says
   what it cannot know.
 - Page, database and side list of a capture have no secret of its payloads, and a redacted capture has none either.
-- A side list of another capture is refused. If a side list may belong to another capture, a line says so. A thread that
-  changed its name has the last one. If frames are later than the end of the recording, a line says how many.
+- A side list of another form, or of another capture, is refused. If a side list may belong to another capture, a line
+  says so. A thread that changed its name has the last one. If frames are later than the end of the recording, a line
+  says how many.
 - A malformed capture, in one file or in parts, has a page with the line of its fault and what comes before it, and
   status 2.
 - SIGTERM leaves nothing in TMPDIR.
@@ -69,7 +70,7 @@ from checks.viewer.page.losses import CUTS, FAULTLESS, check_cuts, check_gaps
 from checks.viewer.page.methods import check_methods, check_unnamed
 from checks.viewer.page.reports import check_sample
 from checks.viewer.page.services import CAPTURES, check_libgbinder, check_services
-from checks.viewer.page.sides import check_files, check_late, check_loaders, check_renames, check_side
+from checks.viewer.page.sides import check_files, check_forms, check_late, check_loaders, check_renames, check_side
 from checks.viewer.page.stacks import check_stacks
 from checks.viewer.page.words import (check_hostile, check_malformed, check_no_engine, check_secrets, check_stopped,
                                       check_templates, check_told, check_words)
@@ -93,9 +94,10 @@ def check_all(folder: pathlib.Path, room: pathlib.Path, fail: Fail) -> None:
                  for path in DRIVER.glob("*/capture.side")]
         check_templates(fail)
         run_parts((check_words, check_stopped, check_no_engine), folder, room, fail)
-        run_parts((check_side, check_renames, check_files, check_secrets, check_told, check_late, check_malformed,
-                   check_hostile, check_methods, check_unnamed, check_services, check_loaders, check_agreement,
-                   check_copies, check_commands, check_stacks, check_growth, check_against), built, room, fail)
+        run_parts((check_side, check_forms, check_renames, check_files, check_secrets, check_told, check_late,
+                   check_malformed, check_hostile, check_methods, check_unnamed, check_services, check_loaders,
+                   check_agreement, check_copies, check_commands, check_stacks, check_growth, check_against), built,
+                  room, fail)
         for job in jobs:
             for what in job.result():
                 fail(what)

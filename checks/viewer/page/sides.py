@@ -72,6 +72,32 @@ def check_late(folder: pathlib.Path, room: pathlib.Path, fail: Fail) -> None:
         compare(f"{late} late frames", came, ["1 frame"] if late == 1 else ["3 frames"] if late else [], fail)
 
 
+# Side lists, and why ./view refuses them; "" if it reads them. Each has `begin` at 5.
+OLD_BEGIN = "realtime=1 kernel=6.1 machine=x86_64"
+FORMS = (
+    (1, OLD_BEGIN, ""), (2, f"{OLD_BEGIN} boottime=1 payloads=whole drivers=", ""),
+    *((2, f"{OLD_BEGIN} {lacking}", "the line 'begin' at 5 is not valid") for lacking in (
+        "payloads=whole drivers=10:1:C", "boottime=1 drivers=10:1:C", "boottime=1 payloads=whole")),
+    (3, OLD_BEGIN, "is not a side list of version 1 or 2"))
+
+
+def check_forms(_: pathlib.Path, room: pathlib.Path, fail: Fail) -> None:
+    """A side list is of one of two versions, and in the second one `begin` has all its fields."""
+    for number, (version, begin, due) in enumerate(FORMS):
+        list_ = room / f"form-{number}.side"
+        list_.write_text(f"binder side list {version}\n5 begin {begin}\n")
+        database = sqlite3.connect(":memory:")
+        database.executescript(raw_tables.schema())
+        taken, came = side_list.SideList(database, has_times=False), ""
+        try:
+            taken.load(str(list_))
+        except Stopped as stopped:
+            came = str(stopped)
+        compare(f"side list {number}", (due in came, bool(came)), (True, bool(due)), fail)
+        compare(f"the version of side list {number}", taken.facts.get("side_list"), version if version < 3 else None,
+                fail)
+
+
 def as_files(side: str, first: int) -> list[str]:
     """The side lists of a recorder that keeps the newest files, and whose second file begins with frame `first`."""
     head, begun, lines = "binder side list 1\n", "", [[], []]
