@@ -12,7 +12,7 @@
 #include "phone.h"
 
 /* An Android process has so much room for what it receives. */
-enum { MAPPING = (1 << 20) - 2 * 4096, LONGEST_SESSION = 300 };
+enum { MAPPING = (1 << 20) - 2 * 4096, LONGEST_SESSION = 1800 };
 
 static void look_after_children(void)
 {
