@@ -24,7 +24,8 @@
 #     --sanitize         runs the recorder under the address and undefined-behaviour sanitizers; they must find nothing
 #     --store            also renews samples/driver from the results of the newest kernel; with --rust some of them, as
 #                        NAME-rust
-#     --blind            records the sessions of the blind test set instead, and judges nothing: blind/play.sh
+#     --blind [SET]      records the sessions of a blind test set instead, by default of `blind`, and judges nothing:
+#                        blind/play.sh. The other set is `unseen`
 #
 # If a comparison fails, it says which one and ends with status 1.
 set -euo pipefail
@@ -63,7 +64,10 @@ while (($#)); do
   --arm64) arm64=1 ;;
   --sanitize) sanitize=1 ;;
   --store) store=1 ;;
-  --blind) blind=1 ;;
+  --blind)
+    blind=blind
+    if [[ -n ${2-} && $2 != --* ]]; then blind=$2 && shift; fi
+    ;;
   *) stop "$1 is not an option; the head of this script lists them" ;;
   esac
   shift
@@ -229,7 +233,7 @@ elif [[ -z $recorder ]]; then
   "$root/record" --help >/dev/null || stop 'the recorder was not built'
   recorder=$root/recorder/out/record
 fi
-# The sessions of the blind test set need no auditor.
+# The sessions of a blind test set need no auditor.
 if [[ -n $blind ]]; then
   # shellcheck source=checks/recorder/blind/play.sh
   source "$root/checks/recorder/blind/play.sh"

@@ -1,18 +1,20 @@
 # shellcheck shell=bash disable=SC2154,SC2034 # driver.sh has the variables
-# Records the sessions of the blind test set; checks/recorder/driver.sh sources it for --blind, and has the functions
-# that it calls. Of each kernel it leaves the folder blind-SERIES in the room of --room, with a folder for each session:
-# the captures, their side list, the driver's books, and `dmesg`. Nothing is judged, and nothing of it is stored.
+# Records the sessions of a blind test set; checks/recorder/driver.sh sources it for --blind, has the functions that it
+# calls, and has the set's name in `blind`, which is that of its folder beside driver.sh. Of each kernel it leaves the
+# folder SET-SERIES in the room of --room, with a folder for each session: the captures, their side list, the driver's
+# books, and `dmesg`. Nothing is judged, and nothing of it is stored.
 #
 # Its only complaints are of a recording that is none: a status other than 0, frames that were lost, events that were
 # missed. What the kernel had to say of a session is in its `dmesg`, and is part of some sessions.
 
-sessions=$root/checks/recorder/blind
+sessions=$root/checks/recorder/$blind
 blind_series=()
 
 build_sessions() {
-  programs=$room/programs-blind
+  programs=$room/programs-$blind
   rm -rf -- "$programs" && mkdir -p -- "$programs" "$room/clients"
-  gcc -O2 -Wall -Wextra -Werror -static -o "$programs/blind" "$sessions"/*.c "$scenarios"/{raw,processes}.c -lpthread
+  gcc -O2 -Wall -Wextra -Werror -static -o "$programs/blind" "$sessions"/*.c "$scenarios"/{raw,send,processes}.c \
+    -lpthread
 }
 
 # The lines of the plan that --only leaves.
@@ -44,6 +46,7 @@ tell_sessions() { # FOLDER
 }
 
 status=0
+[[ -e $sessions/plan.txt ]] || stop "there is no blind test set $blind"
 build_sessions
 plan_sessions >"$room/plan"
 [[ -s $room/plan ]] || stop 'the plan has no such session'
@@ -54,8 +57,8 @@ for one in "${series[@]}"; do
     printf 'checks/driver: the registry has no kernel %s\n' "$one"
     continue
   fi
-  boot "$kernel" "$room/plan" "$room/blind-$one" "$append"
-  tell_sessions "$room/blind-$one"
+  boot "$kernel" "$room/plan" "$room/$blind-$one" "$append"
+  tell_sessions "$room/$blind-$one"
   blind_series+=("$one")
 done
 ((${#blind_series[@]})) || stop 'no kernel was found'

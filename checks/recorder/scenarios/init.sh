@@ -23,8 +23,10 @@
 #   stacks   by the recorder only, which takes stacks, with programs that keep frame pointers; `program` is that program
 #   frameless  the same with programs that do not
 #   hoard    by the recorder only, which keeps the newest 4 files of 8 MiB; `memory` is how much it had at most
-#   blind    by the recorder only, a session of ../blind
+#   blind    by the recorder only, a session of a blind test set, such as ../blind
 #   blind-before  the same as `before`
+#   blind-live  by a recorder that is started before the session, and stopped when that has made the file `rested`: so
+#            all processes are alive at the end of the recording
 #   flight   by the recorder only, which keeps the newest 4 files of 128 KiB; `most-files` is how many there were at
 #            most
 /bin/busybox --install -s /bin
@@ -80,6 +82,20 @@ before() { # PROGRAM
 	touch $here/go
 	wait_for [ -e $here/rested ]
 	sleep 1
+	kill -TERM $recorder
+	wait $recorder
+	touch $here/stop
+	wait $program
+	status=$?
+	cat $here/record.txt
+	return $status
+}
+
+live() { # PROGRAM
+	/record $more -o $here/capture 2>$here/record.txt & recorder=$!
+	wait_for grep -q ' begin ' $here/capture.side
+	$1 $scenario $here $number & program=$!
+	while [ ! -e $here/rested ] && kill -0 $program 2>/dev/null; do sleep 0.2; done
 	kill -TERM $recorder
 	wait $recorder
 	touch $here/stop
@@ -193,6 +209,7 @@ play() {
 	before) before /scenarios.static;;
 	blind) /record $more -o $here/capture -- /blind $scenario $here $number;;
 	blind-before) before /blind;;
+	blind-live) live /blind;;
 	hidden)
 		echo 2 >/proc/sys/kernel/kptr_restrict
 		background TERM
