@@ -1,12 +1,12 @@
-"""Judges the page's verdicts on the recorded sessions of the blind test set.
+"""Judges the page's verdicts on the recorded sessions of a blind test set.
 
     checks/run judge -- --recorded FOLDER --recorded FOLDER --checkout FOLDER --keep FOLDER
 
-    --recorded FOLDER   blind-SERIES in the room of `checks/run driver -- --blind`; may be given several times
+    --recorded FOLDER   SET-SERIES in the room of `checks/run driver -- --blind SET`; may be given several times
     --checkout FOLDER   whose ./view is judged; by default this one
     --keep FOLDER       where the lines, the errors and the database of each session are kept
 
-blind/expected.txt says what is expected of each session; it was written before any of them was judged. The lines of
+The set's expected.txt says what is expected of each session; it was written before any of them was judged. The lines of
 `./view --groups` that are `real` or `maybe` are read. It prints a table, with a column for each folder:
 
 - A fault is found if a line is of its kind and names the culprit; its culprit is named on the first line if that is a
@@ -193,7 +193,7 @@ def lenient(judged: list[Judged]) -> Iterator[str]:
 
 
 def judge_folder(folder: pathlib.Path, view: pathlib.Path, keep: pathlib.Path, fail: Fail) -> list[Judged]:
-    expected, found = expectations(), sorted(path.name for path in folder.iterdir() if path.is_dir())
+    expected, found = expectations(folder.name.partition("-")[0]), sorted(path.name for path in folder.iterdir() if path.is_dir())
     for name in sorted(expected.keys() ^ set(found)):
         fail(f"{folder.name}: {name} is only in {'the table' if name in expected else 'the folder'}")
     keep.mkdir(parents=True, exist_ok=True)

@@ -1,10 +1,10 @@
-"""What expected.txt expects of each session, and what a line of groups is by that."""
+"""What expected.txt of a blind test set expects of each session, and what a line of groups is by that."""
 
 import pathlib
 import re
 from typing import NamedTuple
 
-TABLE = pathlib.Path(__file__).with_name("expected.txt")
+SETS = pathlib.Path(__file__).parents[1]
 
 
 class Line(NamedTuple):
@@ -85,14 +85,14 @@ def expected_of(name: str, lines: list[str]) -> Expected:
             found[word].insert(0, rule_of(rest, patterns))
             patterns = {}
     if healthy == bool(found["fault"]) or patterns:
-        raise ValueError(f"{TABLE.name}: {name}")
+        raise ValueError(f"expected.txt: {name}")
     return Expected(name, found["fault"], found["more"], found["true"], spared)
 
 
-def expectations() -> dict[str, Expected]:
-    """All sessions, by their names."""
+def expectations(of: str) -> dict[str, Expected]:
+    """All sessions of a set, by their names."""
     blocks: dict[str, list[str]] = {}
-    for line in TABLE.read_text().splitlines():
+    for line in (SETS / of / "expected.txt").read_text().splitlines():
         if not line or line.lstrip().startswith("#"):
             continue
         if line.startswith(" "):
