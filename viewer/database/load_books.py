@@ -203,7 +203,7 @@ class Throughout:
                  names: dict[int, str]):
         self.database, self.names, self.silent = database, names, list[Matched]()
         self.upids = {id(one.opening): one.upid for one in matched(database, copy, end)}
-        self.numbers = Counter((one.pid, one.context) for one in end)
+        self.numbers = Counter((one.pid, one.context, one.driver) for one in end)
         made, served = places_of_calls(end)
         numbers = {(one.driver, item.number) for one in begin for item in one.outgoing} & made.keys() & served.keys()
         self.calls = [(made[number], served[number]) for number in sorted(numbers)]
@@ -212,9 +212,9 @@ class Throughout:
         """The process of an opening; None if it is not certain which one it is."""
         if id(opening) not in self.upids:
             known = self.database.execute("SELECT 1 FROM process p LEFT JOIN side_device d USING (device)"
-                                          " WHERE p.pid = ? AND coalesce(d.name = ?, 1)",
-                                          (opening.pid, opening.context)).fetchone()
-            if known or self.numbers[opening.pid, opening.context] > 1:
+                                          " WHERE p.pid = ? AND coalesce(d.name = ?, 1) AND coalesce(d.driver = ?, 1)",
+                                          (opening.pid, opening.context, opening.driver)).fetchone()
+            if known or self.numbers[opening.pid, opening.context, opening.driver] > 1:
                 return None
             self.add(opening)
         return self.upids[id(opening)]
@@ -222,7 +222,8 @@ class Throughout:
     def add(self, opening: Opening) -> None:
         """Gives an opening without a frame a number after those of the capture."""
         upid, = self.database.execute("SELECT coalesce(max(upid), 0) + 1 FROM process").fetchone()
-        device = self.database.execute("SELECT device FROM side_device WHERE name = ?", (opening.context,)).fetchone()
+        device = self.database.execute("SELECT device FROM side_device WHERE name = ? AND coalesce(driver = ?, 1)",
+                                       (opening.context, opening.driver)).fetchone()
         if device is None:
             device = self.database.execute("SELECT coalesce(max(device), -1) + 1 FROM side_device").fetchone()
             self.database.execute("INSERT INTO side_device VALUES (?, ?, ?)",

@@ -247,6 +247,34 @@ def open_throughout(s, **given):
     through(s, **given)
 
 
+CALL_IN_RUST = " transaction 9569: from 200:200 to 301 code 3 flags 10 elapsed 5ms node 7 size 0:0\n"
+IN_RUST = f"""binder state:
+proc 200
+context binder
+  thread 200: l 12 need_return false
+    outgoing{CALL_IN_RUST}proc 301
+context binder
+  thread 301: l 12 need_return false
+    incoming{CALL_IN_RUST}  node 7: u0000000000000700 c0000000000000701 hs true hw true cs 1 cw 1
+"""
+
+
+@case("B1:1", "thread 200 of of-200 200 waits for thread 301 of of-301 301", "code 3 to of-301 301 node 0x700",
+      device="C")
+@case("B1:1", "thread 200 of client 200 waits for thread 301 of of-301 301", device="Rust")
+def throughout_in_the_other_driver(s, device):
+    """Two processes have an opening of the driver in Rust, in which a call hangs. One of them has another opening, of a
+    device of the same name: that is of the driver in C, or it is this one."""
+    s.lines[0] = s.lines[0].replace("\n", f" drivers=10:1:{device}\n")
+    for pid in (200, 301):
+        s.tell(f"met opening={pid + 1000} pid={pid} name=of-{pid}")
+    s.books("begin", IN_RUST)
+    _, client = s.two()
+    client.main.writes(ENTER)
+    s.wait(300)
+    s.books("end", IN_RUST)
+
+
 @case("C6:1 C7:2", "2 wait for it; thread 201 of client 200 waits for thread 101 of service 100", wait=1100)
 @case("B1:1 C7:2", wait=900)
 @case("C6:1 C7:2", to=8, server=(301, 301), wait=1100)

@@ -172,10 +172,11 @@ class Session:
         self.tell(f"lost {self.sequence}{whose} why=ring-full")
         self.missing += 1
 
-    def books(self, moment, **openings):
-        """The driver's book `state`, copied now: of each process, as `of_100`, the lines."""
+    def books(self, moment, in_rust="", **openings):
+        """The driver's book `state`, copied now: of each process, as `of_100`, the lines; then what the driver in Rust
+        writes, if there is one."""
         text = "binder state:\n" + "".join(
-            f"proc {name.removeprefix('of_')}\ncontext binder\n{lines}" for name, lines in openings.items())
+            f"proc {name.removeprefix('of_')}\ncontext binder\n{lines}" for name, lines in openings.items()) + in_rust
         self.copies[f"{moment}.state"] = text
         self.tell(f"books {moment} state from={self.sequence} after={self.sequence} bytes={len(text)}")
 
