@@ -2,9 +2,11 @@
 
     checks/run fleet                           makes a lab of 200 results, and one of a few captures
     checks/run fleet -- --results N            makes a lab of N results; prints what each step took
-    checks/run fleet -- --slurm                makes 200 captures by Slurm on this machine, with a task and a node
-                                               killed; by hand, as root, with Debian's slurmctld, slurmd and munge
+    checks/run fleet -- --slurm [N]            makes 200 captures by Slurm on this machine, in tasks of N or of as many
+                                               as take a minute, with a task and a node killed; by hand, as root, with
+                                               Debian's slurmctld, slurmd and munge
     checks/run fleet -- --make                 makes 200 captures by lab/Makefile, with jobs killed; by hand
+    checks/run fleet -- --cut                  cuts all stored captures in front; prints how many keys are the same
 
 What must hold:
 
@@ -17,6 +19,7 @@ What must hold:
   Another one grows. Malformed and failed captures are told apart, and count for nothing.
 - Keys of two designs, and with and without tables of methods, are refused.
 - Each question that has a name has an answer, and so has SQL. `each` asks kept databases.
+- In a capture that is cut in front, defects have the keys of the whole one, but where a name is not known.
 - Known defects do not fail, and a line names one that does not occur.
 - lab/Makefile makes a result of each session, also of several parts; again only of what changed; and what is killed is
   done by the next call. Nothing is left in TMPDIR.
@@ -38,6 +41,7 @@ from typing import Iterator
 from checks.kit.checking import FLAG, Fail, check, compare
 from checks.kit.programs import DRIVER, ROOT, built_programs
 from checks.kit.runs import answer
+from checks.lab.keys import CUT, check_keys_of_cut
 from checks.lab.nodes import check_by_make, check_by_slurm
 from lab import result
 from viewer.units import defect_key
@@ -379,17 +383,23 @@ def check_made(folder: pathlib.Path, room: pathlib.Path, fail: Fail) -> None:
 
 def judge(given: argparse.Namespace, room: pathlib.Path, fail: Fail) -> None:
     folder = built_programs(room, given.programs[0])
-    if given.slurm:
-        check_by_slurm(folder, room, fail)
+    if given.slurm is not None:
+        check_by_slurm(folder, room, given.slurm, fail)
     elif given.make:
         check_by_make(folder, room, fail)
+    elif given.cut:
+        names = sorted(it.parent.name for it in DRIVER.glob("*/capture-1.cap"))
+        same, split = check_keys_of_cut(folder, room, names, fail)
+        print(f"{same} defects have their key, and {split} lack a name")
     else:
         if not given.results:
             check_results(folder, room, fail)
             check_each(folder, room, fail)
             check_made(folder, room, fail)
+            check_keys_of_cut(folder, room, CUT, fail)
         check_lab(folder, room, given.results or 200, bool(given.results), fail)
 
 
 if __name__ == "__main__":
-    check(judge, results={"type": int, "default": 0}, slurm=FLAG, make=FLAG)
+    check(judge, results={"type": int, "default": 0}, make=FLAG, cut=FLAG,
+          slurm={"type": int, "nargs": "?", "const": 0, "metavar": "N"})

@@ -185,13 +185,15 @@ def cluster(room: pathlib.Path) -> Iterator[Cluster]:
         made.stop()
 
 
-def check_by_slurm(folder: pathlib.Path, room: pathlib.Path, fail: Fail) -> None:
+def check_by_slurm(folder: pathlib.Path, room: pathlib.Path, task: int, fail: Fail) -> None:
+    """By tasks of so many sessions, or with 0 of as many as slurm.sh finds that take a minute."""
     lab, begun = room / "lab", time.monotonic()
     make_captures(lab)
     with cluster(room / "cluster") as made:
         print(f"slurm: two nodes after {time.monotonic() - begun:.0f} s", flush=True)
         begun = time.monotonic()
-        asked = subprocess.Popen([str(folder / "lab/slurm.sh"), str(lab), "20"], env=made.environment)
+        asked = subprocess.Popen([str(folder / "lab/slurm.sh"), str(lab), *[str(task)] * bool(task)],
+                                 env=made.environment)
         results = lambda: len(list((lab / "results").rglob("*.json")))  # noqa: E731
         made.wait(lambda: results() > 10)
         killed = made.kill("SLURM_JOB_NAME=fleet", "SLURMD_NODENAME=n1")

@@ -7,10 +7,11 @@
 #
 #     --room FOLDER      where packages and results are kept; by default a temporary folder that is removed
 #     --guest NAME       only this guest; may be given several times: x86_64-newest (Debian sid's kernel, with mksh and
-#                        toybox as commands), aarch64-6.1 and aarch64-newest (with busybox), and x86_64-5.10, whose
-#                        kernel is too old
+#                        toybox as commands), aarch64-6.1 and aarch64-newest (with busybox), x86_64-enforcing (the
+#                        first one with SELinux and the policy phone/one_domain.cil), and x86_64-5.10, whose kernel is
+#                        too old
 #     --record FILE      the command; by default ./record, else for example /usr/bin/binder-record of a package
-#     --limit SECONDS    how long a guest may take to begin; by default 900
+#     --limit SECONDS    how long a guest may take to begin, and for each thing that it does; by default 1200
 #     --only NAME        only this scene of phone/play.py; may be given several times
 #
 # For each scene it prints what `record` said. If something is not as it must be, it says so and ends with status 1.
@@ -19,9 +20,9 @@ set -euo pipefail
 here=$(readlink -f -- "${BASH_SOURCE[0]}")
 root=${here%/*/*/*}
 scenarios=$root/checks/recorder/scenarios phone=$root/checks/recorder/phone check=phone
-room= record=$root/record limit=900
+room= record=$root/record limit=1200
 acceleration='-accel tcg,thread=single -cpu max'
-guests=(x86_64-newest aarch64-6.1 aarch64-newest x86_64-5.10)
+guests=(x86_64-newest aarch64-6.1 aarch64-newest x86_64-enforcing x86_64-5.10)
 chosen=() only=()
 # shellcheck source=checks/recorder/guests.sh
 source "$root/checks/recorder/guests.sh"
@@ -45,6 +46,7 @@ needs cpio cpio
 needs gcc gcc
 needs aarch64-linux-gnu-gcc 'gcc-aarch64-linux-gnu libc6-dev-arm64-cross'
 needs xz xz-utils
+needs secilc secilc
 needs python3 python3
 
 if [[ -z $room ]]; then room=$(mktemp -d -t checks-phone.XXXXXX) && made=1; fi
@@ -102,7 +104,7 @@ build_programs() {
 modules=(virtio_ring virtio virtio_pci_legacy_dev virtio_pci_modern_dev virtio_pci failover net_failover virtio_net
   binder_linux)
 
-make_initramfs() { # KERNEL SHELL TO
+make_initramfs() { # KERNEL SHELL POLICY TO: with SELinux if POLICY is a file
   local top=$room/initramfs file name
   rm -rf -- "$top" && mkdir -p -- "$top"
   cp -a -- "$room/adbd-$architecture"/. "$top/"
@@ -119,6 +121,7 @@ make_initramfs() { # KERNEL SHELL TO
   printf '#!/bin/sh\nif [ "$1" = -m ]; then echo armv7l; else /bin/uname "$@"; fi\n' >"$top/other/uname"
   chmod +x -- "$top/init" "$top/other/uname"
   printf '%s\n' "$2" >"$top/shell"
+  if [[ -n $3 ]]; then secilc -o "$top/policy" -f /dev/null "$3"; fi
   printf 'root:x:0:0::/root:/bin/sh\nshell:x:2000:2000::/:/bin/sh\n' >"$top/etc/passwd"
   printf 'root:x:0:\nshell:x:2000:\n' >"$top/etc/group"
   for file in $(module_files "$1" "${modules[@]}"); do
@@ -128,7 +131,7 @@ make_initramfs() { # KERNEL SHELL TO
     if [[ $file != binder_linux.ko ]]; then printf '%s\n' "$file" >>"$top/modules/order"; fi
   done
   [[ -e $top/modules/binder_linux.ko ]] || stop 'the kernel has no module of the Binder driver'
-  (cd -- "$top" && find . | cpio -o -H newc 2>/dev/null | gzip -1) >"$3"
+  (cd -- "$top" && find . | cpio -o -H newc 2>/dev/null | gzip -1) >"$4"
 }
 
 # Ports of this machine that nobody listens on, for those of the guest.
@@ -138,17 +141,17 @@ made = [socket.create_server(("127.0.0.1", 0)) for _ in range(int(sys.argv[1]))]
 print(*(it.getsockname()[1] for it in made))' "$1"
 }
 
-boot() { # KERNEL SHELL CONSOLE
+boot() { # KERNEL SHELL POLICY CONSOLE
   local forward='' port
-  make_initramfs "$1" "$2" "$room/initramfs.gz"
-  : >"$3"	# without what a guest before said
-  read -ra ports < <(free_ports 5)
-  for port in 0 1 2 3; do forward+=",hostfwd=tcp:127.0.0.1:${ports[port]}-:$((5555 + port))"; done
+  make_initramfs "$1" "$2" "$3" "$room/initramfs.gz"
+  : >"$4"	# without what a guest before said
+  read -ra ports < <(free_ports 6)
+  for port in {0..4}; do forward+=",hostfwd=tcp:127.0.0.1:${ports[port]}-:$((5555 + port))"; done
   # shellcheck disable=SC2086
   nice -n "$(($(nice) < 10 ? 10 - $(nice) : 0))" $emulator -m 1G -smp 1 -nographic -no-reboot -nodefaults \
     -serial stdio -kernel "$(find "$1/" -name 'vmlinuz*' | head -n 1)" -initrd "$room/initramfs.gz" \
     -netdev "user,id=net$forward" -device virtio-net-pci,netdev=net,romfile= \
-    -append "$words panic=-1 quiet mitigations=off rdinit=/init" </dev/null >"$3" 2>&1 &
+    -append "$words ${3:+security=selinux} panic=-1 quiet mitigations=off rdinit=/init" </dev/null >"$4" 2>&1 &
   qemu=$!
 }
 
@@ -161,21 +164,24 @@ wait_for_guest() { # CONSOLE
 }
 
 play() { # GUEST
-  local series=${1#*-} shell=busybox console=$room/console-$1 out=$room/out-$1 scenes=("${only[@]}")
+  local series=${1#*-} shell=busybox policy='' console=$room/console-$1 out=$room/out-$1 scenes=("${only[@]}")
   as_machine "${1%%-*}"
   if [[ $machine == x86_64 ]]; then shell=toybox; fi
-  if [[ $series == 5.10 ]]; then scenes=(--only old_kernel); fi
+  case $series in
+  5.10) scenes=(--only old_kernel) ;;
+  enforcing) series=newest policy=$phone/one_domain.cil scenes=(--only no_bpf --only session) ;;
+  esac
   fetch_kernel "$series" || stop "the registry has no kernel $series for $architecture"
   open_with_all sid "$room/adbd-$architecture" adbd busybox-static toybox mksh ||
     stop "the registry has no adbd for $architecture"
   build_programs
-  boot "$kernel" "$shell" "$console"
+  boot "$kernel" "$shell" "$policy" "$console"
   wait_for_guest "$console"
   rm -rf -- "$out" && mkdir -p -- "$out"
   printf '%s: %s\n' "$1" "$(find "$kernel/" -name 'vmlinuz*' -printf '%f\n' | head -n 1)"
   PYTHONPATH=$root PYTHONDONTWRITEBYTECODE=1 HOME=$room python3 -m checks.recorder.phone.play --record "$record" \
-    --ports "${ports[@]:0:4}" --server "${ports[4]}" --adb "$room/bin-sid" --older "$room/bin-bookworm" --out "$out" \
-    --commands "$shell" "${scenes[@]}" || status=1
+    --ports "${ports[@]:0:5}" --server "${ports[5]}" --adb "$room/bin-sid" --older "$room/bin-bookworm" --out "$out" \
+    --commands "$shell" --limit "$limit" "${scenes[@]}" || status=1
   kill "$qemu" && wait "$qemu" 2>/dev/null || true
   qemu=
 }

@@ -57,7 +57,7 @@ INSERT INTO about VALUES
   ('rule', 'inferred', 'the rules: id, verdict, and one sentence of why; fault, if it names what its section does not'),
   ('program', 'side', 'what a process is called in each capture, and its device'),
   ('call_text', 'inferred', 'what a call is called in each capture: interface and method, or the code'),
-  ('defect', 'inferred', 'what is wrong, in whose process and on which path; id is the same in another capture'),
+  ('defect', 'inferred', 'what is wrong, which process causes it, on which path; id is the same in another capture'),
   ('finding_defect', 'inferred', 'which defect a finding is'),
   ('talk', 'inferred', 'traffic by the names that are the same in another capture'),
   ('traffic', 'inferred', 'who talks to whom: a generation of a handle, a code, and how much');

@@ -11,9 +11,10 @@
 CREATE VIEW device AS
 SELECT DISTINCT p.device, s.name, s.driver FROM raw_process p LEFT JOIN side_device s USING (device);
 
--- Also the processes that have no frame, and that the driver's books have.
+-- Also the processes that have no frame, and that the driver's books have. DuckDB reads a UNION only without a function
+-- that it lacks, such as iif.
 CREATE VIEW process AS
-SELECT p.upid, p.device, p.process, coalesce(s.pid, iif(p.process < :NO_PID, p.process, NULL)) AS pid, s.name,
+SELECT p.upid, p.device, p.process, coalesce(s.pid, CASE WHEN p.process < :NO_PID THEN p.process END) AS pid, s.name,
   s.opening, s.met, s.opened, s.ended_after, s.ended, p.first_seq, p.last_seq, p.frames, s.command, s.uid
 FROM raw_process p LEFT JOIN side_process s USING (device, process)
 UNION ALL

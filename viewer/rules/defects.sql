@@ -1,11 +1,12 @@
--- The key of each defect, which is the same for the same fault in another capture: what is wrong, in whose process, and
--- on which path.
+-- The key of each defect, which is the same for the same fault in another capture: what is wrong, which process causes
+-- it, and on which path.
 --
 -- The kind is that of the section, with what the driver answered. The rule counts only if it has a `fault`, which says
--- that something else is wrong. `who` is the name of the process and that of its device. The path has the names of
--- processes, whole interfaces, and methods, or where a method is not known its code. What is of one recording is left
--- out: numbers of processes and threads, nodes, handles but 0, cookies, addresses; counts, ages and verdicts; and names
--- of services, which a capture has only if it saw that they were registered or asked for.
+-- that something else is wrong. `who` is the name of the process that causes it, as far as the capture shows, and that
+-- of its device: who suffers from it may be another process in each capture. The path has the names of processes, whole
+-- interfaces, and methods, or where a method is not known its code. What is of one recording is left out: numbers of
+-- processes and threads, nodes, handles but 0, cookies, addresses; counts, ages and verdicts; and names of services,
+-- which a capture has only if it saw that they were registered or asked for.
 --
 -- If any of that changes, the last number in this file, `prints`, rises: keys with another one are not compared.
 -- needs: database/schema.sql: call_interface, capture, finding, interface, method, object_interface, status;
@@ -53,13 +54,15 @@ WHERE f.rule IN ('H5', 'H8', 'H9');
 
 -- What each finding is about: a call, by its code and its node, and how the finding belongs to it; or a handle, a node
 -- or an address. If the node of a call or a handle is not known, upid has the process that holds it with a minus, and
--- ptr the handle.
+-- ptr the handle. Which oneway send finds no space at a receiver is chance: no code says it.
 CREATE TEMP TABLE matter AS
-SELECT f.id, f.section, f.what, f.place, f.rule, f.upid AS own, coalesce(w.code, f.code) AS code,
+SELECT f.id, f.section, f.what, f.place, f.rule, f.upid AS own, coalesce(f.culprit, f.upid) AS causes,
+  iif(f.rule = 'E5' AND f.culprit NOTNULL, NULL, coalesce(w.code, f.code)) AS code,
   coalesce(w.upid, iif(f.is_own, f.upid, coalesce(f.target, -f.upid))) AS upid,
   coalesce(w.ptr, iif(f.is_own OR f.target NOTNULL, f.ptr, f.handle)) AS ptr,
   iif(w.id IS NULL, f.target, w.other) AS other, iif(w.id IS NULL, f.handle, w.handle) AS handle,
   CASE WHEN w.reply THEN 'given by replies to' WHEN NOT w.reply THEN 'given by calls of'
+    WHEN f.rule = 'E5' AND f.culprit NOTNULL THEN 'no space at'
     WHEN f.section = 'answers' OR f.section IN ('calls', 'refused', 'oneway', 'spam', 'strays', 'objects')
       AND f.generation NOTNULL OR f.section = 'books' THEN 'to'
     WHEN f.section IN ('calls', 'refused', 'oneway', 'spam') THEN 'a reply'
@@ -91,8 +94,9 @@ FROM (SELECT code, upid, ptr FROM matter WHERE code NOTNULL AND ptr NOTNULL
 -- ---- the parts of a key
 
 CREATE TEMP TABLE told AS
-SELECT id, kind || coalesce(' (' || answer || ')', '') AS kind, who, call, CASE how
+SELECT id, kind || coalesce(' (' || answer || ')', '') AS kind, who, own_call AS call, CASE how
     WHEN 'to' THEN call || ' to ' || other || coalesce(': ' || status, '')
+    WHEN 'no space at' THEN 'oneway to ' || other
     WHEN 'a reply to' THEN coalesce('a reply to ' || call, 'a reply')
     WHEN 'reply to' THEN coalesce('reply to ' || call || ' of ' || other, 'reply to no call')
     WHEN 'oneway' THEN 'oneway ' || call || ' at ' || own
@@ -100,7 +104,8 @@ SELECT id, kind || coalesce(' (' || answer || ')', '') AS kind, who, call, CASE 
     WHEN 'given by replies to' THEN how || ' ' || call || ' of ' || other
     WHEN 'given by calls of' THEN how || ' ' || call || ' from ' || other
     WHEN 'handle' THEN handle || object WHEN 'node' THEN 'node' || object ELSE how END AS path
-FROM (SELECT m.id, m.how, p.program || ' on ' || p.device AS who, p.program AS own, t.call,
+FROM (SELECT m.id, m.how, c.program || ' on ' || c.device AS who, p.program AS own, t.call,
+    iif(m.causes IN (m.own, m.other), t.call, NULL) AS own_call,
     coalesce(r.fault, (SELECT t.title FROM title t WHERE t.rule IS NULL AND t.section = m.section
       AND coalesce(t.what = m.what, 1) ORDER BY t.what IS NULL LIMIT 1)) AS kind,
     CASE WHEN m.section = 'calls' AND m.what = 'failed' THEN (SELECT e.kind FROM call c
@@ -111,17 +116,18 @@ FROM (SELECT m.id, m.how, p.program || ' on ' || p.device AS who, p.program AS o
     iif(m.handle = 0, 'handle 0', 'handle') AS handle,
     coalesce(o.program, iif(m.handle = 0, 'handle 0', 'handle')) AS other,
     coalesce(', ' || o.program, '') || coalesce(' (' || i.name || ')', '') AS object
-  FROM matter m JOIN rule r ON r.id = m.rule JOIN program p ON p.upid = m.own LEFT JOIN program o ON o.upid = m.other
-    LEFT JOIN call_text t ON (t.code, t.upid, t.ptr) = (m.code, m.upid, m.ptr)
+  FROM matter m JOIN rule r ON r.id = m.rule JOIN program p ON p.upid = m.own JOIN program c ON c.upid = m.causes
+    LEFT JOIN program o ON o.upid = m.other LEFT JOIN call_text t ON (t.code, t.upid, t.ptr) = (m.code, m.upid, m.ptr)
     LEFT JOIN object_interface j ON (j.upid, j.ptr) = (m.upid, m.ptr) LEFT JOIN interface i ON i.id = j.interface);
 
--- The call on the path is not in the key: it tells in another capture whether a defect could come up there.
+-- The call on the path is not in the key: it tells in another capture whether a defect could come up there. It is there
+-- if the process that causes it makes or serves the call.
 CREATE TABLE defect(id TEXT PRIMARY KEY, kind TEXT NOT NULL, who TEXT NOT NULL, path TEXT NOT NULL, call TEXT) STRICT;
 INSERT INTO defect
-SELECT DISTINCT defect_key(kind, who, coalesce(path, '')), kind, who, coalesce(path, ''), call FROM told;
+SELECT defect_key(kind, who, coalesce(path, '')), kind, who, coalesce(path, ''), max(call) FROM told GROUP BY 1;
 CREATE TABLE finding_defect(finding INTEGER PRIMARY KEY, defect TEXT NOT NULL) STRICT;
 INSERT INTO finding_defect
 SELECT id, defect_key(kind, who, coalesce(path, '')) FROM told;
 CREATE INDEX finding_of_defect ON finding_defect(defect);
 
-INSERT INTO capture VALUES ('prints', 1);
+INSERT INTO capture VALUES ('prints', 2);

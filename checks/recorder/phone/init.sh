@@ -5,7 +5,8 @@
 #   5556  as the user 2000, who can't become root
 #   5557  as the user 2000, for whom there is an su
 #   5558  as root, on a machine that seems to be another one
-# /shell says whether its commands are toybox, with mksh, as on Android, or busybox.
+#   5559  as root, in a domain of SELinux that may not use bpf
+# /shell says whether its commands are toybox, with mksh, as on Android, or busybox. With a /policy it enforces that one.
 /busybox mkdir -p /proc /sys /dev /run /tmp /data/local/tmp /bin
 /busybox mount -t proc proc /proc
 /busybox mount -t sysfs sys /sys
@@ -29,8 +30,14 @@ fi
 /busybox chmod 4755 /su/su
 echo 1 >/proc/sys/kernel/kptr_restrict
 
+if [ -e /policy ]; then
+	/busybox mount -t selinuxfs none /sys/fs/selinux
+	/busybox cat /policy >/sys/fs/selinux/load && echo 1 >/sys/fs/selinux/enforce
+fi
+
 # As Android's init does, it begins adbd again when it has ended.
-serve() { # PORT PATH USER
+serve() { # PORT PATH USER DOMAIN
+	if [ -e /policy ]; then printf %s "u:r:$4" >/proc/self/attr/current; fi
 	while :; do
 		cd / && ADBD_PORT=$1 PATH=$2 /busybox su -s /bin/sh $3 -c 'exec /usr/lib/android-sdk/platform-tools/adbd' \
 			>/run/adbd-$1.log 2>&1 </dev/null &
@@ -42,9 +49,10 @@ serve() { # PORT PATH USER
 /busybox mkdir -p /run && /busybox chmod 777 /run
 /system-programs/system &
 /busybox sleep 5
-serve 5555 /bin:/usr/bin root &
-serve 5556 /bin:/usr/bin shell &
-serve 5557 /su:/bin:/usr/bin shell &
-serve 5558 /other:/bin:/usr/bin root &
+serve 5555 /bin:/usr/bin root su &
+serve 5556 /bin:/usr/bin shell shell &
+serve 5557 /su:/bin:/usr/bin shell su &
+serve 5558 /other:/bin:/usr/bin root su &
+serve 5559 /bin:/usr/bin root shell &
 echo "init: ready"
 while :; do /busybox sleep 1000; done

@@ -16,7 +16,6 @@ from typing import Callable, Iterator, NamedTuple
 
 SERVICES = {"clock", "notes", "audio.mixer", "org.example.IPower/default", "search"}
 FOLDER = "/data/local/tmp/binder-record"
-SLOW = 1200  # seconds for what a guest does that gets little time
 
 
 class Ended(NamedTuple):
@@ -54,7 +53,7 @@ class Stage:
 
     def adb(self, *words: str) -> Ended:
         ended = subprocess.run(["adb", *words], env=self.environment, stdin=subprocess.DEVNULL, text=True,
-                               stdout=subprocess.PIPE, stderr=subprocess.STDOUT, timeout=SLOW)
+                               stdout=subprocess.PIPE, stderr=subprocess.STDOUT, timeout=self.given.limit)
         return Ended(ended.returncode, ended.stdout)
 
     def connect(self, serial: str) -> None:
@@ -76,7 +75,7 @@ class Stage:
                                 stdin=subprocess.DEVNULL, stdout=subprocess.PIPE, stderr=subprocess.STDOUT, text=True)
 
     def end(self, program: subprocess.Popen[str]) -> Ended:
-        said = program.communicate(timeout=SLOW)[0]
+        said = program.communicate(timeout=self.given.limit)[0]
         for line in said.splitlines():
             print(f"    {line}", flush=True)
         return Ended(program.returncode, said)
@@ -93,7 +92,7 @@ class Stage:
     # ---- what must hold
 
     def wait_for(self, what: str, holds: Callable[[], bool]) -> None:
-        end = time.monotonic() + SLOW
+        end = time.monotonic() + self.given.limit
         while not holds():
             if time.monotonic() > end:
                 raise TimeoutError(f"{what} did not come")
@@ -205,6 +204,19 @@ def no_btf(stage: Stage) -> None:
     with mounted(stage, "/sys/kernel/btf", "4k"):
         stage.line(stage.record(stage.serials[0]), 1, "record: /sys/kernel/btf/vmlinux is not there: a kernel with"
                    " CONFIG_DEBUG_INFO_BTF is needed, and sysfs", r"record: 127\.\S+ can't be recorded")
+    stage.nothing_left()
+
+
+def no_bpf(stage: Stage) -> None:
+    """Where a policy lets root not use bpf, that is said, and the kernel's log has the denial."""
+    for serial, domain in (stage.serials[0], "u:r:su"), (stage.serials[4], "u:r:shell"):
+        stage.connect(serial)
+        said = stage.shell("id -u; cat /sys/fs/selinux/enforce; echo; cat /proc/self/attr/current", serial).said
+        stage.must(f"user, enforcing and domain are {said}", said.strip("\0\n").split() == ["0", "1", domain])
+    stage.line(stage.record(stage.serials[4]), 1, r"record: the kernel does not let this process load the recorder's"
+               r" program.*", r"record: 127\.\S+ can't be recorded")
+    denied = re.compile(r"denied +\{ (map_create|prog_load) \}.*u:r:shell")
+    stage.must("the log has no denial", denied.search(stage.shell("dmesg").said) is not None)
     stage.nothing_left()
 
 
@@ -337,7 +349,7 @@ def fetched_wrong(stage: Stage) -> None:
 # The order in which they are played; those of OTHERS only if they are named.
 SCENES = [no_device, two_devices, other_version, no_root, by_su, other_machine, no_btf, session, no_names, cable,
           detached, full, no_room, fetched_wrong, older_adb]
-OTHERS = [old_kernel]
+OTHERS = [no_bpf, old_kernel]
 # These need commands of a folder of their own, in place of which the shell of busybox takes those that it has itself.
 NOT_OF_BUSYBOX = [by_su, other_machine]
 
@@ -345,12 +357,13 @@ NOT_OF_BUSYBOX = [by_su, other_machine]
 def main() -> int:
     line = argparse.ArgumentParser()
     line.add_argument("--record", required=True)
-    line.add_argument("--ports", nargs=4, required=True)
+    line.add_argument("--ports", nargs=5, required=True)
     line.add_argument("--server", required=True)
     line.add_argument("--adb", type=pathlib.Path, required=True)
     line.add_argument("--older", type=pathlib.Path, required=True)
     line.add_argument("--out", type=pathlib.Path, required=True)
     line.add_argument("--commands", choices=("toybox", "busybox"), required=True)
+    line.add_argument("--limit", type=float, required=True, help="seconds that each thing may take")
     line.add_argument("--only", action="append")
     given = line.parse_args()
     stage = Stage(given)

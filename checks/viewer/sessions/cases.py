@@ -416,8 +416,11 @@ def goes_on_calling_the_frozen(s, freezes, thaws=True, servers=1):
             client.main.asks(process.main, 1, handle, ptr)
 
 
-@case("R1:3", "code 7 to service 100 node 0x0: -74 EBADMSG", "R1 by client 200: 3", wrong=3, right=0)
-@case("R1:3", "R1 by service 100: 3", wrong=3, right=0, others=1)
+@case("R1:3", "code 7 to service 100 node 0x0: -74 EBADMSG", "R1 by client 200: 3",
+      "defect: calls answered with an error | client on binder | code 7 to service: -74 EBADMSG", wrong=3, right=0)
+@case("R1:3", "R1 by service 100: 3", "(1 defects)",
+      "defect: calls answered with an error | service on binder | code 7 to service: -74 EBADMSG", wrong=3, right=0,
+      others=1)
 @case("R2:2", wrong=2, right=0)
 @case("R1:4", wrong=4, right=1)
 @case("R2:3", wrong=3, right=1)
@@ -463,10 +466,12 @@ def status_of_many_objects(s):
 
 @case("E5:1 U6:4", "3 oneway sends with 3,072 bytes waited or were held at service 100: 3 sends from client 200",
       "E5 by client 200: 1")
-@case("E5:1 U6:4", "2 sends from other 300, 1 send from client 200", "E5 by other 300: 1", others=2)
+@case("E5:1 U6:4", "2 sends from other 300, 1 send from client 200", "E5 by other 300: 1",
+      "defect: sends that were refused (BR_FAILED_REPLY) | other on binder | oneway to service; ", others=2)
 @case("E5:1 U6:4", "2 sends from client 200, 1 send from other 300", "E5 by client 200: 1", others=1)
 @case("E5:1 U6:1 W2:3", "E5 by other 300: 1", others=2, got=1)
-@case("E5:1 U6:2 W2:2", "E5 by service 100: 1", others=2, got=2)
+@case("E5:1 U6:2 W2:2", "E5 by service 100: 1",
+      "defect: sends that were refused (BR_FAILED_REPLY) | service on binder | oneway to service; ", others=2, got=2)
 @case("E5:2 U6:4", "E5 by other 300: 1", "E5 by client 200: 1", others=2, call=True)
 def oneway_space_full(s, others=0, got=0, call=False):
     """A oneway send is refused, after three of which two may be of another process. The service gets some of the three.

@@ -11,6 +11,7 @@ PING = int.from_bytes(b"_PNG", "big")
 ONE, TWO, OTHER = marked("a.b.IOne"), marked("a.b.ITwo"), marked("c.d.IOne")
 
 NEVER_FREED = "defect: replies never freed | client on binder | reply to a.b.IOne code 7 of service"
+HANGS = "defect: calls without an answer | server on binder | a.b.IOne code 7 to server"
 KEPT = "defect: references kept | client on binder | given by replies to a.b.IOne code 5 of server"
 
 
@@ -63,23 +64,25 @@ def keeps_sessions(s, count=4, ptr=0x9000, at=2):
     s.wait(300)
 
 
-@case("C4:1 A1:2", "defect: calls without an answer | client on binder | a.b.IOne code 7 to server", "(1 defects)",
-      name="hello")
-@case("C4:1 A1:2", "defect: calls without an answer | client on binder | a.b.IOne code 7 to server", "(1 defects)",
-      name="world")
-@case("C4:1 A1:2", "defect: calls without an answer | client on binder | a.b.IOne code 7 to server", "(1 defects)")
-@case("U6:1 A1:2", "defect: calls without an answer | client on binder | a.b.IOne code 7 to server", "(1 defects)",
-      wait=20)
-def hangs_at(s, name=None, wait=200):
-    """A call that hangs, to an object that is registered by a name or not."""
-    manager, client = s.two()
-    server = s.process(300, "server")
+@case("C4:1 A1:2", HANGS, "(1 defects)", name="hello")
+@case("C4:1 A1:2", HANGS, "(1 defects)", name="world")
+@case("C4:1 A1:2", HANGS, "(1 defects)")
+@case("C4:1 A1:2", HANGS, "(1 defects)", callers=("other",))
+@case("C4:3 A1:6", HANGS, "(1 defects)", callers=("client", "other", "third"))
+@case("U6:1 A1:2", HANGS, "(1 defects)", wait=20)
+def hangs_at(s, name=None, callers=("client",), wait=200):
+    """A call that hangs, to an object that is registered by a name or not; or calls of several processes that hang. The
+    server causes it, whoever calls."""
+    manager, server = s.process(100, "service"), s.process(300, "server")
     more = (TO_MANAGER["11"] + string16(name), numbers(*ADDED)) if name else (b"", b"")
+    manager.main.writes(ENTER)
     server.main.gives(manager.main, 3, 3, 0x9000, *more)
-    client.main.is_given(manager.main, 1, server_handle=3)
-    for _ in range(3):
-        client.main.asks(server.main, 8, 1, 0x9000, body=ONE)
-    server.main.gets(client.main.sends(1, 7, body=ONE), 0x9000)
+    for at, caller in enumerate(callers):
+        client = s.process(200 + at, caller)
+        client.main.is_given(manager.main, 1, server_handle=3)
+        for _ in range(3):
+            client.main.asks(server.main, 8, 1, 0x9000, body=ONE)
+        server.looper(1 + at).gets(client.main.sends(1, 7, body=ONE), 0x9000)
     s.wait(wait)
 
 
