@@ -64,7 +64,7 @@ def likeness(path: str, *processes: str | None) -> str:
     its name, in turns."""
     for who, name in zip(processes[::2], processes[1::2]):
         if who:
-            path = path.replace(who, name or "a process")
+            path = re.sub(rf"(?<!\S){re.escape(who)}(?!\w)", lambda _: name or "a process", path)
     path = re.sub(rf"(?<!^) node 0x[0-9a-f]+{OBJECT}", "", path)
     path = re.sub(rf"^(handle|node|cookie) (0x)?[0-9a-f]+{OBJECT}", r"\1s", path)
     path = re.sub(r"^address 0x[0-9a-f]+", "addresses", path)

@@ -10,7 +10,7 @@ ONE = marked("a.b.IOne")
 @case("A1:4 E3:2", times=2)
 @case("A1:6 E9:3", "maybe calls in which the server ended: 3 of 3 IOne code 7 to decoder",
       " E9 (decoder ended so 3 times)",
-      "defect: calls in which the server ended (BR_DEAD_REPLY) | client on binder | a.b.IOne code 7 to decoder",
+      "defect: calls in which the server ended (BR_DEAD_REPLY) | decoder on binder | a.b.IOne code 7 to decoder",
       "E9 by decoder 300: 1", "E9 by decoder 301: 1", times=3)
 @case("A1:6 E3:3", times=3, names=("decoder", "decoder", "coder"))
 @case("A1:6 E3:3", times=3, codes=(7, 7, 8))

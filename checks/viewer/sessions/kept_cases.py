@@ -312,13 +312,16 @@ def one_in_ten_callbacks(s, one):
 @case("H5:24", "maybe references kept: 8 of 8 given by calls of code 4 from broker (2 processes) H5",
       "maybe references kept: 4 of 4 given by calls of code 4 from agent 402 H5",
       "groups that are maybe: 3", names=("broker", "broker", "agent"))
-def kept_of_one_name(s, names):
-    """Three processes get objects from a maker, keep them, and hand them over to a server, which keeps them too."""
+@case("H5:24", "maybe references kept: 12 of 12 given by replies to code 5 of maker 350 node 0xa000 in 3 processes H5",
+      "groups that are maybe: 2", names=("maker", "maker", "maker"), first=35)
+def kept_of_one_name(s, names, first=400):
+    """Three processes get objects from a maker, keep them, and hand them over to a server, which keeps them too. The
+    number of one may begin that of the maker, and its name be the maker's."""
     manager, _, server = with_server(s)
     maker = s.process(350, "maker")
     maker.main.gives(manager.main, 4, node=0xA000)
     for number, name in enumerate(names):
-        broker = s.process(400 + number, name)
+        broker = s.process(first + number, name)
         broker.main.is_given(manager.main, 1, server_handle=3)
         broker.main.is_given(manager.main, 2, server_handle=4)
         for handle in range(10, 14):
