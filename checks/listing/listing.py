@@ -14,16 +14,16 @@ import argparse
 import os
 import pathlib
 import re
-import struct
 import subprocess
 from collections import Counter
-from typing import Callable, Iterable, Iterator
+from typing import Callable, Iterable
 
 from checks.kit import runs, tokens
 from checks.kit.captures import *
 from checks.kit.checking import Fail, check, compare
 from checks.kit.frames import frames_of
 from checks.kit.programs import CHECKS, DRIVER, LISTING, ROOT, SMALL
+from checks.kit.rows import rows_of
 from checks.kit.second_reading import NEWER
 from checks.kit.traffic import write_traffic
 
@@ -165,9 +165,6 @@ OPAQUE word=0x400c6316
 OPAQUE word=0x80087215
 OPAQUE word=0x800c7216""".splitlines()
 
-# The columns of a record in the table `record`: its kind, handle, cookie and value.
-KIND, HANDLE_OF, COOKIE_OF, VALUE = 3, 4, 6, 17
-
 
 def freezes() -> bytes:
     """Freeze notifications, and records with the same numbers and other sizes, or with other numbers."""
@@ -211,8 +208,8 @@ def check_freezes(room: pathlib.Path, fail: Fail) -> None:
     compare("freezes, is_frozen", [line[24] for line in columns if line[24]], ["1", str(MAX_32)], fail)
     folder.mkdir()
     compare("freezes, --tables", answer(LISTING, "--tables", folder, capture), (0, []), fail)
-    compare("freezes, record", [[row.get(at) for at in (KIND, HANDLE_OF, COOKIE_OF, VALUE)]
-                                for row in rows_of((folder / "record.rows").read_bytes())],
+    compare("freezes, record", [[row.get(name) for name in ("kind", "handle", "cookie", "value")]
+                                for row in rows_of(folder / "record.rows")],
             [[19, 7, 0x70, None], [19, MAX_32, MAX_64, None], [5, 7, None, None], [268, None, None, None],
              [277, None, 0x70, 1], [277, None, MAX_64, MAX_32], [21, None, 0x70, None], [20, 7, 0x70, None],
              [278, None, 0x70, None], *[[255, None, None, word] for word in (
@@ -301,15 +298,15 @@ def interface_in(line: str) -> str | None:
     return last.removeprefix("interface=") if last.startswith("interface=") else None
 
 
-def names_in(tables: pathlib.Path, of: str = "interface", column: int = 18) -> list[str | None]:
+def names_in(tables: pathlib.Path, of: str = "interface") -> list[str | None]:
     """The interface, or the service, of each row of the table record."""
-    names: dict[int, bytes] = {}
-    for row in rows_of((tables / f"{of}.rows").read_bytes()):
-        names[row[0]] = names.get(row[0], b"") + row[2].to_bytes(8, "little").rstrip(b"\0")
+    names: dict[int, str] = {}
+    for row in rows_of(tables / f"{of}.rows"):
+        letters = row["letters"].to_bytes(8, "little").rstrip(b"\0").decode()
+        names[row["id"]] = names.get(row["id"], "") + letters
     if len(set(names.values())) < len(names) or list(names) != list(range(1, len(names) + 1)):
         raise ValueError(f"{tables}: {names}")
-    return [names[row[column]].decode() if column in row else None
-            for row in rows_of((tables / "record.rows").read_bytes())]
+    return [names[row[of]] if of in row else None for row in rows_of(tables / "record.rows")]
 
 
 def check_names(room: pathlib.Path, what: str, payloads: list[tuple[int, int, bytes]], due: list[str | None],
@@ -324,7 +321,7 @@ def check_names(room: pathlib.Path, what: str, payloads: list[tuple[int, int, by
     found = [interface_in(line) for line in lines]
     for kind, came, wanted in (("lines", found, due), ("tables", names_in(folder), in_tables),
                                ("columns", [line.split("\t")[25] or None for line in columns], due),
-                               ("services", names_in(folder, "service", 19), [None] * len(due))):
+                               ("services", names_in(folder, "service"), [None] * len(due))):
         compare(f"{what}, how many {kind}", len(came), len(wanted), fail)
         for (word, code, data), one, other in zip(payloads, came, wanted):
             compare(f"{what}, {kind}, {word:#x} code {code:#x} {data[:400].hex()}", one, other, fail)
@@ -365,7 +362,7 @@ def check_services(room: pathlib.Path, fail: Fail) -> None:
     folder.mkdir()
     capture.write_bytes(carrying(sent))
     compare("services, status", answer(LISTING, "--tables", folder, capture), (0, []), fail)
-    found = names_in(folder, "service", 19)
+    found = names_in(folder, "service")
     compare("services, how many", len(found), len(sent), fail)
     for (word, code, data), came, due in zip(sent, found, [*made.values(), *made.values(), *[None] * 4]):
         compare(f"services, {word:#x} code {code:#x} {data[:400].hex()}", came, due, fail)
@@ -381,32 +378,25 @@ def check_tables(room: pathlib.Path, fail: Fail) -> None:
         folder = room / capture.parent.name
         folder.mkdir()
         compare(f"--tables of {capture}", answer(LISTING, "--tables", folder, capture), (0, []), fail)
-        tables = {path.stem: list(rows_of(path.read_bytes())) for path in folder.iterdir()}
+        tables = {path.stem: list(rows_of(path)) for path in folder.iterdir()}
         report = capture.with_name("report.txt").read_text().splitlines()
         totals = report[1].split()
-        compare(f"{capture}, capture", [tables["capture"][0].get(k) for k in (3, 4, 7)],
+        compare(f"{capture}, capture", [tables["capture"][0].get(name) for name in ("frames", "records", "missing")],
                 [int(totals[k]) for k in (1, 3, 7)], fail)
-        compare(f"{capture}, records", [row[0] for row in tables["record"]],
+        compare(f"{capture}, records", [row["place"] for row in tables["record"]],
                 [int(line.split()[0]) for line in answer(LISTING, capture)[1]], fail)
         heads = {line.split()[0]: line.split() for line in report if not line.startswith(" ")}
-        calls = Counter((row[3], row[6]) for row in tables["call"])
+        calls = Counter((row["served"], row["verdict"]) for row in tables["call"])
         compare(f"{capture}, calls", [calls[0, 1], calls[0, 3], calls[0, 0] + calls[0, 4]],
                 [int(heads["calls"][k]) for k in (3, 5, 7)], fail)
         compare(f"{capture}, served", [calls[1, 2], calls[1, 4] + calls[1, 3], calls[1, 0]],
                 [int(heads["served"][k]) for k in (3, 5, 7)], fail)
-        unfreed = [row[0] for row in tables["delivery"] if 3 not in row]
+        unfreed = [row["place"] for row in tables["delivery"] if "freed_by" not in row]
         at = next(number for number, line in enumerate(report) if line.startswith("buffers "))
         compare(f"{capture}, unfreed", unfreed,
                 [int(line.split()[0]) for line in report[at + 1:at + 1 + int(heads["buffers"][3])]], fail)
     for name in ("call", "level"):
         check_alone(name, capture, folder, fail)
-
-
-def rows_of(data: bytes) -> Iterator[dict[int, int]]:
-    """The rows of a table: for each the numbers of the columns that it has."""
-    numbers = iter(struct.unpack(f"<{len(data) // 8}Q", data))
-    for mask in numbers:
-        yield {column: next(numbers) for column in range(64) if mask >> column & 1}
 
 
 # ---- parts, and the second version

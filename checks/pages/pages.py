@@ -103,9 +103,6 @@ def wrong_reports(page, reports):
                 yield number, "a report that no capture has"
 
 
-# The beginnings of the line by which `./view` says that it has no loader.
-WITHOUT_LOADER = ("view: cc is missing", "view: sqlite3.h is missing")
-
 SQLITE3 = """#!/usr/bin/env python3
 import sqlite3, sys
 for row in sqlite3.connect(sys.argv[1]).execute(sys.argv[2]):
@@ -133,7 +130,7 @@ def wrong_answers(page, program, room):
         for at, command, due in commands_in(block):
             _, said, _ = answer(["bash", "-c", command], timeout=120, cwd=folder, env={**os.environ, "PATH": path},
                                 text=True, stderr=subprocess.STDOUT)
-            if [line for line in said.splitlines() if not line.startswith(WITHOUT_LOADER)] != due:
+            if said.splitlines() != due:
                 yield number + at, f"it prints {said!r}"
 
 

@@ -33,13 +33,14 @@ from checks.kit.captures import BC_REPLY, BC_TRANSACTION, BR_REPLY, BR_TRANSACTI
 from checks.kit.checking import Fail, check
 from checks.kit.frames import entries_of, frames_of
 from checks.kit.programs import CHECKS, LISTING, ROOT
+from checks.kit.rows import rows_of
 from checks.kit.tokens import GATHER, MANAGER, NO_SOURCE, PARTITIONS, marked, numbers, partition, string16
 
 TF_ONE_WAY, TF_CLEAR_BUF = 0x01, 0x20
 SORTS = {int.from_bytes(one[:4], "little"): len(one) for one in captures.SORTS}	# the bytes of each
 
-# The bit of the column service in a row of the table record. It is the last column.
-SERVICE = 1 << 19
+# The column of the table record that has what is redacted.
+REDACTED = {"service": None}
 
 
 # ---- captures
@@ -101,25 +102,19 @@ def redacted(programs: Programs, room: pathlib.Path, data: bytes, which: str = "
     return made
 
 
-def without_services(rows: bytes) -> list[tuple[int, ...]]:
-    """The rows of the table record without the column service."""
-    made, at = [], 0
-    while at < len(rows):
-        mask, = struct.unpack_from("<Q", rows, at)
-        columns = struct.unpack_from(f"<{mask.bit_count()}Q", rows, at + 8)
-        made.append((mask & ~SERVICE, *(columns[:-1] if mask & SERVICE else columns)))
-        at += 8 + 8 * len(columns)
-    return made
+def rows_in(path: pathlib.Path) -> list[dict[str, object]]:
+    """The rows of a table, those of the table record without what is redacted."""
+    return [{**row, **REDACTED} if path.stem == "record" else row for row in rows_of(path)]
 
 
-def answers(programs: Programs, room: pathlib.Path, data: bytes) -> tuple[str, dict[str, bytes]]:
+def answers(programs: Programs, room: pathlib.Path, data: bytes) -> tuple[str, dict[str, list]]:
     """The report on a capture, and the rows of its tables."""
     path, rows = room / "asked.cap", room / "rows"
     path.write_bytes(data)
     report = subprocess.run([programs.auditor, "report", path], capture_output=True, text=True).stdout
     rows.mkdir()
     subprocess.run([programs.lister, "--tables", rows, path], capture_output=True)
-    tables = {table.name: table.read_bytes() for table in rows.iterdir()}
+    tables = {table.stem: rows_in(table) for table in rows.iterdir()}
     shutil.rmtree(rows)
     return report, tables
 
@@ -133,11 +128,10 @@ def check_same(programs: Programs, room: pathlib.Path, name: str, data: bytes, f
         fail(f"{name}: no report: {report[:80]!r}")
     if report != other_report:
         fail(f"{name}: redacted, it has another report")
-    services, other_services = (some.pop("service.rows", None) for some in (tables, other_tables))
-    if services is None or other_services != b"":
+    services, other_services = (some.pop("service", None) for some in (tables, other_tables))
+    if services is None or other_services != []:
         fail(f"{name}: redacted, it has names of services")
-    if other := [table for table, rows in tables.items() if rows != other_tables.get(table) and (
-            table != "record.rows" or without_services(rows) != without_services(other_tables[table]))]:
+    if other := [table for table, rows in tables.items() if rows != other_tables.get(table)]:
         fail(f"{name}: redacted, these rows of ./listing --tables differ: {other}")
     if [(len(one.data), one.offsets) for one in payloads_in(data)] != \
             [(len(one.data), one.offsets) for one in payloads_in(made)]:

@@ -180,9 +180,9 @@ def database_of(room: pathlib.Path, capture: bytes) -> sqlite3.Connection:
     rows.mkdir()
     subprocess.run([LISTING, "--tables", rows, file], check=True, stdout=subprocess.DEVNULL)
     report.write_text("".join(f"{line}\n" for line in reading(capture)[1]))
-    raw_tables.load_by_python(made, rows)
+    raw_tables.load_rows(made, rows, None)
     database = open_database(made)
-    loading.fill(database, [str(file)], None, False, report, None)
+    loading.fill(database, [str(file)], None, report, None)
     judging.judge(database)
     return database
 
@@ -208,6 +208,7 @@ def judged(room: pathlib.Path, scene: str, way: str, seed: int) -> tuple[Counter
 
 def judge(given: argparse.Namespace, room: pathlib.Path, fail: Fail) -> None:
     build_programs(ROOT)
+    raw_tables.loader()
     of = list(product(SCENES, WAYS, range(given.sessions or SESSIONS)))
     counts: Counter = Counter()
     with ProcessPoolExecutor(os.cpu_count()) as pool:

@@ -1,4 +1,5 @@
-"""The heads of the SQL files of `view`: which names of which file their statements need, and what they make.
+"""The heads of the SQL files of `view`: which names of which file their statements need, and what they make. And no
+statement changes a raw table, which has what `./listing` wrote.
 
 SQLite says, as it compiles a statement, what it reads, changes and creates, and which functions it calls. The head of a
 file must have exactly that; otherwise the check says what it should be. The files run in the order of JUDGING, in which
@@ -90,6 +91,8 @@ class Watched:
                 bare.add(within)
             elif action in CHANGES:
                 used.add(first)
+                if first.startswith("raw_"):
+                    raise SystemExit(f"checks/rules: {path}: it changes {first}, which has what ./listing wrote")
             elif action == sqlite3.SQLITE_FUNCTION and self.maker.get(second) == FUNCTIONS:
                 used.add(second)
         self.uses[path] |= used | bare - inside
@@ -116,6 +119,12 @@ def lines_of(word: str, names: dict[str, list[str]]) -> str:
     said = "; ".join(f"{of}: {', '.join(some)}" for of, some in names.items() if some) or "nothing"
     return textwrap.fill(f"{word}: {said}", 120, initial_indent="-- ", subsequent_indent="--   ",
                          break_on_hyphens=False, break_long_words=False)
+
+
+def keep_raw(action: int, table: str | None, *_: object) -> int:
+    """An authorizer that lets no statement change a raw table."""
+    is_raw = action in CHANGES and (table or "").startswith("raw_")
+    return sqlite3.SQLITE_DENY if is_raw else sqlite3.SQLITE_OK
 
 
 def faults_of_heads() -> Iterator[str]:

@@ -23,9 +23,9 @@ from typing import NamedTuple
 
 from checks.kit.checking import Fail, check, row
 from checks.kit.programs import LISTING, ROOT
+from checks.kit.rows import rows_of
 from checks.kit.simulated import Habits, Truth, World, began, capture_of
 from viewer.database.programs import build_programs
-from viewer.database.raw_tables import rows_of
 
 FRAMES, SESSIONS = 900, 16
 
@@ -92,10 +92,10 @@ def listed(room: pathlib.Path, capture: bytes) -> tuple[dict[int, Pair], dict[in
     rows.mkdir()
     file.write_bytes(capture)
     subprocess.run([LISTING, "--tables", rows, file], check=True, stdout=subprocess.DEVNULL)
-    sends = {it[0]: Pair(it[0], it[2], it[3], it[7], it[8]) for it in rows_of(rows / "send.rows", 9)}
-    process = {it[0]: it[1] for it in rows_of(rows / "thread.rows", 8)}
-    sends = {place: it._replace(process=process[it.process]) for place, it in sends.items()}
-    return sends, {it[0]: it[6] for it in rows_of(rows / "delivery.rows", 8)}
+    process = {it["utid"]: it["upid"] for it in rows_of(rows / "thread.rows")}
+    sends = {it["place"]: Pair(it["place"], process[it["utid"]], *map(it.get, ("generation", "certain", "fits")))
+             for it in rows_of(rows / "send.rows")}
+    return sends, {it["place"]: it.get("send") for it in rows_of(rows / "delivery.rows")}
 
 
 def outcome(sends: dict[int, Pair], found: int | None, true: int | None) -> str:

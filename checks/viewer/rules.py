@@ -1,6 +1,6 @@
 """Checks the rules of `view` on small sessions, one on either side of each threshold and order; that the head of
-each SQL file of `view` says what its statements need and make; and that docs/RULES.md has the thresholds and, for each
-rule, a session that gets it.
+each SQL file of `view` says what its statements need and make; that nothing changes what is in a raw table; and that
+docs/RULES.md has the thresholds and, for each rule, a session that gets it.
 
     checks/run rules                    plays the sessions of sessions/*cases.py, and compares the rules that they get
     checks/run rules -- --edits [EDIT]  also tries wrong rules: each edit of sessions/edits.txt must change what a
@@ -26,7 +26,7 @@ from checks.kit.checking import Fail, check
 from checks.kit.programs import CHECKS, DRIVER, LISTING, ROOT
 from checks.kit.second_reading import reading
 from checks.viewer.edits import Edit, edited, edits_of
-from checks.viewer.heads import faults_of_heads
+from checks.viewer.heads import faults_of_heads, keep_raw
 from checks.viewer.rule_page import faults_of_page
 from checks.viewer.sessions import (  # noqa: F401
     behind_cases, book_cases, crash_cases, death_cases, defect_cases, freeze_cases, kept_cases, late_cases, limit_cases,
@@ -54,9 +54,10 @@ def made(room: pathlib.Path, number: int, one: Case) -> bytes:
         raise SystemExit(f"checks/rules: {one.name}: {lines[0]}")
     report.write_text("".join(f"{line}\n" for line in lines))
     base = room / f"{number}.db"
-    raw_tables.load_by_python(base, rows)
+    raw_tables.load_rows(base, rows, str(side) if one.has_side else None)
     database = open_database(base)
-    loading.fill(database, [str(capture)], str(side) if one.has_side else None, False, report, None)
+    database.set_authorizer(keep_raw)
+    loading.fill(database, [str(capture)], str(side) if one.has_side else None, report, None)
     database.close()
     return base.read_bytes()
 
@@ -129,9 +130,9 @@ def scenario(room: pathlib.Path, folder: pathlib.Path) -> bytes:
     rows.mkdir()
     capture, side = folder / "capture-1.cap", folder / "capture.side"
     subprocess.run([LISTING, "--tables", rows, capture], check=True, stdout=subprocess.DEVNULL)
-    raw_tables.load_by_python(base, rows)
+    raw_tables.load_rows(base, rows, str(side))
     database = open_database(base)
-    loading.fill(database, [str(capture)], str(side), False, folder / "report.txt", None)
+    loading.fill(database, [str(capture)], str(side), folder / "report.txt", None)
     database.close()
     return base.read_bytes()
 
@@ -191,6 +192,7 @@ def show(bases: list[bytes], text: str) -> None:
 
 def judge(given: argparse.Namespace, room: pathlib.Path, fail: Fail) -> None:
     build_programs(ROOT)
+    raw_tables.loader()
     for fault in (*faults_of_heads(), *faults_of_page(CASES)):
         fail(fault)
     with ThreadPoolExecutor(os.cpu_count()) as pool:

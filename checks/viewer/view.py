@@ -70,7 +70,8 @@ from checks.viewer.page.losses import CUTS, FAULTLESS, check_cuts, check_gaps
 from checks.viewer.page.methods import check_methods, check_unnamed
 from checks.viewer.page.reports import check_sample
 from checks.viewer.page.services import CAPTURES, check_libgbinder, check_services
-from checks.viewer.page.sides import check_files, check_forms, check_late, check_loaders, check_renames, check_side
+from checks.viewer.page.sides import (check_files, check_forms, check_late, check_loader, check_renames, check_side,
+                                      check_times)
 from checks.viewer.page.stacks import check_stacks
 from checks.viewer.page.words import (check_hostile, check_malformed, check_no_engine, check_secrets, check_stopped,
                                       check_templates, check_told, check_words)
@@ -95,9 +96,9 @@ def check_all(folder: pathlib.Path, room: pathlib.Path, fail: Fail) -> None:
         check_templates(fail)
         run_parts((check_words, check_stopped, check_no_engine), folder, room, fail)
         run_parts((check_side, check_forms, check_renames, check_files, check_secrets, check_told, check_late,
-                   check_malformed, check_hostile, check_methods, check_unnamed, check_services, check_loaders,
-                   check_agreement, check_copies, check_commands, check_stacks, check_growth, check_against), built,
-                  room, fail)
+                   check_malformed, check_hostile, check_methods, check_unnamed, check_services, check_times,
+                   check_loader, check_agreement, check_copies, check_commands, check_stacks, check_growth,
+                   check_against), built, room, fail)
         for job in jobs:
             for what in job.result():
                 fail(what)

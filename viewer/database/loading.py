@@ -77,12 +77,12 @@ def load_facts(database: sqlite3.Connection, files: list[str], malformed: str | 
     database.executemany("INSERT INTO capture VALUES (?, ?)", known.items())
 
 
-def fill(database: sqlite3.Connection, files: list[str], side: str | None, has_times: bool, report: pathlib.Path,
+def fill(database: sqlite3.Connection, files: list[str], side: str | None, report: pathlib.Path,
          malformed: str | None, methods: Methods | None = None, beside: list[str] | None = None) -> None:
     """Adds the side list, the report and its findings to the raw tables. The driver's books are beside the side lists
     `beside`, or else beside the side list."""
     database.execute("BEGIN")
-    taken = SideList(database, has_times)
+    taken = SideList(database)
     if side is not None:
         taken.load(side)
         taken.judge()
@@ -115,13 +115,13 @@ def database_of(root: pathlib.Path, files: list[str], side: str | None, made: pa
     if listed != malformed:
         raise Stopped(1, f"{called('listing')} and {called('audit')} do not agree: {listed!r} and {malformed!r}")
     tell("making the database")
-    has_times = load_rows(made, rows, side)
+    load_rows(made, rows, side)
     shutil.rmtree(rows)
     database = open_database(made)
     if malformed:
         answer(root, report, "audit", "report", *before_fault(database, files, made.parent))
     tell("applying the rules")
-    fill(database, files, side, has_times, report, malformed, methods, beside)
+    fill(database, files, side, report, malformed, methods, beside)
     report.unlink()
     judge(database)
     agreement.compare(database)

@@ -6,6 +6,7 @@ import sqlite3
 import struct
 import subprocess
 
+from viewer.database.sqlite import FILE_HEADER, FRAME_HEADER
 from viewer.files import Stopped
 from viewer.program_names import LIBRARY, PACKED, called
 
@@ -77,10 +78,10 @@ def before_fault(database: sqlite3.Connection, files: list[str], folder: pathlib
         return [str(cut)]
     copy_begin(files[part - 1], place, cut)
     if kind not in FRAME_KINDS:
-        shift = sum(os.path.getsize(name) - 16 for name in files[:part - 1])
+        shift = sum(os.path.getsize(name) - FILE_HEADER for name in files[:part - 1])
         frame, commands = database.execute(
             "SELECT place, command_length FROM raw_frame ORDER BY place DESC LIMIT 1").fetchone()
-        good = place - (frame - shift) - 32
+        good = place - (frame - shift) - FRAME_HEADER
         lengths = (good, 0) if kind in RECORD_KINDS else (commands, good - commands)
         with open(cut, "r+b") as mended:
             mended.seek(frame - shift + 20)

@@ -103,13 +103,12 @@ CALL_LINE = re.compile(r"[0-9]{1,18} call ([0-9]{1,18}) stack=([0-9]{1,18})\n")
 
 
 class SideList:
-    """Puts the lines of a side list into the database, those of frames only if the database does not have them yet."""
+    """Puts the lines of a side list into the database, but for the times of frames, which the loader took."""
 
-    def __init__(self, database: sqlite3.Connection, has_times: bool):
-        self.database, self.has_times = database, has_times
+    def __init__(self, database: sqlite3.Connection):
+        self.database = database
         self.facts: dict[str, object] = {}
         self.version = 0
-        self.pending: list[tuple[int, int]] = []
         self.calls: list[tuple[str, str]] = []
         self.frame: re.Match[str] | None = None
         self.told = 0
@@ -154,8 +153,6 @@ class SideList:
             # Nearly all lines are those of frames and of their stacks, so they are not split like the others.
             if frame := FRAME_LINE.match(line):
                 self.frame = frame
-                if not self.has_times:
-                    self.add_time(int(frame[1]), int(frame[2]))
             elif call := CALL_LINE.match(line):
                 self.add_call(call[1], call[2])
             elif line.endswith("\n"):
@@ -172,15 +169,8 @@ class SideList:
             raise Stopped(4, f"{path}: the line '{word}' at {time} is not valid") from error
 
     def flush(self) -> None:
-        self.database.executemany("INSERT OR REPLACE INTO side_time(ts, seq) VALUES (?, ?)", self.pending)
-        self.pending.clear()
         self.database.executemany("INSERT OR REPLACE INTO side_call VALUES (?, ?)", self.calls)
         self.calls.clear()
-
-    def add_time(self, time: int, seq: int) -> None:
-        self.pending.append((time, seq))
-        if len(self.pending) >= 100_000:
-            self.flush()
 
     def add_call(self, seq: str, stack: str) -> None:
         self.calls.append((seq, stack))
@@ -188,9 +178,10 @@ class SideList:
             self.flush()
 
     def take_frame(self, time: int, positional: list[str], _: dict[str, str]) -> None:
+        """A frame with a number that is too long for the loader."""
         seq, = numbers(positional, 1)
         self.told = max(self.told, seq)
-        self.add_time(time, seq)
+        self.database.execute("INSERT OR REPLACE INTO side_time(ts, seq) VALUES (?, ?)", (time, seq))
 
     def take_begin(self, time: int, _: list[str], keyed: dict[str, str]) -> None:
         if self.version > 1 and not BEGIN_FIELDS <= keyed.keys():

@@ -3,6 +3,7 @@
 import sqlite3
 from typing import Iterator, NamedTuple
 
+from viewer.database.sqlite import FRAME_HEADER
 from viewer.rules.names import Names
 
 # At most RECORDS records before the place, and as many after it, within FRAMES frames of all threads; of each frame at
@@ -39,15 +40,15 @@ FIELDS = ("SELECT r.place, r.seq, k.name, r.handle, r.code, r.data_size, r.addre
           + ",".join(f" coalesce((SELECT v.{key} FROM sent_to v WHERE v.place = r.place),"
                      f" (SELECT v.{key} FROM came_to v WHERE v.place = r.place))" for key in ("upid", "ptr")))
 WANTED = f"JOIN kind k ON k.number = r.kind WHERE k.name NOT IN {LEFT_OUT} ORDER BY r.place"
-OF_THREAD = "FROM (SELECT * FROM raw_frame WHERE utid = :utid AND records > 0 AND seq BETWEEN"
+OF_THREAD = (f"FROM (SELECT place + {FRAME_HEADER} AS first, place + {FRAME_HEADER} + command_length - 1 AS last"
+             " FROM raw_frame WHERE utid = :utid AND records > 0 AND seq BETWEEN")
 ITS_SEQ = "(SELECT seq FROM raw_record WHERE place = :place)"
 BEFORE = (f"{FIELDS} {OF_THREAD} {ITS_SEQ} - {FRAMES} AND {ITS_SEQ} ORDER BY seq DESC LIMIT :count) f"
           " JOIN raw_record r ON r.place"
-          " BETWEEN max(f.place + 32, min(f.place + 31 + f.command_length, :place) - :bytes)"
-          f" AND min(f.place + 31 + f.command_length, :place) {WANTED} DESC LIMIT :count")
+          f" BETWEEN max(f.first, min(f.last, :place) - :bytes) AND min(f.last, :place) {WANTED} DESC LIMIT :count")
 AFTER = (f"{FIELDS} {OF_THREAD} {ITS_SEQ} AND {ITS_SEQ} + {FRAMES} ORDER BY seq LIMIT :count) f"
-         " JOIN raw_record r ON r.place BETWEEN max(f.place + 32, :place + 1)"
-         f" AND min(f.place + 31 + f.command_length, max(f.place + 32, :place) + :bytes) {WANTED} LIMIT :count")
+         " JOIN raw_record r ON r.place"
+         f" BETWEEN max(f.first, :place + 1) AND min(f.last, max(f.first, :place) + :bytes) {WANTED} LIMIT :count")
 
 
 def records(database: sqlite3.Connection, names: Names, query: str, utid: int, place: int, count: int) -> list[Line]:

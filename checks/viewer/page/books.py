@@ -9,7 +9,7 @@ from typing import Iterator
 
 from checks.kit.checking import Fail, compare
 from checks.kit.frames import frames_of
-from checks.viewer.page.common import texts_of, told_by, view, written
+from checks.viewer.page.common import texts_of, view, written
 from checks.viewer.sessions.book_cases import buffer, own, ref, thread, transaction_of
 from checks.viewer.sessions.session import *
 
@@ -170,7 +170,7 @@ def check_agreement(folder: pathlib.Path, room: pathlib.Path, fail: Fail) -> Non
         words = written(session, room, f"agree-{number}")
         status, _, told = view(folder, room, *words, "-o", f"agree-{number}.html")
         line = f"view: {due}\n" if "differ" in due else ""
-        compare(f"books, {given}: told", (status, told_by(told)), (0, line), fail)
+        compare(f"books, {given}: told", (status, told), (0, line), fail)
         compare(f"books, {given}: the page says {due!r}", says(room / f"agree-{number}.html", due), True, fail)
 
 
@@ -197,7 +197,7 @@ def check_copies(folder: pathlib.Path, room: pathlib.Path, fail: Fail) -> None:
              "the copy of state at the end has numbers that are none of the driver's")):
         change()
         status, _, told = view(folder, room, capture, "--side", list_, "-o", f"copies-{name}.html")
-        compare(f"books, {name}", (status, told_by(told)), (0, f"view: {due}\n" if due else ""), fail)
+        compare(f"books, {name}", (status, told), (0, f"view: {due}\n" if due else ""), fail)
         compare(f"books, {name}, the page", says(room / f"copies-{name}.html", due), True, fail)
     for due in ("Met in mid-life; by the driver's books of then they had: service 100 0 handles, 0 objects, 0 buffers,"
                 " 0 calls made and 0 served; client 200 1 handle, 0 objects, 0 buffers, 0 calls made and 0 served.",

@@ -50,11 +50,6 @@ def timeline_of(path: pathlib.Path) -> dict:
     return json.loads(gzip.decompress(path.read_bytes())) if path.exists() else {}
 
 
-def told_by(stderr: str) -> str:
-    """What `./view` writes to standard error, without the line that says that it has no loader."""
-    return "".join(line for line in stderr.splitlines(keepends=True) if " is missing to build the loader" not in line)
-
-
 def texts_of(path: pathlib.Path) -> str:
     """The text of a page without its markup."""
     return " ".join(re.sub(r"<[^>]*>", " ", path.read_text()).split())

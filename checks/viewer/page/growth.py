@@ -73,9 +73,9 @@ def steps_of(folder: pathlib.Path, room: pathlib.Path, copies: int,
     programs.answer(folder, report, "audit", "report", capture)
     programs.answer(folder, room / "told", "listing", "--tables", rows, capture)
     made = room / f"joined-{copies}.db"
-    has_times = raw_tables.load_rows(made, rows, str(side))
+    raw_tables.load_rows(made, rows, str(side))
     database = Counted(open_database(made))
-    loading.fill(database.database, [str(capture)], str(side), has_times, report, None)
+    loading.fill(database.database, [str(capture)], str(side), report, None)
     judging.judge(database, rules)
     database.close()
     return database.steps

@@ -1,4 +1,4 @@
-"""Side lists, and the two ways to load a capture."""
+"""Side lists, and how a capture is loaded."""
 
 import pathlib
 import re
@@ -8,10 +8,12 @@ import sqlite3
 from checks.kit.checking import Fail, compare
 from checks.kit.frames import frames_of
 from checks.kit.programs import DRIVER
-from checks.viewer.page.common import loaded, texts_of, texts_stored, told_by, view
+from checks.kit.rows import columns_of_tables, rows_of
+from checks.viewer.page.common import loaded, texts_of, texts_stored, view
 from viewer.database import programs, raw_tables, side_list
 from viewer.database.sqlite import open_database
 from viewer.files import Stopped
+from viewer.units import signed
 
 
 def check_side(folder: pathlib.Path, room: pathlib.Path, fail: Fail) -> None:
@@ -51,7 +53,7 @@ def check_side(folder: pathlib.Path, room: pathlib.Path, fail: Fail) -> None:
         shown = room / f"side-{number}.html"
         came, _, told = view(folder, room, f"{cap}.cap", "--side", f"{list_}.side", "-o", shown.name)
         what = f"{cap}.cap with {list_}.side"
-        compare(what, (came, told_by(told)), (status, f"view: {line}\n" if line else ""), fail)
+        compare(what, (came, told), (status, f"view: {line}\n" if line else ""), fail)
         compare(f"{what}, the page is there", shown.exists(), status == 0, fail)
         if shown.exists():
             compare(f"{what}, the page says it", "The side list " in shown.read_text(), bool(line), fail)
@@ -88,7 +90,7 @@ def check_forms(_: pathlib.Path, room: pathlib.Path, fail: Fail) -> None:
         list_.write_text(f"binder side list {version}\n5 begin {begin}\n")
         database = sqlite3.connect(":memory:")
         database.executescript(raw_tables.schema())
-        taken, came = side_list.SideList(database, has_times=False), ""
+        taken, came = side_list.SideList(database), ""
         try:
             taken.load(str(list_))
         except Stopped as stopped:
@@ -128,9 +130,9 @@ def check_files(folder: pathlib.Path, room: pathlib.Path, fail: Fail) -> None:
     _, whole, _ = view(folder, room, "whole.cap", "--side", "whole.side", "--groups")
     status, came, told = view(folder, room, "part-1.cap", "part-2.cap", "--side", "part-1.side", "--side",
                               "part-2.side", "--groups")
-    compare("the files of a flight recorder", (status, came, told_by(told)), (0, whole, ""), fail)
+    compare("the files of a flight recorder", (status, came, told), (0, whole, ""), fail)
     status, _, told = view(folder, room, "part-2.cap", "--side", "part-2.side", "-o", "part-2.html")
-    compare("the last file of a flight recorder", (status, told_by(told)), (0, ""), fail)
+    compare("the last file of a flight recorder", (status, told), (0, ""), fail)
     text = texts_of(room / "part-2.html")
     for due in ("Met in mid-life, so that what came before is not known: ", "in files that were removed: 3 calls that"
                 " went on, and 1 handle that a process had met.", "In these calls were: process 1 thread 1 (2 made, 1"
@@ -170,13 +172,6 @@ def check_renames(folder: pathlib.Path, room: pathlib.Path, fail: Fail) -> None:
         database.close()
 
 
-def dump_of(database: pathlib.Path) -> list[str]:
-    connection = sqlite3.connect(database)
-    lines = list(connection.iterdump())
-    connection.close()
-    return lines
-
-
 # Lines of frames: one that comes twice, one with a number of 19 digits, one within a name, and a last one that is cut.
 ODD_SIDE = """binder side list 1
 100 frame 1
@@ -189,33 +184,47 @@ ODD_SIDE = """binder side list 1
 800 frame 8"""
 
 
-def check_loaders(folder: pathlib.Path, room: pathlib.Path, fail: Fail) -> None:
-    """The loader in C, if it can be built, and the one in Python make the same database and refuse the same rows."""
-    rows = room / "rows"
+def check_times(folder: pathlib.Path, room: pathlib.Path, fail: Fail) -> None:
+    """The times of frames are those of the last lines that have them."""
+    list_, rows = room / "odd.side", room / "odd.rows"
+    list_.write_text(ODD_SIDE)
     rows.mkdir()
     programs.answer(folder, room / "told", "listing", "--tables", rows, DRIVER / "objects/capture-1.cap")
-    program = raw_tables.loader()
-    if program is not None:
-        list_ = room / "odd.side"
-        list_.write_text(ODD_SIDE)
-        raw_tables.load_by_program(program, room / "c.db", rows, str(list_))
-        raw_tables.load_by_python(room / "python.db", rows)
-        for name in ("c", "python"):
-            database = open_database(room / f"{name}.db")
-            side_list.SideList(database, has_times=name == "c").load(str(list_))
-            compare(f"{name}: times of frames", database.execute("SELECT seq, ts FROM side_time").fetchall(),
-                    [(1, 100), (2, 250), (3, 300), (7, 999999999999999999), (10**18, 700)], fail)
-            database.close()
-        compare("the two ways to load", dump_of(room / "c.db") == dump_of(room / "python.db"), True, fail)
-    whole = (rows / "send.rows").read_bytes()
-    for number, bad in enumerate((whole[:-8], whole[:-3], whole + b"\0" * 7 + b"\x80", whole[:3])):
+    raw_tables.load_rows(room / "odd.db", rows, str(list_))
+    made = open_database(room / "odd.db")
+    side_list.SideList(made).load(str(list_))
+    compare("times of frames", made.execute("SELECT seq, ts FROM side_time").fetchall(),
+            [(1, 100), (2, 250), (3, 300), (7, 999999999999999999), (10**18, 700)], fail)
+    made.close()
+
+
+def loaded_rows(database: sqlite3.Connection, table: str) -> list[dict[str, object]]:
+    """The rows of a raw table, without the columns that are NULL."""
+    asked = database.execute(f"SELECT * FROM raw_{table} ORDER BY rowid")
+    names = [name for name, *_ in asked.description]
+    return [{name: value for name, value in zip(names, row) if value is not None} for row in asked]
+
+
+def check_loader(folder: pathlib.Path, room: pathlib.Path, fail: Fail) -> None:
+    """The loader puts each row as it is into its table, and refuses rows that are not whole."""
+    for scenario in "objects", "hello-11":
+        rows = room / f"{scenario}.rows"
+        rows.mkdir()
+        programs.answer(folder, room / "told", "listing", "--tables", rows, DRIVER / scenario / "capture-1.cap")
+        raw_tables.load_rows(room / f"{scenario}.db", rows, None)
+        database = open_database(room / f"{scenario}.db")
+        for table in columns_of_tables():
+            due = [{name: signed(value) for name, value in row.items()}
+                   for row in rows_of(rows / f"{table}.rows")]
+            compare(f"{scenario}: raw_{table}", loaded_rows(database, table) == due, True, fail)
+        database.close()
+    send = (rows / "send.rows").read_bytes()
+    for number, bad in enumerate((send[:-8], send[:-3], send + b"\0" * 7 + b"\x80", send[:3])):
         (rows / "send.rows").write_bytes(bad)
-        told = []
-        ways = [raw_tables.load_by_python] if program is None else [
-            raw_tables.load_by_python, lambda made, rows: raw_tables.load_by_program(program, made, rows, None)]
-        for way, load in enumerate(ways):
-            try:
-                load(room / f"bad-{number}-{way}.db", rows)
-            except Stopped as stopped:
-                told.append((stopped.status, str(stopped).removeprefix(f"{rows}/")))
-        compare(f"bad rows {number}", (len(told), len(set(told))), (len(ways), 1), fail)
+        try:
+            raw_tables.load_rows(room / f"bad-{number}.db", rows, None)
+            told = (0, "")
+        except Stopped as stopped:
+            told = stopped.status, str(stopped).removeprefix(f"{rows}/")
+        why = "has a row with more than 9 columns: it has another layout" if number == 2 else "ends within a row"
+        compare(f"bad rows {number}", told, (4, f"send.rows {why}"), fail)

@@ -17,7 +17,7 @@ from checks.kit.frames import frames_of
 from checks.kit.programs import DRIVER, ROOT
 from checks.recorder.driver.compare import SECRETS, TO_CLEAR
 from checks.viewer.page.columns import check_columns
-from checks.viewer.page.common import stored, texts_of, told_by, view
+from checks.viewer.page.common import stored, texts_of, view
 from checks.viewer.page.reports import check_harmless, shown_of
 
 
@@ -34,7 +34,7 @@ def check_words(folder: pathlib.Path, room: pathlib.Path, fail: Fail) -> None:
         compare(f"words {words}", view(folder, room, *words)[0], 64, fail)
     compare("--help", view(folder, room, "--help")[0], 0, fail)
     status, _, told = view(folder, room, capture, "no-such.cap", "-o", "n.html")
-    compare("a file that is not there", (status, told_by(told)),
+    compare("a file that is not there", (status, told),
             (4, "view: no-such.cap: No such file or directory\n"), fail)
     compare("a side list that is not there", view(folder, room, capture, "--side", "no", "--groups")[0], 4, fail)
     compare("a file that is not a side list", view(folder, room, capture, "--side", capture, "--groups")[0], 4, fail)
@@ -84,7 +84,7 @@ def check_no_engine(folder: pathlib.Path, room: pathlib.Path, fail: Fail) -> Non
                             (("--groups", "--database", "some.db", "--trace", "some.json.gz"), (0, ""),
                              ["some.db", "some.json.gz"])):
         ended = subprocess.run([*words, *more], cwd=room, capture_output=True, text=True)
-        compare(f"no engine, {more}", (ended.returncode, told_by(ended.stderr)), due, fail)
+        compare(f"no engine, {more}", (ended.returncode, ended.stderr), due, fail)
         compare(f"no engine, {more}: what is made", [one for one in more if (room / one).exists()], made, fail)
 
 
