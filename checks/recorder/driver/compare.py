@@ -19,9 +19,9 @@ from checks.kit.captures import BR_TRANSACTION, BR_TRANSACTION_SEC_CTX
 from checks.kit.frames import frames_of
 from checks.kit.programs import ROOT
 from checks.recorder.driver import books as books_of
+from checks.recorder.driver import side_form
 from checks.recorder.driver.recording import Recording, Report, report_on
 from checks.recorder.driver.sections import both
-from checks.recorder.driver.side_form import faults
 from checks.recorder.driver.stacked import stack_differences
 from checks.viewer.page.common import groups_due, groups_of
 from viewer.database import loading
@@ -123,12 +123,16 @@ def lost_differences(recording):
         yield "lost", "all", why, count, 0
 
 
-def form_differences(recording):
-    """Each side list has the form that its page describes."""
+def form_differences(recording, is_stored):
+    """Each side list has the form that its page describes. A stored one may be of an earlier recorder. With another
+    `begin` it is told."""
     for path in recording.sides:
-        wrong = faults(path.read_text(errors="surrogateescape"))
+        text = path.read_text(errors="surrogateescape")
+        wrong = [] if is_stored and side_form.is_earlier(text) else side_form.faults(text)
         if wrong:
             yield "form", path.stem, wrong[0][:80], len(wrong), 0
+        elif not side_form.faults(side_form.without_drivers(text)):
+            yield "form", path.stem, "untold", 0, 1
 
 
 def end_differences(recording):
@@ -332,6 +336,7 @@ class Scenario:
         self.name, self.folder = folder.name.removesuffix("-rust"), folder	# as store.py calls some
         self.recording = Recording(folder)
         status = folder / "status"
+        self.is_stored = not status.exists()
         self.status, self.how = status.read_text().split()[:2] if status.exists() else ("0", "stored")
         code, text = report_on(auditor, self.recording.captures)
         if code == 2 and self.how == "killed" and self.recording.captures:
@@ -382,7 +387,7 @@ class Scenario:
             if self.has_copies:
                 found += copy_differences(self.how, self.recording, self.folder)
             found += end_differences(self.recording)
-            found += form_differences(self.recording)
+            found += form_differences(self.recording, self.is_stored)
             return found, {"capture", "lost", "names", "books", "end", "form"} | (
                 {"view"} if self.name == "before" else set())
         if self.books is None:
@@ -392,7 +397,7 @@ class Scenario:
         found += purpose_differences(self.name, self.report, self.recording)
         found += lost_differences(self.recording)
         found += end_differences(self.recording)
-        found += form_differences(self.recording)
+        found += form_differences(self.recording, self.is_stored)
         found += sender_differences(self.recording)
         found += bits_differences(self.how, self.recording)
         found += [("status", "all", "unsaid", words, 0) for words in SAYS.get(self.how, ()) if words not in self.output]
