@@ -19,9 +19,9 @@ from checks.kit.captures import BR_TRANSACTION, BR_TRANSACTION_SEC_CTX
 from checks.kit.frames import frames_of
 from checks.kit.programs import ROOT
 from checks.recorder.driver import books as books_of
+from checks.recorder.driver import side_form
 from checks.recorder.driver.recording import Recording, Report, report_on
 from checks.recorder.driver.sections import both
-from checks.recorder.driver.side_form import EARLIER_FIRST_LINE, faults
 from checks.recorder.driver.stacked import stack_differences
 from checks.viewer.page.common import groups_due, groups_of
 from viewer.database import loading
@@ -124,14 +124,15 @@ def lost_differences(recording):
 
 
 def form_differences(recording, is_stored):
-    """Each side list has the form that its page describes. Some that are stored are of earlier recorders."""
+    """Each side list has the form that its page describes. A stored one may be of an earlier recorder. With another
+    `begin` it is told."""
     for path in recording.sides:
         text = path.read_text(errors="surrogateescape")
-        if is_stored and text.startswith(EARLIER_FIRST_LINE):
-            continue
-        wrong = faults(text)
+        wrong = [] if is_stored and side_form.is_earlier(text) else side_form.faults(text)
         if wrong:
             yield "form", path.stem, wrong[0][:80], len(wrong), 0
+        elif not side_form.faults(side_form.without_drivers(text)):
+            yield "form", path.stem, "untold", 0, 1
 
 
 def end_differences(recording):
@@ -336,7 +337,7 @@ class Scenario:
         self.recording = Recording(folder)
         status = folder / "status"
         self.is_stored = not status.exists()
-        self.status, self.how = ("0", "stored") if self.is_stored else status.read_text().split()[:2]
+        self.status, self.how = status.read_text().split()[:2] if status.exists() else ("0", "stored")
         code, text = report_on(auditor, self.recording.captures)
         if code == 2 and self.how == "killed" and self.recording.captures:
             with tempfile.TemporaryDirectory() as room:

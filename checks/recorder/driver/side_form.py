@@ -5,8 +5,7 @@ from functools import cache
 
 from checks.kit.programs import ROOT
 
-FIRST_LINE = "binder side list 2"
-EARLIER_FIRST_LINE = "binder side list 1\n"
+FIRST_LINE, EARLIER = "binder side list 2", "binder side list 1"
 NUMBER = "[0-9]+"
 # What the words in capitals stand for; all others stand for a number.
 KINDS = {
@@ -51,3 +50,13 @@ def faults(text: str) -> list[str]:
     if not any(" begin " in line for line in lines[:2]):	# the first of files comes right before
         wrong.insert(0, "no begin")
     return [first] * (first != FIRST_LINE) + wrong
+
+
+def is_earlier(text: str) -> bool:
+    """Whether an earlier recorder wrote it."""
+    return text.startswith(f"{EARLIER}\n")
+
+
+def without_drivers(text: str) -> str:
+    """The list under today's first line, but with `begin` as it was before."""
+    return re.sub(r" drivers=\S*", "", text.replace(EARLIER, FIRST_LINE, 1))
