@@ -169,7 +169,10 @@ play() { # GUEST
   if [[ $machine == x86_64 ]]; then shell=toybox; fi
   case $series in
   5.10) scenes=(--only old_kernel) ;;
-  enforcing) series=newest policy=$phone/one_domain.cil scenes=(--only no_bpf --only session) ;;
+  enforcing)
+    series=newest policy=$phone/one_domain.cil
+    if ((${#only[@]} == 0)); then scenes=(--only no_bpf --only session); fi
+    ;;
   esac
   fetch_kernel "$series" || stop "the registry has no kernel $series for $architecture"
   open_with_all sid "$room/adbd-$architecture" adbd busybox-static toybox mksh ||
