@@ -35,6 +35,9 @@ from checks.pages import callers, definitions, named_options, promises, sources,
 
 TITLE = "BINDER AUDIT "
 
+# How many seconds a command of a page may take: on a loaded machine nine pages were seen to take over two minutes.
+LONGEST = 600
+
 
 def pages():
     """The pages, README.md first."""
@@ -128,7 +131,7 @@ def wrong_answers(page, program, room):
     path = f"{folder}/bin:{os.environ['PATH']}" if with_sqlite3(folder) else os.environ["PATH"]
     for number, block, _ in blocks(page):
         for at, command, due in commands_in(block):
-            _, said, _ = answer(["bash", "-c", command], timeout=120, cwd=folder, env={**os.environ, "PATH": path},
+            _, said, _ = answer(["bash", "-c", command], timeout=LONGEST, cwd=folder, env={**os.environ, "PATH": path},
                                 text=True, stderr=subprocess.STDOUT)
             if said.splitlines() != due:
                 yield number + at, f"it prints {said!r}"
