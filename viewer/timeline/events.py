@@ -119,8 +119,8 @@ class Format(Protocol):
 
     def finding(self, thread: Thread, ns: int, finding: Finding) -> None: ...
 
-    def count(self, process: Process, ns: int) -> int:
-        """The counters of a process that were changed. Returns how many."""
+    def count(self, process: Process, ns: int, changed: list[int]) -> None:
+        """The counters of a process that were changed."""
 
     def queue(self, thread: Thread, called: object, place: int, begin: int, end: int,
               fields: Mapping[str, object]) -> None:

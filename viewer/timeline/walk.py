@@ -6,15 +6,17 @@ has not come yet was sent. docs/VIEW.md says what the events mean.
 
 import functools
 import heapq
+import itertools
 import math
+import operator
 import sqlite3
 from typing import Callable, Iterator
 
 from viewer.database.sqlite import named_numbers
 from viewer.rules.names import Names
 from viewer.timeline.ends_and_gaps import Mark, ends_of, gaps_of, lost_of, missed_of
-from viewer.timeline.events import (ASYNC, BUFFERS, BUSY, BYTES, CALL, CALLS, CAME, COUNTERS, REFERENCES, SENT, SERVED,
-                                    Called, Finding, Format, Lane, Open, Process, Thread)
+from viewer.timeline.events import (ALL_COUNTERS, ASYNC, BUFFERS, BUSY, BYTES, CALL, CALLS, CAME, COUNTERS, REFERENCES,
+                                    SENT, SERVED, Called, Finding, Format, Lane, Open, Process, Thread)
 from viewer.timeline.rows import BY_PLACE, DELIVERY, FINDING, MARK, RECORD, SEND, Ahead
 from viewer.timeline.tracks import Axis, Tracks, Window
 
@@ -163,12 +165,13 @@ class Walk:
         if not self.live:
             return
         for process in self.changed:
-            now = process.now
-            if now != process.shown and process.head is not None:
+            changed = [*itertools.compress(ALL_COUNTERS, map(operator.ne, process.now, process.shown))]
+            if changed and process.head is not None:
                 if ns > process.latest:
                     process.latest = ns
-                self.told["counter_events"] += self.out.count(process, process.latest)
-                process.shown = now.copy()
+                self.out.count(process, process.latest, changed)
+                self.told["counter_events"] += len(changed)
+                process.shown = process.now.copy()
         self.changed.clear()
 
     # -- rows
