@@ -255,15 +255,15 @@ class Packets:
                        self.fields(finding.fields) + flow)
         self.instant(thread, ns, category, f"{finding.verdict}: {finding.title}", finding.fields, flow)
 
-    def count(self, process: Process, ns: int, changed: list[int]) -> None:
+    def count(self, process: Process, ns: int, changed: list[tuple[int, int]]) -> None:
         """One event has all counters that were changed. Extra ones of 0 come last: after one of them Perfetto 56 takes
         all others for 0."""
         tracks = self.counters.get(process.upid)
         if tracks is None:
             tracks = self.counters[process.upid] = self.counter_tracks(process)
-        now, body, zeros = process.now, b"", b""
-        for at in changed:
-            value, (own, extra) = now[at], tracks[at]
+        body = zeros = b""
+        for at, value in changed:
+            own, extra = tracks[at]
             if not body:
                 body = own + varint(value)
             elif value:
