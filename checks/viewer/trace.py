@@ -33,9 +33,9 @@ list, of one device and of two, in parts and malformed:
 - In Perfetto's format findings are on tracks of their own, with flows; calls have their stacks; names are told once.
 - With the names of Android each transaction and its delivery have them, and say what is called.
 - A narrowed timeline has the slices of its thread, process and frames, and the counters of the whole one.
-- Names from a stranger are data. An existing file is not overwritten; only the owner can read a timeline; SIGTERM
-  leaves nothing; a malformed capture has what comes before its fault, and status 2. The processes that read the
-  database and find the events end with the timeline, also if it was killed.
+- Names from a stranger are data. An existing file is not overwritten; only the owner can read a timeline; SIGTERM and
+  a full disk leave nothing; a malformed capture has what comes before its fault, and status 2. The processes that read
+  the database and find the events end with the timeline, also if it was killed.
 
 TRACE_PROCESSOR is trace_processor_shell of Perfetto 56, or a script that calls it; the system trace is made by hand.
 TRACE_VIEWER is the file trace_viewer_full.html of Catapult, with webcomponents.min.js beside it. Debian's package
@@ -454,32 +454,37 @@ def check_order(folder: pathlib.Path, room: pathlib.Path, fail: Fail) -> None:
     database.close()
 
 
-# Runs ./view, which gets SIGTERM when so many times something was handed over to the file.
-STOPPED_AT = """
+# Runs ./view, to which something happens when so many times something was handed over to the file.
+HAPPENS_AT = """
 import os, runpy, signal, sys
 from viewer.timeline import packed
-at, count, written = int(sys.argv[1]), 0, packed.File.add
+at, happens, count, written = int(sys.argv[1]), sys.argv[2], 0, packed.File.add
 def add(self, data):
     global count
     written(self, data)
     count += 1
     if count == at:
-        os.kill(os.getpid(), signal.SIGTERM)
+        exec(happens)
 packed.File.add = add
-sys.argv = sys.argv[2:]
+sys.argv = sys.argv[3:]
 runpy.run_path(sys.argv[0], run_name="__main__")
 """
+SIGTERM, FULL = "os.kill(os.getpid(), signal.SIGTERM)", "raise OSError(28, 'No space left on device')"
 
 
 def check_stopped(folder: pathlib.Path, room: pathlib.Path, fail: Fail) -> None:
-    """SIGTERM while a timeline is written leaves nothing, neither beside it nor in TMPDIR."""
+    """SIGTERM while a timeline is written leaves nothing, neither beside it nor in TMPDIR. Nor does a full disk, of
+    which a line tells."""
     (room / "tmp").mkdir()
-    for at, name in ((1, "stopped.json.gz"), (2, "stopped.json.gz"), (1, "stopped.pftrace")):
+    for at, name, happens, due in (
+            (1, "stopped.json.gz", SIGTERM, (143, "")), (2, "stopped.json.gz", SIGTERM, (143, "")),
+            (1, "stopped.pftrace", SIGTERM, (143, "")),
+            (1, "full.pftrace", FULL, (4, "view: full.pftrace: No space left on device\n"))):
         words = [folder / "view", DRIVER / "gaps/capture-1.cap", "--trace", name]
-        ended = subprocess.run([sys.executable, "-c", STOPPED_AT, str(at), *words], cwd=room,
-                               env={**os.environ, "TMPDIR": str(room / "tmp")})
+        ended = subprocess.run([sys.executable, "-c", HAPPENS_AT, str(at), happens, *words], cwd=room,
+                               env={**os.environ, "TMPDIR": str(room / "tmp")}, stderr=subprocess.PIPE, text=True)
         left = sorted(path.name for path in room.rglob("*"))
-        compare(f"{name}, stopped at {at}", (ended.returncode, left), (143, ["tmp"]), fail)
+        compare(f"{name}, stopped at {at}", (ended.returncode, ended.stderr, left), (*due, ["tmp"]), fail)
 
 
 def has_child() -> bool:
