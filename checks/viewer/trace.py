@@ -33,9 +33,9 @@ list, of one device and of two, in parts and malformed:
 - In Perfetto's format findings are on tracks of their own, with flows; calls have their stacks; names are told once.
 - With the names of Android each transaction and its delivery have them, and say what is called.
 - A narrowed timeline has the slices of its thread, process and frames, and the counters of the whole one.
-- Names from a stranger are data. An existing file is not overwritten; only the owner can read a timeline; SIGTERM
-  leaves nothing; a malformed capture has what comes before its fault, and status 2. The process that reads the
-  database ends with the timeline.
+- Names from a stranger are data. An existing file is not overwritten; only the owner can read a timeline; SIGTERM and
+  a full disk leave nothing; a malformed capture has what comes before its fault, and status 2. The processes that read
+  the database and find the events end with the timeline, also if it was killed.
 
 TRACE_PROCESSOR is trace_processor_shell of Perfetto 56, or a script that calls it; the system trace is made by hand.
 TRACE_VIEWER is the file trace_viewer_full.html of Catapult, with webcomponents.min.js beside it. Debian's package
@@ -49,11 +49,13 @@ import gzip
 import os
 import pathlib
 import re
+import signal
 import sqlite3
 import subprocess
 import sys
 from collections import Counter
 from typing import Iterator
+from unittest import mock
 
 from checks.kit.captures import *
 from checks.kit.checking import Fail, check, compare, run_parts
@@ -67,7 +69,7 @@ from checks.viewer.timeline.read import Read
 from checks.viewer.timeline.read_json import ReadJson, nanoseconds
 from checks.viewer.timeline.read_packets import ReadPackets
 from viewer.database.sqlite import open_database
-from viewer.timeline import trace
+from viewer.timeline import trace, walk
 from viewer.timeline.tracks import Window
 
 # Captures with their side lists. Together they have calls within calls, queues, ends, gaps, refused sends and errors.
@@ -452,32 +454,37 @@ def check_order(folder: pathlib.Path, room: pathlib.Path, fail: Fail) -> None:
     database.close()
 
 
-# Runs ./view, which gets SIGTERM when so many times something was handed over to the file.
-STOPPED_AT = """
+# Runs ./view, to which something happens when so many times something was handed over to the file.
+HAPPENS_AT = """
 import os, runpy, signal, sys
 from viewer.timeline import packed
-at, count, written = int(sys.argv[1]), 0, packed.File.add
+at, happens, count, written = int(sys.argv[1]), sys.argv[2], 0, packed.File.add
 def add(self, data):
     global count
     written(self, data)
     count += 1
     if count == at:
-        os.kill(os.getpid(), signal.SIGTERM)
+        exec(happens)
 packed.File.add = add
-sys.argv = sys.argv[2:]
+sys.argv = sys.argv[3:]
 runpy.run_path(sys.argv[0], run_name="__main__")
 """
+SIGTERM, FULL = "os.kill(os.getpid(), signal.SIGTERM)", "raise OSError(28, 'No space left on device')"
 
 
 def check_stopped(folder: pathlib.Path, room: pathlib.Path, fail: Fail) -> None:
-    """SIGTERM while a timeline is written leaves nothing, neither beside it nor in TMPDIR."""
+    """SIGTERM while a timeline is written leaves nothing, neither beside it nor in TMPDIR. Nor does a full disk, of
+    which a line tells."""
     (room / "tmp").mkdir()
-    for at, name in ((1, "stopped.json.gz"), (2, "stopped.json.gz"), (1, "stopped.pftrace")):
+    for at, name, happens, due in (
+            (1, "stopped.json.gz", SIGTERM, (143, "")), (2, "stopped.json.gz", SIGTERM, (143, "")),
+            (1, "stopped.pftrace", SIGTERM, (143, "")),
+            (1, "full.pftrace", FULL, (4, "view: full.pftrace: No space left on device\n"))):
         words = [folder / "view", DRIVER / "gaps/capture-1.cap", "--trace", name]
-        ended = subprocess.run([sys.executable, "-c", STOPPED_AT, str(at), *words], cwd=room,
-                               env={**os.environ, "TMPDIR": str(room / "tmp")})
+        ended = subprocess.run([sys.executable, "-c", HAPPENS_AT, str(at), happens, *words], cwd=room,
+                               env={**os.environ, "TMPDIR": str(room / "tmp")}, stderr=subprocess.PIPE, text=True)
         left = sorted(path.name for path in room.rglob("*"))
-        compare(f"{name}, stopped at {at}", (ended.returncode, left), (143, ["tmp"]), fail)
+        compare(f"{name}, stopped at {at}", (ended.returncode, ended.stderr, left), (*due, ["tmp"]), fail)
 
 
 def has_child() -> bool:
@@ -489,8 +496,8 @@ def has_child() -> bool:
 
 
 def check_reader(folder: pathlib.Path, room: pathlib.Path, fail: Fail) -> None:
-    """The process that reads the rows is gone after a narrowed timeline, for which it need not read all, and after one
-    of a database that lacks a table, which ends with an error."""
+    """No process is left after a narrowed timeline, for which not all rows need be read, and after one of a database
+    that lacks a table, which ends with an error."""
     database = loaded(folder, room / "reader.db", [DRIVER / "gaps/capture-1.cap"], None)
     first, = database.execute("SELECT first_seq FROM raw_capture").fetchone()
     written(database, room / "narrow.json.gz", last=first)
@@ -502,6 +509,48 @@ def check_reader(folder: pathlib.Path, room: pathlib.Path, fail: Fail) -> None:
     except sqlite3.Error as error:
         came = str(error)
     compare("a database that lacks a table", (came, has_child()), ("its rows can't be read", False), fail)
+    database.close()
+
+
+# Is killed while one process makes lists without end, and another one hands them on.
+KILLED = """
+import os, signal
+from viewer.timeline.piped import Piped
+def make(send):
+    while True:
+        send([(0,)])
+with Piped(make) as made:
+    def hand_on(send):
+        for one in made:
+            send(one)
+    with Piped(hand_on) as lists:
+        next(lists)
+        os.kill(os.getpid(), signal.SIGKILL)
+"""
+
+
+def check_killed(_: pathlib.Path, __: pathlib.Path, fail: Fail) -> None:
+    """SIGKILL leaves no process: who writes into a pipe that nobody reads ends."""
+    killed = subprocess.Popen([sys.executable, "-Bc", KILLED], cwd=ROOT, start_new_session=True,
+                              stdout=subprocess.PIPE)
+    try:
+        killed.communicate(timeout=60)  # the output ends when no process has it any more
+        is_left = False
+    except subprocess.TimeoutExpired:
+        os.killpg(killed.pid, signal.SIGKILL)
+        is_left = True
+    compare("what was killed: its status, and whether a process is left", (killed.wait(), is_left),
+            (-signal.SIGKILL, False), fail)
+
+
+def check_remembered(folder: pathlib.Path, room: pathlib.Path, fail: Fail) -> None:
+    """A timeline is the same if little is remembered of what is called, so that what was told has to be told again."""
+    database = loaded(folder, room / "remembered.db", *WITH_FILES["hello-sessions"])
+    ways = [("out.json.gz", False), ("out.pftrace", False), ("out.pftrace", True)]
+    due = [written(database, room / name, is_android).read_bytes() for name, is_android in ways]
+    with mock.patch.object(walk, "REMEMBERED", 1):
+        came = [written(database, room / name, is_android).read_bytes() for name, is_android in ways]
+    compare("what is remembered makes no difference", [one == two for one, two in zip(came, due)], [True] * 3, fail)
     database.close()
 
 
@@ -534,7 +583,8 @@ def judge(given: argparse.Namespace, room: pathlib.Path, fail: Fail) -> None:
         for files, side in samples():
             check_sample(folder, room, files, side, fail)
         run_parts((check_small, check_words, check_malformed, check_hostile, check_clock, check_early,
-                   check_instants_last, check_reused, check_order, check_stopped, check_reader), folder, room, fail)
+                   check_instants_last, check_reused, check_order, check_stopped, check_reader, check_killed,
+                   check_remembered), folder, room, fail)
 
 
 if __name__ == "__main__":

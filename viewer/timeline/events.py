@@ -2,7 +2,7 @@
 
 from typing import Mapping, NamedTuple, Protocol
 
-from viewer.timeline.tracks import Track
+from viewer.timeline.tracks import Track, Tracks
 
 # What a slice of a thread is: a call that it makes, a call that it serves, a oneway transaction that it sends, and one
 # that came to it.
@@ -90,19 +90,12 @@ COUNTERS = (("buffers", "held"), ("bytes", "held"), ("async bytes", "held"), ("r
 BUFFERS, BYTES, ASYNC, REFERENCES, CALLS, BUSY = ALL_COUNTERS = range(len(COUNTERS))
 
 
-class Format(Protocol):
-    """Writes the events of a timeline. Times are in nanoseconds of the axis. What it makes of `Called` is handed back
-    to it with each event."""
+class Events(Protocol):
+    """Takes the events of a timeline. Times are in nanoseconds of the axis. What it makes of `Called` is handed back to
+    it with each event."""
 
     # What the axis is.
     clock: str
-
-    def lane_of(self, utid: int) -> object:
-        """What two threads of the capture have in common if they are one thread of the system, and so one track."""
-
-    def head_of_thread(self, thread: Thread) -> object: ...
-
-    def head_of_process(self, process: Process) -> object: ...
 
     def called(self, called: Called) -> object: ...
 
@@ -119,8 +112,8 @@ class Format(Protocol):
 
     def finding(self, thread: Thread, ns: int, finding: Finding) -> None: ...
 
-    def count(self, process: Process, ns: int) -> int:
-        """The counters of a process that were changed. Returns how many."""
+    def count(self, process: Process, ns: int, changed: list[tuple[int, int]]) -> None:
+        """The counters of a process that were changed, with their values."""
 
     def queue(self, thread: Thread, called: object, place: int, begin: int, end: int,
               fields: Mapping[str, object]) -> None:
@@ -130,7 +123,33 @@ class Format(Protocol):
         """All that a frame has was told."""
 
     def flush(self) -> None:
-        """Hands what was made over to the file."""
+        """Hands over what was made."""
 
     def finish(self, told: dict[str, object]) -> None:
         """The end, and what the timeline says of itself."""
+
+
+class Format(Events, Protocol):
+    """Writes the events into a file."""
+
+    def lane_of(self, utid: int) -> object:
+        """What two threads of the capture have in common if they are one thread of the system, and so one track."""
+
+    def head_of_thread(self, thread: Thread) -> object: ...
+
+    def head_of_process(self, process: Process) -> object: ...
+
+
+class Drawn:
+    """The processes and threads of a capture, and how the events of those that are shown name them in a format."""
+
+    def __init__(self, tracks: Tracks, out: Format):
+        self.processes = {row.upid: Process(row.upid, len(COUNTERS)) for row in tracks.processes}
+        self.lanes = {out.lane_of(utid): Lane() for utid in tracks.upid_of}
+        self.threads = {utid: Thread(utid, self.processes[upid], self.lanes[out.lane_of(utid)])
+                        for utid, upid in tracks.upid_of.items()}
+        for utid in sorted(tracks.shown):
+            thread = self.threads[utid]
+            if thread.process.head is None:
+                thread.process.head = out.head_of_process(thread.process)
+            thread.head = out.head_of_thread(thread)

@@ -4,8 +4,8 @@ import functools
 import json
 from typing import Callable, Iterator, Mapping
 
-from viewer.timeline.events import (ADDRESSES, ALL_COUNTERS, ARGUMENTS, CALL, CATEGORIES, COUNTERS, SENT, SORTS, TEXTS,
-                                    VERBS, Called, Finding, Process, Thread)
+from viewer.timeline.events import (ADDRESSES, ARGUMENTS, CALL, CATEGORIES, COUNTERS, SENT, SORTS, TEXTS, VERBS, Called,
+                                    Finding, Process, Thread)
 from viewer.timeline.packed import File
 from viewer.timeline.tracks import Axis, Tracks
 
@@ -160,13 +160,9 @@ class JsonEvents:
     def finding(self, thread: Thread, ns: int, finding: Finding) -> None:
         self.instant(thread, ns, f"finding,{finding.verdict}", f"{finding.verdict}: {finding.title}", finding.fields)
 
-    def count(self, process: Process, ns: int) -> int:
-        heads, now, shown, before = self.counters[process.upid], process.now, process.shown, len(self.events)
-        tail = f'}},"ts":{self.time(ns)}}}'
-        for at in ALL_COUNTERS:
-            if now[at] != shown[at]:
-                self.events.append(f"{heads[at]}{now[at]}{tail}")
-        return len(self.events) - before
+    def count(self, process: Process, ns: int, changed: list[tuple[int, int]]) -> None:
+        heads, tail = self.counters[process.upid], f'}},"ts":{self.time(ns)}}}'
+        self.events += [f"{heads[at]}{value}{tail}" for at, value in changed]
 
     def queue(self, thread: Thread, called: JsonCalled, place: int, begin: int, end: int,
               fields: Mapping[str, object]) -> None:

@@ -11,13 +11,12 @@ from typing import Mapping
 
 from viewer.timeline.call_stacks import CallStacks
 from viewer.timeline.clocks import Moment
-from viewer.timeline.events import (ALL_COUNTERS, ARGUMENTS, CATEGORIES, SORTS, VERBS, Called, Finding, Process,
-                                    Thread)
+from viewer.timeline.events import ARGUMENTS, CATEGORIES, SORTS, VERBS, Called, Finding, Process, Thread
 from viewer.timeline.interned import CATEGORY, CATEGORY_NAMES, EVENT_NAME, EVENT_NAMES, Interned
 from viewer.timeline.packed import File
 from viewer.timeline.system import System
 from viewer.timeline.tracks import Axis, ProcessRow, Tracks
-from viewer.timeline.wire import (LAST, LENGTH, LENGTHS, PAIRS, VARINT, fixed, key, message, number, text, varint,
+from viewer.timeline.wire import (LENGTH, LENGTHS, PAIRS, VARINT, fixed, key, message, number, text, varint,
                                   varint_of_time)
 
 # The only field of Trace, and those of TracePacket.
@@ -256,26 +255,22 @@ class Packets:
                        self.fields(finding.fields) + flow)
         self.instant(thread, ns, category, f"{finding.verdict}: {finding.title}", finding.fields, flow)
 
-    def count(self, process: Process, ns: int) -> int:
+    def count(self, process: Process, ns: int, changed: list[tuple[int, int]]) -> None:
         """One event has all counters that were changed. Extra ones of 0 come last: after one of them Perfetto 56 takes
         all others for 0."""
         tracks = self.counters.get(process.upid)
         if tracks is None:
             tracks = self.counters[process.upid] = self.counter_tracks(process)
-        now, shown, body, zeros, changed = process.now, process.shown, b"", b"", 0
-        for at in ALL_COUNTERS:
-            value = now[at]
-            if value != shown[at]:
-                made = LAST[value] if 0 <= value < PAIRS else varint(value)
-                if not changed:
-                    body = tracks[at][0] + made
-                elif value:
-                    body += tracks[at][1] + made
-                else:
-                    zeros += tracks[at][1] + made
-                changed += 1
+        body = zeros = b""
+        for at, value in changed:
+            own, extra = tracks[at]
+            if not body:
+                body = own + varint(value)
+            elif value:
+                body += extra + varint(value)
+            else:
+                zeros += extra + b"\0"
         self.event(ns, body + zeros)
-        return changed
 
     def queue(self, thread: Thread, called: PacketCalled, place: int, begin: int, end: int,
               fields: Mapping[str, object]) -> None:

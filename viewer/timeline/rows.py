@@ -1,24 +1,18 @@
-"""The rows of which a timeline is made, in the order of the capture. A process of its own reads them from the database,
-while the timeline of those before is made."""
+"""The rows of which a timeline is made, in the order of the capture."""
 
-import marshal
 import operator
-import os
 import pathlib
-import signal
 import sqlite3
-from typing import BinaryIO, Iterator, NoReturn
+from typing import Iterator
 
 from viewer.database.sqlite import named_numbers
+from viewer.timeline.piped import Send
 
 # What a row is about, and its order among rows of one place. A mark is no row of the database.
 MARK, SEND, DELIVERY, RECORD, FINDING = range(5)
 
 # How many bytes of the capture are read at a time.
 STRETCH = 2**18
-
-# The last form of `marshal` that does not look for objects that are there twice: nearly all are small numbers.
-WITHOUT_REFERENCES = 2
 
 # The rows of a stretch of the capture.
 QUERIES = {
@@ -69,13 +63,17 @@ class Ahead:
             self.next = next(self.rows, None)
 
 
-# ---- in the process that reads
-
-
-def read(database: sqlite3.Connection) -> Iterator[list[tuple]]:
-    """The rows of stretch after stretch. Sorting goes to the disk."""
+def opened(path: str) -> sqlite3.Connection:
+    """The database for one more process. Nobody writes to it meanwhile, and it is locked. Sorting goes to the disk."""
+    database = sqlite3.connect(f"{pathlib.Path(path).as_uri()}?immutable=1", uri=True)
     for setting in ("cache_size=-16384", "temp_store=FILE"):
         database.execute(f"PRAGMA {setting}")
+    return database
+
+
+def read(path: str, send: Send) -> None:
+    """Reads the rows from the database and sends them, stretch after stretch."""
+    database = opened(path)
     numbers = named_numbers(database)
     findings = Ahead(database.execute(FINDINGS, {"what": FINDING}))
     last, = database.execute("SELECT coalesce(max(place), 0) FROM raw_record").fetchone()
@@ -85,62 +83,4 @@ def read(database: sqlite3.Connection) -> Iterator[list[tuple]]:
             rows += database.execute(query, {**numbers, "what": what, "begin": begin, "end": begin + STRETCH})
         rows += findings.before(begin + STRETCH)
         rows.sort(key=BY_PLACE)  # rows of one place stay in this order
-        yield rows
-
-
-def send(path: str, into: int) -> NoReturn:
-    """Writes the rows into a pipe, and ends the process with status 0 if that is all of them."""
-    status = 1
-    try:
-        for which in (signal.SIGINT, signal.SIGTERM):
-            signal.signal(which, signal.SIG_DFL)
-        # Nobody writes to the database meanwhile, and it is locked.
-        database = sqlite3.connect(f"{pathlib.Path(path).as_uri()}?immutable=1", uri=True)
-        with open(into, "wb") as pipe:
-            for rows in read(database):
-                data = marshal.dumps(rows, WITHOUT_REFERENCES)
-                pipe.write(len(data).to_bytes(8, "little") + data)
-        status = 0
-    finally:
-        os._exit(status)
-
-
-# ---- in the process that asks
-
-
-def received(pipe: BinaryIO) -> Iterator[list[tuple]]:
-    """What comes from the pipe, up to its end, or to a stretch that is cut off because the other process was killed."""
-    while head := pipe.read(8):
-        length = int.from_bytes(head, "little")
-        if len(data := pipe.read(length)) < length:
-            return
-        yield marshal.loads(data)
-
-
-class Rows:
-    """The rows, stretch after stretch, each in a list. The process that reads them ends with the block."""
-
-    def __init__(self, database: sqlite3.Connection):
-        path = next(file for _, name, file in database.execute("PRAGMA database_list") if name == "main")
-        out, into = os.pipe()
-        self.reader = os.fork()
-        if self.reader == 0:
-            os.close(out)
-            send(path, into)
-        os.close(into)
-        self.pipe = open(out, "rb")
-
-    def __enter__(self) -> Iterator[list[tuple]]:
-        return self.all()
-
-    def __exit__(self, *_: object) -> None:
-        self.pipe.close()
-        if self.reader:
-            os.kill(self.reader, signal.SIGKILL)
-            os.waitpid(self.reader, 0)
-
-    def all(self) -> Iterator[list[tuple]]:
-        yield from received(self.pipe)
-        reader, self.reader = self.reader, 0
-        if os.waitpid(reader, 0)[1]:
-            raise sqlite3.OperationalError("its rows can't be read")
+        send(rows)

@@ -1,6 +1,7 @@
 """Writes a timeline of a capture, by the suffix of its file: in Perfetto's own format, or as JSON."""
 
 import contextlib
+import functools
 import gc
 import pathlib
 import sqlite3
@@ -8,11 +9,13 @@ from typing import Iterator
 
 from viewer.program_names import commit
 from viewer.timeline.android_names import AndroidNames
-from viewer.timeline.events import Format
+from viewer.timeline.calls import Calls, Told
+from viewer.timeline.events import Drawn, Format
 from viewer.timeline.json_events import JsonEvents
 from viewer.timeline.packed import File
 from viewer.timeline.packets import Packets
-from viewer.timeline.rows import Rows
+from viewer.timeline.piped import Piped, Send
+from viewer.timeline.rows import opened, read
 from viewer.timeline.suffixes import NATIVE
 from viewer.timeline.tracks import Axis, Tracks, Window
 from viewer.timeline.walk import Walk
@@ -47,23 +50,33 @@ def uncollected() -> Iterator[None]:
             gc.enable()
 
 
+def find_events(path: str, axis: Axis, tracks: Tracks, window: Window, drawn: Drawn, clock: str,
+                rows: Iterator[list[tuple]], send: Send) -> None:
+    """Sends the events of the database at `path`."""
+    database, out = opened(path), Calls(send, clock)
+    walk = Walk(database, rows, out, axis, tracks, window, drawn)
+    walk.walk()
+    made_by = {"tool": "binder_audit: ./view --trace", "commit": commit()}
+    out.finish({name: value for name, value in {
+        **made_by, **axis.facts(clock), **facts_of(database), **window.facts(), **walk.told}.items()
+        if value is not None})
+
+
 def write(database: sqlite3.Connection, path: pathlib.Path, window: Window, name: str, is_android: bool = False
           ) -> bool:
     """Writes the timeline into a new file, for its owner only, in the format of files that are called `name`. Returns
-    whether any thread is in it."""
+    whether any thread is in it. One process reads the rows, one finds the events in them, and this one writes."""
     for setting in ("cache_size=-16384", "temp_store=FILE"):
         database.execute(f"PRAGMA {setting}")
-    with uncollected(), Rows(database) as rows:
+    made = next(file for _, schema, file in database.execute("PRAGMA database_list") if schema == "main")
+    with uncollected(), Piped(functools.partial(read, made)) as rows:
         file = File(path, name.endswith(".gz"))
         try:
             axis, tracks = Axis(database, window), Tracks(database, window)
             out = format_of(name, is_android, file, axis, tracks, database)
-            walk = Walk(database, rows, out, axis, tracks, window)
-            walk.walk()
-            made_by = {"tool": "binder_audit: ./view --trace", "commit": commit()}
-            out.finish({name: value for name, value in {
-                **made_by, **axis.facts(out.clock), **facts_of(database), **window.facts(), **walk.told}.items()
-                if value is not None})
+            drawn = Drawn(tracks, out)
+            with Piped(functools.partial(find_events, made, axis, tracks, window, drawn, out.clock, rows)) as calls:
+                Told(drawn, out).all(calls)
             return bool(tracks.shown)
         finally:
             file.close()

@@ -6,15 +6,17 @@ has not come yet was sent. docs/VIEW.md says what the events mean.
 
 import functools
 import heapq
+import itertools
 import math
+import operator
 import sqlite3
 from typing import Callable, Iterator
 
 from viewer.database.sqlite import named_numbers
 from viewer.rules.names import Names
 from viewer.timeline.ends_and_gaps import Mark, ends_of, gaps_of, lost_of, missed_of
-from viewer.timeline.events import (ASYNC, BUFFERS, BUSY, BYTES, CALL, CALLS, CAME, COUNTERS, REFERENCES, SENT, SERVED,
-                                    Called, Finding, Format, Lane, Open, Process, Thread)
+from viewer.timeline.events import (ASYNC, BUFFERS, BUSY, BYTES, CALL, CALLS, CAME, COUNTERS, REFERENCES,
+                                    SENT, SERVED, Called, Drawn, Events, Finding, Lane, Open, Process, Thread)
 from viewer.timeline.rows import BY_PLACE, DELIVERY, FINDING, MARK, RECORD, SEND, Ahead
 from viewer.timeline.tracks import Axis, Tracks, Window
 
@@ -22,16 +24,19 @@ VERDICTS = ("open", "answered", "replied", "failed", "crossed")
 TF_ONE_WAY = 1
 AROUND = "the call around it ended"
 
+# Of so much that is called it is remembered what was made of it.
+REMEMBERED = 4096
+
 
 class Walk:
-    """Walks through a capture and hands its events to a format."""
+    """Walks through a capture and hands its events over."""
 
-    def __init__(self, database: sqlite3.Connection, rows: Iterator[list[tuple]], out: Format, axis: Axis,
-                 tracks: Tracks, window: Window):
+    def __init__(self, database: sqlite3.Connection, rows: Iterator[list[tuple]], out: Events, axis: Axis,
+                 tracks: Tracks, window: Window, drawn: Drawn):
         self.database, self.rows, self.out, self.axis, self.window = database, rows, out, axis, window
         self.tracks = tracks
         self.names = Names(database)
-        self.called = functools.lru_cache(4096)(self.called_of)
+        self.called = functools.lru_cache(REMEMBERED)(self.called_of)
         numbers = named_numbers(database)
         self.reply, self.free_buffer = numbers["BR_REPLY"], numbers["BC_FREE_BUFFER"]
         self.kinds = {number: name for name, number in numbers.items()}
@@ -39,15 +44,7 @@ class Walk:
         self.told: dict[str, int] = {name: 0 for name in (
             "slices", "queue_slices", "flows", "counter_events", "instants", "pairs_without_flow",
             "deliveries_before_their_send")}
-        self.processes = {row.upid: Process(row.upid, len(COUNTERS)) for row in tracks.processes}
-        self.lanes = {out.lane_of(utid): Lane() for utid in tracks.upid_of}
-        self.threads = {utid: Thread(utid, self.processes[upid], self.lanes[out.lane_of(utid)])
-                        for utid, upid in tracks.upid_of.items()}
-        for utid in sorted(tracks.shown):
-            thread = self.threads[utid]
-            if thread.process.head is None:
-                thread.process.head = out.head_of_process(thread.process)
-            thread.head = out.head_of_thread(thread)
+        self.processes, self.lanes, self.threads = drawn.processes, drawn.lanes, drawn.threads
         # When the sends were shown whose deliveries are still to come.
         self.sent: dict[int, int] = {}
         self.oneways: set[int] = set()
@@ -62,7 +59,7 @@ class Walk:
     # -- what is called
 
     def call_of(self, code: int, upid: int, ptr: int, interface: int | None) -> object:
-        """What the format has made of what is called."""
+        """What `out` has made of what is called."""
         known = interface is not None or (code, upid, ptr) in self.names.called
         if known or (upid, ptr) in self.names.services:
             return self.called(code, upid, ptr, interface)
@@ -163,12 +160,13 @@ class Walk:
         if not self.live:
             return
         for process in self.changed:
-            now = process.now
-            if now != process.shown and process.head is not None:
+            changed = [*itertools.compress(enumerate(process.now), map(operator.ne, process.now, process.shown))]
+            if changed and process.head is not None:
                 if ns > process.latest:
                     process.latest = ns
-                self.told["counter_events"] += self.out.count(process, process.latest)
-                process.shown = now.copy()
+                self.out.count(process, process.latest, changed)
+                self.told["counter_events"] += len(changed)
+                process.shown = process.now.copy()
         self.changed.clear()
 
     # -- rows

@@ -1,0 +1,68 @@
+"""What another process makes while this one goes on, through a pipe."""
+
+import marshal
+import os
+import signal
+import sqlite3
+import sys
+from typing import Callable, Iterator, NoReturn
+
+# The last form of `marshal` that does not look for objects that are there twice: nearly all are small numbers.
+WITHOUT_REFERENCES = 2
+
+# Each list comes after its length. A length of 0 says that it was the last one.
+LENGTH_BYTES = 8
+
+Send = Callable[[list[tuple]], None]
+
+
+def run(make: Callable[[Send], None], into: int) -> NoReturn:
+    """Makes the lists, writes them into a pipe, and ends the process."""
+    try:
+        for which in (signal.SIGINT, signal.SIGTERM):
+            signal.signal(which, signal.SIG_DFL)
+        with open(into, "wb") as pipe:
+            def send(made: list[tuple]) -> None:
+                data = marshal.dumps(made, WITHOUT_REFERENCES)
+                pipe.write(len(data).to_bytes(LENGTH_BYTES, "little") + data)
+            make(send)
+            pipe.write(bytes(LENGTH_BYTES))
+    except (sqlite3.Error, OSError):
+        pass  # the other process says that something is missing
+    except Exception:
+        sys.excepthook(*sys.exc_info())
+    finally:
+        os._exit(0)
+
+
+class Piped:
+    """The lists that `make` sends in a process of its own. That process ends with the block."""
+
+    def __init__(self, make: Callable[[Send], None]):
+        out, into = os.pipe()
+        self.maker = os.fork()
+        if self.maker == 0:
+            os.close(out)
+            run(make, into)
+        os.close(into)
+        self.pipe = open(out, "rb")
+
+    def __enter__(self) -> Iterator[list[tuple]]:
+        return self.received()
+
+    def __exit__(self, *_: object) -> None:
+        self.pipe.close()
+        os.kill(self.maker, signal.SIGKILL)
+        os.waitpid(self.maker, 0)
+
+    def received(self) -> Iterator[list[tuple]]:
+        """The lists. If the last one does not come, the other process met an error, or was killed."""
+        while True:
+            head = self.pipe.read(LENGTH_BYTES)
+            length = int.from_bytes(head, "little")
+            data = self.pipe.read(length)
+            if len(head) < LENGTH_BYTES or len(data) < length:
+                raise sqlite3.OperationalError("its rows can't be read")
+            if not length:
+                return
+            yield marshal.loads(data)
