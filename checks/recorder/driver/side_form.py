@@ -43,11 +43,18 @@ def line_pattern() -> re.Pattern[str]:
     return re.compile(f"{NUMBER} (?:" + "|".join(map(pattern_of, templates(page()))) + ")")
 
 
+def begins(lines: list[str]) -> bool:
+    """Before `begin` come only the first of files, and the processes that the recorder met."""
+    before = re.compile(rf"{NUMBER} (?:file|met) ")
+    first = next((line for line in lines if not before.match(line)), "")
+    return re.match(rf"{NUMBER} begin ", first) is not None
+
+
 def faults(text: str) -> list[str]:
     """The lines that are of another form. A last line that was cut is none."""
     first, *lines = text.split("\n")[:-1] or [""]
     wrong = [line for line in lines if not line_pattern().fullmatch(line)]
-    if not any(" begin " in line for line in lines[:2]):	# the first of files comes right before
+    if not begins(lines):
         wrong.insert(0, "no begin")
     return [first] * (first != FIRST_LINE) + wrong
 
