@@ -151,10 +151,25 @@ static void write_moment(const char *suffix)
 }
 
 /* The driver in C has its books in debugfs, and the one in Rust in its binderfs; of two drivers the one in C comes
- * first. Only the one in C has the last of them. */
+ * first. */
+static const char *const folders[] = {"/sys/kernel/debug/binder", "/dev/binderfs/binder_logs"};
+
+int openings_in_books(void)
+{
+	char path[80], line[512];
+	int count = 0;
+	for (size_t k = 0; k < sizeof folders / sizeof *folders; k++) {
+		snprintf(path, sizeof path, "%s/state", folders[k]);
+		FILE *state = fopen(path, "r");
+		while (state && fgets(line, sizeof line, state)) count += !strncmp(line, "proc ", 5);
+		if (state) fclose(state);
+	}
+	return count;
+}
+
+/* Only the driver in C has the last of them. */
 void dump_books(const char *suffix)
 {
-	static const char *const folders[] = {"/sys/kernel/debug/binder", "/dev/binderfs/binder_logs"};
 	static const char *const books[] = {"state", "stats", "transactions", "failed_transaction_log"};
 	char from[80], to[300];
 	for (size_t i = 0; i < sizeof books / sizeof *books; i++) {
