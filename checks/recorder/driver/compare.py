@@ -441,11 +441,13 @@ WRONG_IN_C = {	# for each section a count in a file of the books
     "refused": ("failed_transaction_log", r"^(\d+: async from \d+:)(\d+)"),
     "oneway": ("state", r"(pending async transaction .* flags )(\d+)"),
 }
-# The driver in Rust has other lines of these, and no counts of what is left out.
+# The driver in Rust has other lines of these, ends no line of a handle, and has no counts of what is left out.
 WRONG_IN_RUST = {
     **{section: where for section, where in WRONG_IN_C.items() if section not in ("due", "requests", "refused")},
     "nodes": ("state", r"(  node \d+: u[0-9a-f]*[1-9a-f]0* c\w+ hs )(true)"),
     "buffers": ("state", r"(  buffer(?: \d+)?: )(\d+)(?= size .* allocated)"),
+    "deaths": ("state", r"(  has )(delivered dead binder)"),
+    "clears": ("state", r"(  has )(cleared death notification)"),
 }
 
 
