@@ -242,7 +242,7 @@ def check_compared(folder: pathlib.Path, room: pathlib.Path, fail: Fail) -> str:
     key = next((line.split("\t")[-1] for line in lines if line.startswith("new") and "IHello code" in line), "")
     compare("malformed and failed are told apart", [line.count("malformed, ") for line in lines[-2:]], [1, 1], fail)
     news = [line.split("\t")[-1] for line in lines if line.startswith("new\t")]
-    (room / "known").write_text("# known\n\n" + "".join(f"{it} ticket 7\n" for it in news) + "0" * 16 + " mended\n")
+    (room / "known").write_text("# known\n\n" + "".join(f"{it}\tticket 7\n" for it in news) + "0" * 16 + " mended\n")
     status, out, _ = fleet(folder, "compare", lab, "b2", "b3", "--known", room / "known")
     compare("known defects", (status, out.splitlines()[-1]), (0, f"known\t{'0' * 16}\tdoes not occur\tmended"), fail)
     (room / "wrong").write_text("no key\n")
