@@ -293,8 +293,8 @@ def check_better(folder: pathlib.Path, room: pathlib.Path, of: dict[str, dict], 
         (room / f"better-{at}.json").write_text(result.text_of(one))
     for order in ((0, 1, 2), (2, 1, 0), (1, 2, 0)):
         lab = room / f"better{''.join(map(str, order))}.db"
-        for at in order:
-            fleet(folder, "load", lab, room / f"better-{at}.json")
+        told = [fleet(folder, "load", lab, room / f"better-{at}.json")[2] for at in order]
+        compare(f"results of one capture, of several builds, {order}", [it.count("\n") for it in told], [0, 1, 1], fail)
         database = sqlite3.connect(lab)
         compare(f"results of one capture, {order}", [database.execute("SELECT build FROM capture").fetchall(), database
                 .execute("SELECT count(DISTINCT capture) FROM found").fetchone()], [[("later",)], (1,)], fail)
