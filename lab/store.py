@@ -51,6 +51,12 @@ def is_better(new: dict, failed: object, made: float) -> bool:
     return (new.get("failed") is None, new["made"]) > (failed is None, made)
 
 
+def elsewhere(lab: sqlite3.Connection, capture: dict) -> tuple[str, str] | None:
+    """The build and the device of which the lab has the same capture, if they are others."""
+    there = lab.execute("SELECT build, device FROM capture WHERE digest = ?", (capture["digest"],)).fetchone()
+    return there if there and there != (capture["build"], capture["device"]) else None
+
+
 def insert(lab: sqlite3.Connection, table: str, given: dict, *before: object) -> int | None:
     names = COLUMNS[table].split()
     capture = ["capture"] * bool(before)
@@ -99,21 +105,26 @@ def results_in(paths: list[str]) -> Iterator[pathlib.Path]:
         yield from sorted(path.rglob("*.json")) if path.is_dir() else [path]
 
 
-def load(lab: sqlite3.Connection, paths: list[str]) -> tuple[int, int, list[str]]:
-    """Loads results, some at a time. Returns how many were added, how many were there already, and what is wrong with
-    the others."""
+def load(lab: sqlite3.Connection, paths: list[str]) -> tuple[int, int, list[str], list[str]]:
+    """Loads results, some at a time. Returns how many were added, how many were there already, what is wrong with the
+    others, and which of the loaded ones are of a capture that the lab had as one of another build or device."""
     added = there = 0
     wrong: list[str] = []
+    moved: list[str] = []
     files = list(results_in(paths))
     for begin in range(0, len(files), AT_A_TIME):
         some = []
         for path in files[begin:begin + AT_A_TIME]:
             try:
-                some.append(read(path))
+                some.append((path, read(path)))
             except Stopped as stopped:
                 wrong.append(str(stopped))
         lab.execute("BEGIN IMMEDIATE")
-        new = sum(put(lab, result) for result in some)
+        new = 0
+        for path, result in some:
+            if of := elsewhere(lab, result["capture"]):
+                moved.append(f"{path} (build {of[0]}, device {of[1]})")
+            new += put(lab, result)
         lab.execute("COMMIT")
         added, there = added + new, there + len(some) - new
-    return added, there, wrong
+    return added, there, wrong, moved

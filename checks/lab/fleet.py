@@ -242,7 +242,7 @@ def check_compared(folder: pathlib.Path, room: pathlib.Path, fail: Fail) -> str:
     key = next((line.split("\t")[-1] for line in lines if line.startswith("new") and "IHello code" in line), "")
     compare("malformed and failed are told apart", [line.count("malformed, ") for line in lines[-2:]], [1, 1], fail)
     news = [line.split("\t")[-1] for line in lines if line.startswith("new\t")]
-    (room / "known").write_text("# known\n\n" + "".join(f"{it} ticket 7\n" for it in news) + "0" * 16 + " mended\n")
+    (room / "known").write_text("# known\n\n" + "".join(f"{it}\tticket 7\n" for it in news) + "0" * 16 + " mended\n")
     status, out, _ = fleet(folder, "compare", lab, "b2", "b3", "--known", room / "known")
     compare("known defects", (status, out.splitlines()[-1]), (0, f"known\t{'0' * 16}\tdoes not occur\tmended"), fail)
     (room / "wrong").write_text("no key\n")
@@ -293,8 +293,8 @@ def check_better(folder: pathlib.Path, room: pathlib.Path, of: dict[str, dict], 
         (room / f"better-{at}.json").write_text(result.text_of(one))
     for order in ((0, 1, 2), (2, 1, 0), (1, 2, 0)):
         lab = room / f"better{''.join(map(str, order))}.db"
-        for at in order:
-            fleet(folder, "load", lab, room / f"better-{at}.json")
+        told = [fleet(folder, "load", lab, room / f"better-{at}.json")[2] for at in order]
+        compare(f"results of one capture, of several builds, {order}", [it.count("\n") for it in told], [0, 1, 1], fail)
         database = sqlite3.connect(lab)
         compare(f"results of one capture, {order}", [database.execute("SELECT build FROM capture").fetchall(), database
                 .execute("SELECT count(DISTINCT capture) FROM found").fetchone()], [[("later",)], (1,)], fail)

@@ -96,7 +96,9 @@ def check_by_make(folder: pathlib.Path, room: pathlib.Path, fail: Fail) -> None:
         try:
             while make.poll() is None:
                 time.sleep(1)
-                if calls == 1 and killed < 8 and (some := [pid for pid in in_session(make.pid) if pid != make.pid]):
+                # Not while the sessions are listed: what is killed then ends the call, and no job is killed.
+                if calls == 1 and killed < 8 and any((lab / "results").rglob("*.json")) and (
+                        some := [pid for pid in in_session(make.pid) if pid != make.pid]):
                     with contextlib.suppress(ProcessLookupError):
                         os.kill(chance.choice(some), signal.SIGKILL)
                         killed += 1

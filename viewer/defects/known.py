@@ -12,7 +12,7 @@ def known_in(path: str) -> dict[str, str]:
     try:
         with open(path, encoding="utf-8", errors="replace") as lines:
             for number, line in enumerate(lines, 1):
-                key, _, comment = line.strip().partition(" ")
+                key, comment = (*line.split(maxsplit=1), "", "")[:2]
                 if not key or key.startswith("#"):
                     continue
                 if not re.fullmatch("[0-9a-f]{16}", key):
