@@ -245,10 +245,11 @@ def check_side(fail: Fail) -> None:
     """After each line of the stored captures: the time, the ids and the names that the side list has for its frame."""
     for capture in sorted(DRIVER.glob("*/capture-1.cap")):
         side = capture.with_name("capture.side")
-        if "after=" in "".join(line for line in side.read_text().splitlines() if " name pid=" in line):
+        lines = side.read_text(errors="surrogateescape").splitlines()
+        if "after=" in "".join(line for line in lines if " name pid=" in line):
             continue
         told, people, names = {}, {}, {}
-        for line in side.read_text().splitlines():
+        for line in lines:
             match line.split(" "):
                 case [time, "frame", number]:
                     told[number] = time

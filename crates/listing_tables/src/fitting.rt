@@ -1,7 +1,12 @@
 //! The sends that a delivery may have come from, and which of them it may be.
 
+ghost use Rattle.std.specs.Prelude.{◌≡◌, ◌<◌, ◌≤◌, [], IfSome, OnOk};
+ghost use Rattle.std.specs.Bool.{OnTrue};
+ghost use Rattle.listing_tables.specs.Judging.{Adds, AreOfOneGeneration, ComesAfter, IsIn, IsOnlyFit, IsOutOfQuestion};
+ghost use Rattle.listing_tables.specs.declared.fitting.Fit.{Fit};
+
 use crate::messages::{Sent, Settled};
-use crate::waiting::Listed;
+use crate::waiting::{Listed, Look};
 use listing_fields::Outcome;
 use std::alloc::Global;
 
@@ -34,6 +39,8 @@ pub(crate) struct Fit {
 /// The sends that fit a delivery best.
 #[derive(Drop)]
 pub(crate) struct Fitting {
+    /// The sends that were looked at.
+    pub looked: Vec<Look>,
     pub list: Vec<Fit>,
     /// The rank of each of them.
     pub rank: u8,
@@ -44,6 +51,7 @@ pub(crate) struct Fitting {
 impl Fitting {
     pub(crate) fn new(alloc: Global) -> Fitting {
         Fitting {
+            looked: Vec::new(alloc),
             list: Vec::new(alloc),
             rank: u8::MAX,
             is_whole: true,
@@ -51,58 +59,89 @@ impl Fitting {
     }
 
     /// Begins with none.
-    pub(crate) fn begin(&mut self) {
+    pub(crate) fn begin(&mut self)
+        ensures { self.new.list.items ≡ [] }
+    {
         self.list.clear();
         self.rank = u8::MAX;
         self.is_whole = true;
     }
 
-    pub(crate) fn add(&mut self, rank: u8, fit: Fit) -> Outcome {
+    pub(crate) fn add(&mut self, rank: u8, fit: Fit) -> Outcome
+        ensures { OnOk result (Adds self.old rank fit self.new) }
+    {
         if rank > self.rank {
             return Ok(());
         }
-        if rank < self.rank {
-            self.list.clear();
-            self.rank = rank;
-        }
+        self.leave_worse(rank);
         self.list.push(fit)?;
         Ok(())
     }
 
-    pub(crate) fn first(&self) -> Option<Fit> {
+    /// Leaves out those that rank behind this rank.
+    fn leave_worse(&mut self, rank: u8)
+        ensures worse { rank < self.old.rank → (self.new.list.items ≡ []) × (self.new.rank ≡ rank) }
+        ensures kept { self.old.rank ≤ rank → (self.new.list.items ≡ self.old.list.items) × (self.new.rank ≡ self.old.rank) }
+        ensures looked { self.new.looked ≡ self.old.looked }
+        ensures whole { self.new.is_whole ≡ self.old.is_whole }
+    {
+        if rank < self.rank {
+            self.list.clear();
+            self.rank = rank;
+        }
+    }
+
+    pub(crate) fn first(&self) -> Option<Fit>
+        ensures { IfSome result (IsIn self.now.list.items) }
+    {
         self.list.as_slice().first().copied()
     }
 
-    /// The only one, if there is one only.
-    pub(crate) fn only(&self) -> Option<Fit> {
-        if self.list.len() == 1 {
-            return self.first();
+    /// The only one, if there is one only. Of oneway sends it is the first one that has certainly not
+    /// come before, if all others come after it: the driver delivers what is sent to a node in the
+    /// order in which it took it.
+    pub(crate) fn only(&self, oneway: bool) -> Option<Fit>
+        ensures { IfSome result (λ fit. IsOnlyFit oneway self.now fit) }
+    {
+        let only = self.next(oneway)?;
+        if !are_out_of_question(self.list.as_slice(), &only, oneway) {
+            return None;
         }
-        None
+        Some(only)
+    }
+
+    fn next(&self, oneway: bool) -> Option<Fit>
+        ensures { IfSome result (IsIn self.now.list.items) }
+    {
+        if oneway && let Some(fit) = self.first_fresh() {
+            return Some(fit);
+        }
+        self.first()
     }
 
     /// Whether all of them were sent by one generation.
-    pub(crate) fn are_alike(&self) -> bool {
+    pub(crate) fn are_alike(&self) -> bool
+        ensures { OnTrue result (AreOfOneGeneration self.now) }
+    {
         let Some(first) = self.first() else {
             return false;
         };
-        for fit in &self.list {
-            if fit.sent.generation != first.sent.generation {
-                return false;
-            }
+        if !are_all_of(self.list.as_slice(), first.sent.generation) {
+            return false;
         }
         true
     }
 
-    /// Of oneway sends of one generation leaves those that may be the next of them to come: the
-    /// driver delivers what is sent to a node in the order in which it took it.
+    /// Of oneway sends of one generation leaves those that may be the next of them to come.
     pub(crate) fn keep_next(&mut self) {
         if let Some(first) = self.first_fresh() {
             self.list.retain(|fit| !is_after(fit, &first));
         }
     }
 
-    fn first_fresh(&self) -> Option<Fit> {
+    fn first_fresh(&self) -> Option<Fit>
+        ensures { IfSome result (IsIn self.now.list.items) }
+    {
         let mut first: Option<Fit> = None;
         for fit in &self.list {
             if fit.fresh && first.is_none_or(|it| fit.listed.index < it.listed.index) {
@@ -136,9 +175,46 @@ impl Fitting {
     }
 }
 
-/// Whether the driver certainly took a send after another one, and that one comes before it.
-fn is_after(fit: &Fit, first: &Fit) -> bool {
-    if fit.sent.updates || fit.listed.index <= first.listed.index {
+/// Whether all of these sends were sent by this generation.
+fn are_all_of(fits: &[Fit], generation: Option<u32>) -> bool
+    ensures { OnTrue result ((fit : Fit) → IsIn fits.now fit → fit.sent.generation ≡ generation) }
+{
+    for fit in fits {
+        if fit.sent.generation != generation {
+            return false;
+        }
+    }
+    true
+}
+
+/// Whether each of these sends is no other one than this one, or comes after it.
+fn are_out_of_question(fits: &[Fit], only: &Fit, oneway: bool) -> bool
+    ensures { OnTrue result ((fit : Fit) → IsIn fits.now fit → IsOutOfQuestion oneway only.now fit) }
+{
+    for fit in fits {
+        if !is_out_of_question(fit, only, oneway) {
+            return false;
+        }
+    }
+    true
+}
+
+/// Whether a send is no other one than this one, or comes after it.
+fn is_out_of_question(fit: &Fit, only: &Fit, oneway: bool) -> bool
+    ensures { OnTrue result (IsOutOfQuestion oneway only.now fit.now) }
+{
+    fit.listed.index == only.listed.index || (oneway && is_after(fit, only))
+}
+
+/// Whether the driver certainly took a send after another one, which is fresh, and so comes before it.
+fn is_after(fit: &Fit, first: &Fit) -> bool
+    ensures { OnTrue result (ComesAfter first.now fit.now) }
+{
+    if !first.fresh
+        || fit.sent.generation != first.sent.generation
+        || fit.sent.updates
+        || fit.listed.index <= first.listed.index
+    {
         return false;
     }
     match first.sent.settled {

@@ -8,6 +8,7 @@ mod generations;
 mod handed;
 mod held;
 mod judge;
+mod judging;
 mod keys;
 pub mod laws;
 mod levels;

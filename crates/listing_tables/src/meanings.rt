@@ -1,5 +1,9 @@
 //! Which node each generation means.
 
+ghost use Rattle.std.specs.Prelude.{◌≡◌, slice_get, IfSome};
+ghost use Rattle.std.specs.Bool.{OnTrue};
+ghost use Rattle.listing_tables.specs.Judging.{BeginsBefore, HasOtherHandle, MeansNode};
+
 use crate::generations::Generations;
 use crate::numbered::narrow;
 use crate::seen::Seen;
@@ -60,16 +64,21 @@ impl Meanings {
         Ok(())
     }
 
-    fn at(&self, generation: u32) -> Option<Meaning> {
+    fn at(&self, generation: u32) -> Option<Meaning>
+        ensures { result ≡ slice_get self.now.list.items generation }
+    {
         self.list.as_slice().get(generation as usize).copied()
     }
 
     /// The node that a generation is known to mean after so many gaps.
-    pub(crate) fn node_of(&self, generation: u32, gaps: u32) -> Option<u32> {
-        if self.at(generation)?.gaps == gaps {
-            return self.first_node_of(generation);
+    pub(crate) fn node_of(&self, generation: u32, gaps: u32) -> Option<u32>
+        ensures { IfSome result (λ node. MeansNode self.now generation gaps node) }
+    {
+        let meaning = self.at(generation)?;
+        match meaning.known {
+            Known::One(node) if meaning.gaps == gaps => Some(node),
+            _ => None,
         }
-        None
     }
 
     /// The node that a generation is known to mean from its begin up to the next gap.
@@ -165,7 +174,9 @@ impl Meanings {
         gaps: u32,
         node: u32,
         generations: &Generations,
-    ) -> bool {
+    ) -> bool
+        ensures { OnTrue result (HasOtherHandle generations.now self.now generation gaps node) }
+    {
         let (Some(row), Some(meaning)) = (generations.list.get(generation), self.at(generation))
         else {
             return false;
@@ -177,21 +188,45 @@ impl Meanings {
             if *upid != row.upid || *at != node {
                 break;
             }
-            if *index != generation
-                && self.node_of(*index, gaps) == Some(node)
-                && let Some(other) = generations.list.get(*index)
-                && is_before(row.begin, other.end)
-                && is_before(other.begin, row.end)
-            {
+            if self.is_other(generation, gaps, node, *index, generations) {
                 return true;
             }
         }
         false
     }
+
+    /// Whether the generation at this index is such another one.
+    fn is_other(
+        &self,
+        generation: u32,
+        gaps: u32,
+        node: u32,
+        index: u32,
+        generations: &Generations,
+    ) -> bool
+        ensures { OnTrue result (HasOtherHandle generations.now self.now generation gaps node) }
+    {
+        let Some(row) = generations.list.get(generation) else {
+            return false;
+        };
+        let Some(other) = generations.list.get(index) else {
+            return false;
+        };
+        let Some(meant) = self.node_of(index, gaps) else {
+            return false;
+        };
+        index != generation
+            && other.upid == row.upid
+            && meant == node
+            && is_before(row.begin, other.end)
+            && is_before(other.begin, row.end)
+    }
 }
 
 /// Whether a generation begins before one with this end ends.
-fn is_before(begin: u32, end: Option<u32>) -> bool {
+fn is_before(begin: u32, end: Option<u32>) -> bool
+    ensures { OnTrue result (BeginsBefore begin end) }
+{
     match end {
         Some(end) => begin < end,
         None => true,

@@ -1,12 +1,16 @@
 //! Pairs each delivery with the send that it came from. viewer/database/schema.sql says how.
 
+ghost use Rattle.std.specs.Prelude.{◌≡◌, IfOk};
+ghost use Rattle.listing_tables.specs.Judging.{IsListOf};
+
 use crate::calls::{Call, Closer};
-use crate::fitting::{Fit, Fitting, Meant};
+use crate::fitting::{Fit, Fitting};
 use crate::handed::Object;
+use crate::judging::{Judged, Mark, Sought, is_refused, replied_by};
 use crate::lists::Lists;
 use crate::meanings::Meanings;
-use crate::messages::{Detail, Message, Sent, Settled};
-use crate::waiting::{Listed, Waiting};
+use crate::messages::{Detail, Message, Sent};
+use crate::waiting::{Listed, Waiting, list_of};
 use binder_code::Kind;
 use call_stacks::Verdict;
 use indexmap::IndexSet;
@@ -16,9 +20,6 @@ use std::alloc::Global;
 /// How often all messages are gone through at most.
 const WALKS: u32 = 5;
 
-/// The recorder gives numbers from here on to a process whose id is taken already.
-const MADE_UP: u32 = 4_194_304;
-
 /// What is found on a walk. Only what generations mean is kept for the next one, and the pairs of
 /// which no other send can have been meant.
 #[derive(Drop)]
@@ -26,8 +27,6 @@ struct Found {
     meanings: Meanings,
     waiting: Waiting,
     fitting: Fitting,
-    /// The sends that are looked at, and whether they are taken by guess.
-    looked: Vec<(Listed, bool)>,
     /// Of each message.
     marks: Vec<Mark>,
     /// The keys of which more sends waited than were looked at.
@@ -36,34 +35,11 @@ struct Found {
     news: bool,
 }
 
-/// Of a send: how many deliveries may be its own, the last of them, and the one that took it by
-/// guess. Of a delivery: how many sends must have come by it, and the last of them.
-#[derive(Clone, Copy)]
-struct Mark {
-    count: u8,
-    other: u32,
-    guess: Option<u32>,
-}
-
 const UNMARKED: Mark = Mark {
     count: 0,
     other: 0,
     guess: None,
 };
-
-/// A delivery whose send is looked for.
-#[derive(Clone, Copy)]
-struct Sought {
-    index: u32,
-    message: Message,
-    /// Its sender_pid.
-    sender: i32,
-    /// The node to which it came, and the process of that.
-    node: u32,
-    upid: u32,
-    /// Whether its send must be in the capture, and no frame missing between them.
-    has_all: bool,
-}
 
 impl Lists {
     /// Finds the delivery of each send, and the send of each delivery.
@@ -72,7 +48,6 @@ impl Lists {
             meanings: Meanings::new(alloc),
             waiting: Waiting::new(alloc),
             fitting: Fitting::new(alloc),
-            looked: Vec::new(alloc),
             marks: Vec::new(alloc),
             crowded: IndexSet::new(alloc),
             news: false,
@@ -146,8 +121,8 @@ impl Lists {
     }
 
     fn pair_message(&mut self, found: &mut Found, index: u32, message: &Message) -> Outcome {
-        if let Some(closed) = self.closed_send(&found.meanings, message) {
-            found.waiting.close(closed);
+        if let Some(closed) = self.closed_send(&found.meanings, message)? {
+            found.waiting.close(closed)?;
         }
         if is_reply(message.kind) || message.partner.is_some() {
             return Ok(());
@@ -168,28 +143,16 @@ impl Lists {
         if is_refused(sent) && send.gaps == 0 {
             return Ok(());
         }
-        let listed = self.listed(&found.meanings, index, send, sent);
+        let listed = listed(&found.meanings, index, send, sent)?;
         found.waiting.add(listed)
     }
 
-    /// The list of a send.
-    fn listed(&self, meanings: &Meanings, index: u32, send: &Message, sent: &Sent) -> Listed {
-        let node = match sent.generation {
-            Some(generation) => meanings.node_of(generation, send.gaps),
-            None => None,
-        };
-        Listed {
-            key: send.key,
-            list: match node {
-                Some(node) => node.saturating_add(1),
-                None => 0,
-            },
-            index,
-        }
-    }
-
     /// The send whose call a message closes, if its delivery is not sure.
-    fn closed_send(&self, meanings: &Meanings, message: &Message) -> Option<Listed> {
+    fn closed_send(
+        &self,
+        meanings: &Meanings,
+        message: &Message,
+    ) -> Result<Option<Listed>, ListingError> {
         if let Some(call) = self.call_of(message)
             && !call.served
             && call.place != message.place
@@ -197,9 +160,9 @@ impl Lists {
             && send.partner.is_none()
             && let Detail::Sent(sent) = send.detail
         {
-            return Some(self.listed(meanings, call.opener, &send, &sent));
+            return Ok(Some(listed(meanings, call.opener, &send, &sent)?));
         }
-        None
+        Ok(None)
     }
 
     fn sought(
@@ -222,164 +185,29 @@ impl Lists {
             sender: buffer.sender,
             node,
             upid,
-            has_all: self.seen.has_all(upid, node, message.place, message.gaps),
         }))
     }
 
     fn pair_delivery(&mut self, found: &mut Found, sought: &Sought) -> Outcome {
-        found.fitting.begin();
-        self.look_at_all(found, sought)?;
-        let is_whole = found.fitting.is_whole;
-        if !is_whole {
+        let judged = self.judge(
+            &found.meanings,
+            &found.waiting,
+            found.marks.as_slice(),
+            &mut found.fitting,
+            sought,
+        )?;
+        if !found.fitting.is_whole {
             found.crowded.insert(sought.message.key)?;
         }
         let fits = found.fitting.count();
-        if found.fitting.rank != 0 || !is_whole || !sought.has_all {
-            return self.guess(found, sought, fits.saturating_add(1), false);
-        }
-        if !found.fitting.are_alike() {
-            self.guess(found, sought, fits, false)?;
-            return doubt_all(found, sought.message.key);
-        }
-        if sought.message.oneway {
-            found.fitting.keep_next();
-        }
-        match found.fitting.only() {
-            Some(fit) => self.take(found, sought, &fit),
-            None => self.take_one(found, sought),
-        }
-    }
-
-    /// Looks at the sends that a delivery may have come from.
-    fn look_at_all(&self, found: &mut Found, sought: &Sought) -> Outcome {
-        let key = sought.message.key;
-        found.looked.clear();
-        for guessed in [false, true] {
-            for list in [sought.node.saturating_add(1), 0] {
-                let is_whole = found
-                    .waiting
-                    .look_at(key, list, guessed, &mut found.looked)?;
-                if !is_whole {
-                    found.fitting.is_whole = false;
-                }
+        match judged {
+            Judged::Sure(fit) => self.take(found, sought, &fit),
+            Judged::OneHandle => self.take_one(found, sought),
+            Judged::Several => {
+                self.guess(found, sought, fits, false)?;
+                doubt_all(found, sought.message.key)
             }
-        }
-        for at in 0..found.looked.len() {
-            if let Some((listed, guessed)) = found.looked.as_slice().get(at).copied() {
-                self.look(found, sought, listed, guessed)?;
-            }
-        }
-        Ok(())
-    }
-
-    /// Looks at a send.
-    fn look(&self, found: &mut Found, sought: &Sought, listed: Listed, guessed: bool) -> Outcome {
-        let Some(send) = self.messages.list.get(listed.index) else {
-            return Ok(());
-        };
-        let Detail::Sent(sent) = send.detail else {
-            return Ok(());
-        };
-        if !self.can_be(&found.meanings, sought, listed, &send, &sent) {
-            return Ok(());
-        }
-        let closer = match self.call_of(&send) {
-            Some(call) => call.end(),
-            None => None,
-        };
-        let fit = Fit {
-            listed,
-            guessed,
-            fresh: !guessed && !is_refused(&sent) && is_unmarked(found, listed.index),
-            meant: meant_by(&found.meanings, &sent, sought.node),
-            sent,
-            place: send.place,
-            gaps: send.gaps,
-            utid: send.utid,
-            closer,
-        };
-        let rank = self.rank_of(&send, &sent, sought);
-        found.fitting.add(rank, fit)
-    }
-
-    /// Whether a send can be that of a delivery, as far as it is known to which node it goes.
-    fn can_be(
-        &self,
-        meanings: &Meanings,
-        sought: &Sought,
-        listed: Listed,
-        send: &Message,
-        sent: &Sent,
-    ) -> bool {
-        if sought.has_all && send.gaps != sought.message.gaps {
-            return false;
-        }
-        if listed.list != 0 {
-            return true;
-        }
-        let Some(generation) = sent.generation else {
-            return true;
-        };
-        // No process has a handle of its own node.
-        if let Some(row) = self.generations.list.get(generation)
-            && row.upid == sought.upid
-        {
-            return false;
-        }
-        !meanings.has_other(generation, send.gaps, sought.node, &self.generations)
-    }
-
-    /// The rank of a send for a delivery; 0 is the best. It is 1 if the calls do not lie as they
-    /// should, and 2 more if the sender_pid is not that of the sender.
-    fn rank_of(&self, send: &Message, sent: &Sent, sought: &Sought) -> u8 {
-        let (Some(call), Some(served)) = (self.call_of(send), self.call_of(&sought.message)) else {
-            return 0;
-        };
-        let told = sought.sender == 0
-            || i64::from(sought.sender) == i64::from(sent.process)
-            || sent.process >= MADE_UP;
-        let is_whole = self.is_whole_call(call, send)
-            && self.is_whole_call(served, &sought.message);
-        let lie = if !is_whole || self.lie_well(call, served) {
-            0
-        } else {
-            1
-        };
-        if told { lie } else { lie + 2 }
-    }
-
-    fn call_of(&self, message: &Message) -> Option<Call> {
-        self.calls.get(message.call?)
-    }
-
-    /// Whether the made call and the served call lie as the two ends of one call should.
-    fn lie_well(&self, call: Call, served: Call) -> bool {
-        let Some(replied) = closer_if(served, Verdict::Replied) else {
-            return !matches!(call.verdict, Verdict::Answered);
-        };
-        let Some(closer) = call.closer else {
-            return true;
-        };
-        replied.place < closer.place
-            && (!matches!(call.verdict, Verdict::Answered) || self.are_alike(replied, closer))
-    }
-
-    /// Whether no frame is missing in a call with this opener, so that it is known what closes it.
-    fn is_whole_call(&self, call: Call, opener: &Message) -> bool {
-        match call.closer {
-            Some(closer) => self.seen.gaps_before(closer.place) == opener.gaps,
-            None => self.seen.gaps() == opener.gaps,
-        }
-    }
-
-    /// Whether two messages have the same key.
-    fn are_alike(&self, one: Closer, other: Closer) -> bool {
-        match (
-            self.messages.list.get(one.message),
-            self.messages.list.get(other.message),
-        ) {
-            (Some(one), Some(other)) => one.key == other.key,
-            _ => false,
+            Judged::Unknown => self.guess(found, sought, fits.saturating_add(1), false),
         }
     }
 
@@ -388,7 +216,7 @@ impl Lists {
         if !fit.fresh {
             found.news = true;
         }
-        found.waiting.take(fit.listed);
+        found.waiting.take(fit.listed)?;
         self.keep_pair(&mut found.meanings, fit.listed.index, sought)
     }
 
@@ -582,9 +410,9 @@ impl Lists {
         ) {
             return None;
         }
-        let replied = closer_if(self.call_of(delivery)?, Verdict::Replied)?;
+        let replied = replied_by(self.call_of(delivery)?)?;
         let send = self.messages.list.get(delivery.partner?)?;
-        let answered = closer_if(self.call_of(&send)?, Verdict::Answered)?;
+        let answered = answered_by(self.call_of(&send)?)?;
         if !self.are_alike(replied, answered) {
             return None;
         }
@@ -592,33 +420,28 @@ impl Lists {
     }
 }
 
-/// Whether no delivery may be that of the send at this index, as far as the walk is.
-fn is_unmarked(found: &Found, index: u32) -> bool {
-    match found.marks.as_slice().get(index as usize) {
-        Some(mark) => mark.count == 0,
-        None => false,
-    }
-}
-
-fn is_refused(sent: &Sent) -> bool {
-    matches!(sent.settled, Settled::Refused(_))
-}
-
-/// What the target of a send means beside a node.
-fn meant_by(meanings: &Meanings, sent: &Sent, node: u32) -> Meant {
-    if is_refused(sent) {
-        return Meant::Other;
-    }
-    if let Some(generation) = sent.generation
-        && let Some(other) = meanings.first_node_of(generation)
-    {
-        return if other == node {
-            Meant::This
-        } else {
-            Meant::Other
-        };
-    }
-    Meant::Unknown
+/// A send as it waits.
+fn listed(
+    meanings: &Meanings,
+    index: u32,
+    send: &Message,
+    sent: &Sent,
+) -> Result<Listed, ListingError>
+    ensures named { IfOk result (λ listed. (listed.key ≡ send.now.key) × (listed.index ≡ index)) }
+    ensures list { IfOk result (λ listed. IsListOf meanings.now sent.now.generation send.now.gaps listed.list) }
+{
+    let list = match sent.generation {
+        Some(generation) => match meanings.node_of(generation, send.gaps) {
+            Some(node) => list_of(node)?,
+            None => 0,
+        },
+        None => 0,
+    };
+    Ok(Listed {
+        key: send.key,
+        list,
+        index,
+    })
 }
 
 /// Notes of the sends that fit a delivery that it may be that of each of them.
@@ -659,9 +482,9 @@ fn learn_object(meanings: &mut Meanings, sent: (Object, u32), came: (Object, u32
     }
 }
 
-/// What closes a call with this verdict.
-fn closer_if(call: Call, verdict: Verdict) -> Option<Closer> {
-    if call.verdict as u8 == verdict as u8 {
+/// The reply that answers a call.
+fn answered_by(call: Call) -> Option<Closer> {
+    if matches!(call.verdict, Verdict::Answered) {
         return call.closer;
     }
     None

@@ -1,6 +1,10 @@
 //! Whether all that was sent to a node is in the capture: frames may be missing, and a process may be
 //! older than the capture.
 
+ghost use Rattle.std.specs.Prelude.{◌≡◌, ◌-◌, slice_get};
+ghost use Rattle.std.specs.Bool.{OnTrue};
+ghost use Rattle.listing_tables.specs.Judging.{HasAll, IsReferred, IsWhole};
+
 use crate::numbered::narrow;
 use crate::spans::Owner;
 use capture_frame::{Direction, Frame};
@@ -127,14 +131,47 @@ impl Seen {
 
     /// Whether all that is sent to a node of a process, and delivered at a place after so many gaps,
     /// is in the capture after the last of them.
-    pub(crate) fn has_all(&self, upid: u32, node: u32, place: u32, gaps: u32) -> bool {
+    pub(crate) fn has_all(&self, upid: u32, node: u32, place: u32, gaps: u32) -> bool
+        ensures { OnTrue result (HasAll self.now upid node place gaps) }
+    {
+        if self.is_referred(node, gaps, place) {
+            return true;
+        }
+        if gaps != 0 {
+            return false;
+        }
+        self.is_whole(upid)
+    }
+
+    /// Whether the driver told of references to a node since so many gaps, and before this place.
+    fn is_referred(&self, node: u32, gaps: u32, place: u32) -> bool
+        ensures { OnTrue result (IsReferred self.now node gaps place) }
+    {
         if let Some(referred) = self.referred.get(&(node, gaps))
             && *referred < place
         {
             return true;
         }
+        false
+    }
+
+    /// Whether nothing shows that a process is older than the capture.
+    fn is_whole(&self, upid: u32) -> bool
+        ensures { OnTrue result (IsWhole self.now upid) }
+    {
+        if let Some(old) = self.old_at(upid)
+            && !old
+        {
+            return true;
+        }
+        false
+    }
+
+    fn old_at(&self, upid: u32) -> Option<bool>
+        ensures { result ≡ slice_get self.now.old.items (upid - 1) }
+    {
         let at = upid.saturating_sub(1) as usize;
-        gaps == 0 && self.old.as_slice().get(at).is_some_and(|old| !*old)
+        self.old.as_slice().get(at).copied()
     }
 }
 

@@ -1,5 +1,12 @@
 //! The sends that a delivery may have come from, while the messages are gone through in order.
 
+ghost use Rattle.std.specs.Prelude.{◌≡◌, ◌≤◌, ◌⊎◌, ◌++◌, ◌+◌, map, IsTrue, IfOk, IfSome, OnOk};
+ghost use Rattle.std.specs.Bool.{OnTrue};
+ghost use Rattle.std.specs.BTreeSet.{contains};
+ghost use Rattle.listing_tables.specs.Waiting.{AllWait, Entry, OthersWait, OthersWaitBut, all_looks, doubt_of};
+ghost use Rattle.listing_tables.specs.Waiting.{entry_cmp, entry_of, in_doubt, look_at, sends_in, waits};
+
+use crate::numbered::narrow;
 use indexmap::IndexMap;
 use listing_fields::{ListingError, Outcome};
 use std::alloc::Global;
@@ -19,9 +26,16 @@ pub(crate) struct Listed {
     pub index: u32,
 }
 
+/// A send that is looked at, and whether it is taken by guess.
+#[derive(Clone, Copy)]
+pub(crate) struct Look {
+    pub listed: Listed,
+    pub guessed: bool,
+}
+
 /// Of a key, how many sends are in doubt, and how many of them came at least.
 #[derive(Clone, Copy)]
-struct Doubt {
+pub(crate) struct Doubt {
     sends: u32,
     came: u32,
 }
@@ -56,69 +70,79 @@ impl Waiting {
         self.doubts.clear();
     }
 
-    pub(crate) fn add(&mut self, send: Listed) -> Outcome {
+    pub(crate) fn add(&mut self, send: Listed) -> Outcome
+        ensures added { OnOk result (IsTrue (waits self.new (entry_of send))) }
+        ensures kept { OnOk result (AllWait self.old self.new) }
+    {
         self.untaken.insert((send.key, send.list, send.index))?;
         Ok(())
     }
 
-    /// Puts those of a list into `looked`, as long as there is room: those that are taken by guess, or
-    /// the others. Returns whether these are all.
-    pub(crate) fn look_at(
+    /// Looks at those of this list and of list 0, as long as there is room, and first at those that no
+    /// guess has taken. Returns whether these are all.
+    pub(crate) fn look(
         &self,
         key: u64,
         list: u32,
-        guessed: bool,
-        looked: &mut Vec<(Listed, bool)>,
-    ) -> Result<bool, ListingError> {
-        let sends = if guessed {
-            &self.guessed
-        } else {
-            &self.untaken
-        };
-        for (other, at, index) in sends.range((key, list, 0)..) {
-            if *other != key || *at != list {
-                break;
-            }
-            if looked.len() >= LOOKED_AT {
-                return Ok(false);
-            }
-            let index = *index;
-            looked.push((Listed { key, list, index }, guessed))?;
-        }
-        Ok(true)
+        looked: &mut Vec<Look>,
+    ) -> Result<bool, ListingError>
+        ensures { IfOk result (λ all. OnTrue all (looked.new.items ≡ all_looks self.now key list)) }
+    {
+        looked.clear();
+        let known = look_in(&self.untaken, key, list, false, looked)?;
+        let unknown = look_in(&self.untaken, key, 0, false, looked)?;
+        let guessed = look_in(&self.guessed, key, list, true, looked)?;
+        let doubtful = look_in(&self.guessed, key, 0, true, looked)?;
+        Ok(known && unknown && guessed && doubtful)
     }
 
-    fn remove(&mut self, send: Listed) {
+    fn remove(&mut self, send: Listed)
+        ensures waits { (other : Entry) → IsTrue (waits self.old other) → IsTrue (waits self.new other) ⊎ (other ≡ entry_of send) }
+        ensures doubted { self.new.doubted ≡ self.old.doubted }
+        ensures doubts { self.new.doubts ≡ self.old.doubts }
+    {
         let at = (send.key, send.list, send.index);
         self.untaken.remove(&at);
         self.guessed.remove(&at);
     }
 
     /// Takes out a send whose delivery is found.
-    pub(crate) fn take(&mut self, send: Listed) {
+    pub(crate) fn take(&mut self, send: Listed) -> Outcome
+        ensures { OnOk result (OthersWaitBut (entry_of send) self.old self.new) }
+    {
         self.remove(send);
-        self.leave(send, 0);
+        self.leave(send, 0)
     }
 
     /// Takes out a send whose call is closed, so that it can't be delivered any more.
-    pub(crate) fn close(&mut self, send: Listed) {
+    pub(crate) fn close(&mut self, send: Listed) -> Outcome
+        ensures { OnOk result (OthersWaitBut (entry_of send) self.old self.new) }
+    {
         self.remove(send);
-        self.leave(send, 1);
+        self.leave(send, 1)
     }
 
     /// Takes a send out of those in doubt. So many of what came may have been it.
-    fn leave(&mut self, send: Listed, came: u32) {
-        if self.doubted.remove(&(send.key, send.index, send.list))
-            && let Some(doubt) = self.doubts.get_mut(&send.key)
-        {
-            doubt.sends = doubt.sends.saturating_sub(1);
-            doubt.came = doubt.came.saturating_sub(came);
+    fn leave(&mut self, send: Listed, came: u32) -> Outcome
+        requires { came ≤ 1 }
+        ensures { OnOk result (OthersWait self.old self.new) }
+    {
+        if self.doubted.remove(&(send.key, send.index, send.list)) {
+            let doubt = self.doubt_of(send.key);
+            let left = Doubt {
+                sends: doubt.sends.saturating_sub(1),
+                came: doubt.came.saturating_sub(came),
+            };
+            self.doubts.insert(send.key, left)?;
         }
         self.forget(send.key);
+        Ok(())
     }
 
     /// A delivery takes a send by guess.
-    pub(crate) fn guess(&mut self, send: Listed) -> Outcome {
+    pub(crate) fn guess(&mut self, send: Listed) -> Outcome
+        ensures { OnOk result (AllWait self.old self.new) }
+    {
         let at = (send.key, send.list, send.index);
         if self.untaken.remove(&at) {
             self.guessed.insert(at)?;
@@ -127,38 +151,50 @@ impl Waiting {
     }
 
     /// Puts a send among those in doubt.
-    pub(crate) fn doubt(&mut self, send: Listed) -> Outcome {
+    pub(crate) fn doubt(&mut self, send: Listed) -> Outcome
+        ensures { OnOk result (AllWait self.old self.new) }
+    {
         if self.doubted.insert((send.key, send.index, send.list))? {
-            self.count(send.key, 1, 0)?;
+            let doubt = self.doubt_of(send.key);
+            let more = Doubt {
+                sends: doubt.sends.saturating_add(1),
+                ..doubt
+            };
+            self.doubts.insert(send.key, more)?;
         }
         Ok(())
     }
 
     /// Notes that one of the sends of a key that are in doubt came.
-    pub(crate) fn came(&mut self, key: u64) -> Outcome {
-        self.count(key, 0, 1)?;
+    pub(crate) fn came(&mut self, key: u64) -> Outcome
+        ensures { OnOk result (OthersWait self.old self.new) }
+    {
+        let doubt = self.doubt_of(key);
+        let more = Doubt {
+            came: doubt.came.saturating_add(1),
+            ..doubt
+        };
+        self.doubts.insert(key, more)?;
         self.forget(key);
         Ok(())
     }
 
-    fn count(&mut self, key: u64, sends: u32, came: u32) -> Outcome {
-        let old = match self.doubts.get(&key) {
+    fn doubt_of(&self, key: u64) -> Doubt
+        ensures { result ≡ doubt_of self.now key }
+    {
+        match self.doubts.get(&key) {
             Some(doubt) => *doubt,
             None => Doubt { sends: 0, came: 0 },
-        };
-        let doubt = Doubt {
-            sends: old.sends.saturating_add(sends),
-            came: old.came.saturating_add(came),
-        };
-        self.doubts.insert(key, doubt)?;
-        Ok(())
+        }
     }
 
     /// If all sends of a key that are in doubt came, none of them waits any more.
-    fn forget(&mut self, key: u64) {
-        let Some(doubt) = self.doubts.get(&key).copied() else {
-            return;
-        };
+    fn forget(&mut self, key: u64)
+        ensures { (other : Entry) → IsTrue (waits self.old other) → IsTrue (waits self.new other)
+            ⊎ ((other.0 ≡ key) × IsTrue (in_doubt self.old other)
+            × ((doubt_of self.old key).sends ≤ (doubt_of self.old key).came)) }
+    {
+        let doubt = self.doubt_of(key);
         if doubt.came < doubt.sends {
             return;
         }
@@ -172,17 +208,42 @@ impl Waiting {
         }
     }
 
-    fn first_doubted(&self, key: u64) -> Option<Listed> {
-        for (at, index, list) in self.doubted.range((key, 0, 0)..) {
-            if *at == key {
-                return Some(Listed {
-                    key,
-                    list: *list,
-                    index: *index,
-                });
-            }
-            break;
+    fn first_doubted(&self, key: u64) -> Option<Listed>
+        ensures { IfSome result (λ send. (send.key ≡ key) × IsTrue (in_doubt self.now (entry_of send))) }
+    {
+        let (at, index, list) = *self.doubted.range((key, 0, 0)..).next()?;
+        if at != key {
+            return None;
         }
-        None
+        Some(Listed { key, list, index })
     }
+}
+
+/// The list of the sends that are known to go to a node.
+pub(crate) fn list_of(node: u32) -> Result<u32, ListingError>
+    ensures { IfOk result (λ list. list ≡ node + 1) }
+{
+    narrow(u64::from(node) + 1)
+}
+
+/// Looks at those of a list, as long as there is room. Returns whether these are all.
+fn look_in(
+    sends: &Sends,
+    key: u64,
+    list: u32,
+    guessed: bool,
+    looked: &mut Vec<Look>,
+) -> Result<bool, ListingError>
+    ensures { IfOk result (λ all. OnTrue all
+        (looked.new.items ≡ looked.old.items ++ map (look_at guessed) (sends_in sends.now key list))) }
+{
+    for send in sends.range((key, list, 0)..=(key, list, u32::MAX)) {
+        if looked.len() >= LOOKED_AT {
+            return Ok(false);
+        }
+        let (key, list, index) = *send;
+        let listed = Listed { key, list, index };
+        looked.push(Look { listed, guessed })?;
+    }
+    Ok(true)
 }

@@ -1,0 +1,9 @@
+use Rattle.std.proofs.Common.{◌≡◌, ◌⊎◌, IsTrue}
+use Rattle.listing_tables.specs.Waiting.{Entry, in_doubt, waits}
+use Rattle.listing_tables.proofs.waiting.Waiting.forget.Given as goal
+
+abbrev pub invariant-loop : goal.invariant-loop
+invariant-loop l = record {
+  wait : (other : Entry) → IsTrue (waits l.fn.self other) → IsTrue (waits l.self other) ⊎ ((other.0 ≡ l.key) × IsTrue (in_doubt l.fn.self other));
+  doubted : (other : Entry) → IsTrue (in_doubt l.self other) → IsTrue (in_doubt l.fn.self other);
+}
