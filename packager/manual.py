@@ -51,6 +51,7 @@ def escaped(text: str) -> str:
 def as_installed(text: str) -> str:
     """A text in which the programs are called as in a package."""
     text = re.sub(r"\./(audit|listing|record|view|fleet)\b", r"binder-\1", text)
+    text = re.sub(r"(?<![\w/])lab/Makefile\b", "/usr/share/binder-audit/lab/Makefile", text)
     return text.replace("viewer/methods/table.py", "binder-methods")
 
 

@@ -254,7 +254,7 @@ def check_commands(system: pathlib.Path, fail: Fail) -> None:
     for page in manual.PAGES:
         inside(system, f"mkdir /root/{page.name} && ln -s /usr/share/doc/binder-audit/samples /root/{page.name}/")
         for command, due in commands_of(page):
-            came = inside(system, f"cd /root/{page.name}\n{command} 2>&1 || :")
+            came = inside(system, f"cd /root/{page.name}\n{{ {command}\n}} 2>&1 || :")
             compare(f"{page.name}({page.section}): {command}", came.splitlines(), due, fail)
 
 
@@ -291,7 +291,8 @@ def check_system(room: pathlib.Path, kept: pathlib.Path, files: list[pathlib.Pat
     system = room / "system"
     new_system(kept, system)
     due = asked_here(room)
-    inside(system, f"apt-get update && apt-get satisfy -y --no-install-recommends {shlex.quote(needs_of(package))}")
+    needs = shlex.quote(f"{needs_of(package)}, make")  # which a page of the manual calls
+    inside(system, f"apt-get update && apt-get satisfy -y --no-install-recommends {needs}")
     before = files_of(system)
     shutil.copy(package, system / "tmp")
     inside(system, f"apt-get install -y /tmp/{package.name}")
