@@ -1,13 +1,13 @@
 """Runs the built program on a capture of 64 MiB under limits on its address space, and checks its answers. It also
-compares the most memory that the program takes with a ceiling.
+compares the most memory that the program takes with a ceiling, and how many instructions it takes.
 
     checks/run limits -- [--runs N] [--bytes N] [PROGRAM..]
-    checks/run limits -- --peaks [PROGRAM..]
+    checks/run limits -- [--peaks] [--instructions] [PROGRAM..]
 
 Each limit is tried with 1, 4 and 64 workers, 20 times each, or N times; four runs are under way at once. This takes 3
 GB of memory and some three minutes; it is run by hand. It prints a table: for each limit and each number of workers,
-how many runs answered with the report. With --peaks, as `.ci/run` calls it, it looks only at the ceilings, which takes
-some seconds, and prints no table.
+how many runs answered with the report. With --peaks or --instructions, as `.ci/run` calls it, it looks only at these
+ceilings, which takes some seconds, and prints no table.
 
 A limit is what the program needs for itself, plus some times the size of the capture: ten limits from 1 to 4 times, and
 seven greater ones. What the program needs for itself is the least limit, to a page, under which one worker reports on a
@@ -24,17 +24,22 @@ A ceiling is some 15 percent above the most that one worker was measured to take
 has very many frames, of which only the place is kept. The other has very many rows, which are not rendered all at once.
 A body that kept a view of each frame took 93 MiB for the first, and one that rendered all rows at once took 781 MiB for
 the second. If the program needs another amount for a good reason, measure the ceiling again.
+
+valgrind counts the instructions of one worker on 4 MiB of traffic, and their ceiling is 3 percent above what was
+counted. So a function on the way of each event that is no longer inlined is seen, which the clock of a busy machine
+does not show. Only the first PROGRAM is counted, the auditor that the toolchain's clang built.
 """
 
 import functools
 import pathlib
+import re
 import resource
 import subprocess
 from typing import Callable, NamedTuple
 
 from checks.kit.captures import write
 from checks.kit.checking import FLAG, check, row
-from checks.kit.runs import MEMORY, answer, at_once, measured_run, report_by, shown, under
+from checks.kit.runs import MEMORY, answer, at_once, measured_run, output_of, report_by, shown, under
 from checks.kit.traffic import write_traffic
 from checks.kit.written import error_replies, write_frames
 
@@ -144,14 +149,38 @@ def check_peaks(program, room, printed, fail):
             fail(f"{peak.name}: expected status 0, came {[status for _, status in runs]}")
 
 
+# ---- instructions
+
+
+TRAFFIC = 2**22
+MILLIONS = 49.1
+
+
+def check_instructions(program, room, printed, fail):
+    """Reports a run that takes more instructions than the ceiling; prints a row if asked."""
+    capture, counts = room / "counted.cap", room / "counts"
+    write_traffic(capture, TRAFFIC)
+    output_of(["valgrind", "--tool=callgrind", f"--callgrind-out-file={counts}", program, *report_by(1, 256), capture])
+    millions = int(re.search(r"^totals: (\d+)$", counts.read_text(), re.MULTILINE)[1]) / 1e6
+    if printed:
+        row("traffic in bytes", "million instructions", "ceiling")
+        row(TRAFFIC, f"{millions:.1f}", MILLIONS)
+    if millions > MILLIONS:
+        fail(f"expected {MILLIONS} million instructions on {TRAFFIC} bytes of traffic or less, came {millions:.1f}")
+
+
 def judge(given, room, fail):
+    whole = not given.peaks and not given.instructions
+    if whole or given.instructions:
+        check_instructions(given.programs[0], room, whole, fail)
     for program in given.programs:
-        check_peaks(program, room, not given.peaks, fail)
-        if not given.peaks:
+        if whole or given.peaks:
+            check_peaks(program, room, whole, fail)
+        if whole:
             capture = room / "traffic.cap"
             write_traffic(capture, given.bytes)
             table(program, capture, room, given.runs, fail)
 
 
 if __name__ == "__main__":
-    check(judge, runs={"type": int, "default": 20}, bytes={"type": int, "default": 2**26}, peaks=FLAG)
+    check(judge, runs={"type": int, "default": 20}, bytes={"type": int, "default": 2**26}, peaks=FLAG, instructions=FLAG)
