@@ -1,4 +1,5 @@
 /* Records the Binder traffic of a system into a capture and a side list. docs/RECORDER.md says how and why. */
+#define _GNU_SOURCE
 #include "begin.h"
 #include "books.h"
 #include "clocks.h"
@@ -19,10 +20,13 @@
 #include "side.h"
 #include "stacks.h"
 #include "window.h"
+#include <errno.h>
+#include <fcntl.h>
 #include <signal.h>
 #include <stdio.h>
 #include <stdlib.h>
 #include <string.h>
+#include <sys/stat.h>
 #include <time.h>
 #include <unistd.h>
 
@@ -31,6 +35,7 @@
 #define TELL_EVERY (1000u * MILLISECOND)
 #define LOOK_EVERY (2u * MILLISECOND)
 #define FEW_MESSAGES 256
+#define ROOM_FOR_LINES 16384		/* bytes */
 #define LAST_WAIT (1000u * MILLISECOND)		/* for frames that are not whole when the recording ends */
 
 static volatile sig_atomic_t signal_got;
@@ -71,6 +76,25 @@ static void create_files(const struct options *options)
 	}
 }
 
+/* A caller that wants what --check says before a recording, and does not want all to be loaded for that twice, names a
+ * descriptor for the line that the system is ready. Returns NULL if there is no such caller. */
+static FILE *open_for_ready(void)
+{
+	const char *descriptor = getenv("RECORD_READY");
+	FILE *to = descriptor ? fdopen(atoi(descriptor), "w") : NULL;
+	if (descriptor && !to)
+		fail("RECORD_READY=%s: %s", descriptor, strerror(errno));
+	unsetenv("RECORD_READY");	/* it is not for PROGRAM */
+	return to;
+}
+
+static void tell_ready(FILE *to)
+{
+	fprintf(to, "record: ");
+	ready_tell(to);
+	fclose(to);
+}
+
 /* Takes what is in the ring. Returns how many messages that was, and at least FEW_MESSAGES if frames are still to be
  * written. */
 static long take(struct ring *ring)
@@ -83,6 +107,14 @@ static long take(struct ring *ring)
 		missed_tell();
 	stacks_look();
 	return window_settle() && count < FEW_MESSAGES ? FEW_MESSAGES : count;
+}
+
+/* If standard error is a file, it keeps room for what is said when the disk is full. */
+static void keep_room_for_lines(void)
+{
+	struct stat status;
+	if (!fstat(STDERR_FILENO, &status) && S_ISREG(status.st_mode))
+		(void)fallocate(STDERR_FILENO, FALLOC_FL_KEEP_SIZE, status.st_size, ROOM_FOR_LINES);
 }
 
 static void tell_progress(void)
@@ -242,8 +274,43 @@ static int check(const struct options *options, struct ring *ring)
 	kernel_unload();
 	if (lack_count())
 		return 1;
-	ready_tell();
+	ready_tell(stdout);
 	return 0;
+}
+
+/* Loads all, if the system lacks nothing; else ends the recorder. */
+static void load(const struct options *options, struct ring *ring)
+{
+	if (!lack_count())
+		kernel_load(options, ring);
+	if (lack_count())
+		exit(1);
+	if (signal_got)
+		fail("a signal came before the recording began");
+}
+
+/* Begins the recording, and then the program. */
+static void begin(const struct options *options, FILE *for_ready)
+{
+	redact_begin(options->redact);
+	if (options->redact)
+		command_redact();
+	if (options->stacks)
+		stacks_begin();
+	keep_room_for_lines();
+	create_files(options);
+	if (for_ready)
+		tell_ready(for_ready);
+	kernel_meet_openings();
+	if (options->program)
+		program_prepare(options->program);
+	missed_begin();
+	kernel_start();
+	begin_tell(options->no_attachments ? "none" : options->redact ? "redacted" : "whole");
+	books_copy(options->out, "begin");
+	books_tell();
+	side_flush();
+	program_go();
 }
 
 int main(int count, char **words)
@@ -251,32 +318,18 @@ int main(int count, char **words)
 	struct options options;
 	struct ring ring;
 	options_read(&options, count, words);
-	if (options.check)
+	FILE *for_ready = open_for_ready();
+	if (options.check || for_ready)
 		lack_list();
+	if (!options.check) {
+		program_keep_signals();
+		catch_signals();
+	}
 	need_all(&options);
 	if (options.check)
 		return check(&options, &ring);
-	program_keep_signals();
-	catch_signals();
-	kernel_load(&options, &ring);
-	if (signal_got)
-		fail("a signal came before the recording began");
-	redact_begin(options.redact);
-	if (options.redact)
-		command_redact();
-	if (options.stacks)
-		stacks_begin();
-	create_files(&options);
-	kernel_meet_openings();
-	if (options.program)
-		program_prepare(options.program);
-	missed_begin();
-	kernel_start();
-	begin_tell(options.no_attachments ? "none" : options.redact ? "redacted" : "whole");
-	books_copy(options.out, "begin");
-	books_tell();
-	side_flush();
-	program_go();
+	load(&options, &ring);
+	begin(&options, for_ready);
 	int error = record(&ring);
 	if (!error)
 		books_copy(options.out, "end");

@@ -6,6 +6,7 @@
 #include <sys/utsname.h>
 
 static enum driver told;	/* of which the devices are told */
+static FILE *to;
 
 static void tell_device(u32 device, enum driver driver)
 {
@@ -13,20 +14,21 @@ static void tell_device(u32 device, enum driver driver)
 	if (driver != told)
 		return;
 	device_name(device, name);
-	printf(" %s", name);
+	fprintf(to, " %s", name);
 }
 
-void ready_tell(void)
+void ready_tell(FILE *file)
 {
 	struct utsname name;
 	const char *between = ", ";
+	to = file;
 	uname(&name);
-	printf("ready: kernel %s", name.release);
+	fprintf(to, "ready: kernel %s", name.release);
 	for (told = 0; told < DRIVERS; told++)
 		if (driver_is_recorded(told)) {
-			printf("%sdriver in %s, devices", between, driver_language(told));
+			fprintf(to, "%sdriver in %s, devices", between, driver_language(told));
 			devices_all(tell_device);
 			between = "; ";
 		}
-	printf("\n");
+	fprintf(to, "\n");
 }

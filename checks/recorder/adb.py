@@ -9,6 +9,7 @@ What must hold:
   output and its status; without one SIGINT ends the recording.
 - If the connection is lost, if bytes come wrong, or if a file is in the way, a line says so, the recording stays on the
   device, and --fetch fetches it. So it does what --detach began.
+- All that the device lacks is said, by a recording and by --check, and nothing is left there.
 - No device, two of them, one that does not trust this computer, one without root, with an old adbd or of another
   machine, and a server of adb of another version: a line for each.
 
@@ -94,14 +95,17 @@ class Device:
                                 env={**self.environment, **variables}, stdin=subprocess.DEVNULL, stdout=subprocess.PIPE,
                                 stderr=subprocess.STDOUT)
 
-    def ends(self, program: subprocess.Popen[str], status: int, *lines: str) -> None:
-        """Its status, and all lines that it wrote."""
+    def ends(self, program: subprocess.Popen[str], status: int, *lines: str, said: str | None = None) -> None:
+        """Its status, and all lines that it wrote. What the recorded program `said` comes on another stream of adb, so
+        anywhere among these."""
         came = program.communicate(timeout=LIMIT)[0].strip("\n").split("\n")
-        if program.returncode != status or len(came) != len(lines) or not all(map(re.fullmatch, lines, came)):
-            self.report(f"{self.what}: expected {status} {lines}, came {program.returncode} {came}")
+        own = [line for line in came if line != said]
+        if program.returncode != status or len(own) != len(lines) or not all(map(re.fullmatch, lines, own)) \
+                or len(came) - len(own) != (said is not None):
+            self.report(f"{self.what}: expected {status} {said} {lines}, came {program.returncode} {came}")
 
-    def says(self, words: list[str], status: int, *lines: str, **variables: str) -> None:
-        self.ends(self.start(*words, **variables), status, *lines)
+    def says(self, words: list[str], status: int, *lines: str, said: str | None = None, **variables: str) -> None:
+        self.ends(self.start(*words, **variables), status, *lines, said=said)
 
     def wait_until_recording(self) -> None:
         side = self.room / "device/binder-record/capture.side"
@@ -117,8 +121,11 @@ class Device:
         files = list((self.room / "out").glob(f"{name}[-.]*"))
         if len(files) < 8 or any(it.stat().st_mode & 0o777 != 0o600 for it in files):
             self.report(f"{self.what}: the files are {files}")
+        self.left_nothing()
+
+    def left_nothing(self) -> None:
         if (self.room / "device/binder-record").exists():
-            self.report(f"{self.what}: the device has the recording still")
+            self.report(f"{self.what}: the device has its folder still")
 
 
 # ---- what goes well
@@ -126,8 +133,8 @@ class Device:
 
 def check_sessions(device: Device) -> None:
     device.what = "with PROGRAM"
-    device.says(["-o", "some", "--", "sh", "-c", "echo 'a  word'; exit 7"], 7, READY, "a  word", COUNTS,
-                FETCHED.format("some"))
+    device.says(["-o", "some", "--", "sh", "-c", "echo 'a  word'; exit 7"], 7, READY, COUNTS, FETCHED.format("some"),
+                said="a  word")
     device.fetched("some")
     device.what = "SIGINT"
     program = device.start("one", "-o", "until")
@@ -153,6 +160,15 @@ def check_detached(device: Device) -> None:
 
 
 # ---- what fails
+
+
+def check_lacking(device: Device) -> None:
+    device.what = "a device that lacks something"
+    lacking = "record: one thing is missing", "record: another one is missing"
+    device.says(["--", "echo", "begun"], 1, *lacking, "record: nothing was recorded on one", LACKING="1")
+    device.says(["--detach"], 1, *lacking, "record: nothing is recorded on one", LACKING="1")
+    device.says(["--check"], 1, *lacking, "record: one can't be recorded", LACKING="1")
+    device.left_nothing()
 
 
 def check_lost(device: Device) -> None:
@@ -205,7 +221,7 @@ def check_server(device: Device) -> None:
 
 def judge(_: argparse.Namespace, room: pathlib.Path, fail: Fail) -> None:
     device = Device(room, fail)
-    for part in (check_sessions, check_detached, check_lost, check_devices, check_server):
+    for part in (check_sessions, check_detached, check_lacking, check_lost, check_devices, check_server):
         part(device)
 
 

@@ -96,9 +96,7 @@ class Folder(NamedTuple):
         return free * size if blocks else None
 
     def put(self, name: str, data: bytes) -> None:
-        answer = self.ask(f"cat >{name}", data)
-        if answer.status == 0:
-            answer = self.ask(f'[ "$(stat -c %s {name})" = {len(data)} ]')
+        answer = self.ask(f'cat >{name} && chmod 700 {name} && [ "$(stat -c %s {name})" = {len(data)} ]', data)
         if answer.status:
             raise Stopped(f"{name} can't be put into {self.path} of {self.connection.serial}, which has {self.space()}"
                           f" bytes free: {answer.said or 'it is cut there'}")

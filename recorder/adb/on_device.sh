@@ -1,8 +1,9 @@
 # What `record --adb` has done on the device, by its sh, as root, in the folder of the recording.
 #
 #     sh on_device.sh record NAMES [OPTION..] [-- PROGRAM ARGUMENT..]
-#         records, and passes on what the recorder says, until PROGRAM ends. Each line of standard input, and its end,
-#         is passed on as SIGINT. If NAMES is `ask`, the managers are asked for the names of all services.
+#         records, and passes on what the recorder says, first what the device lacks or that it is ready, until PROGRAM
+#         ends. Each line of standard input, and its end, is passed on as SIGINT. If NAMES is `ask`, the managers are
+#         asked for the names of all services.
 #     sh on_device.sh detach NAMES [OPTION..] [-- PROGRAM ARGUMENT..]
 #         begins the same, and returns when the recording has begun, or has failed.
 #     sh on_device.sh end
@@ -10,7 +11,7 @@
 #
 # The folder has `state`: `recording`, and then the status of the recorder, or nothing if the device is full; `pid`; and
 # `messages`, what the recorder says, of which so many bytes as `told` has were passed on when it began. The recorder
-# does not write to the connection itself: that one may stall.
+# does not write to the connection itself, which may stall, but for the line that it is ready, before PROGRAM begins.
 # It uses what toybox, mksh and busybox have.
 umask 077
 
@@ -55,7 +56,7 @@ prepare() {
 run() { # NAMES [OPTION..]
 	names=$1
 	shift
-	setsid ./record -o capture "$@" </dev/null 2>>messages & recorder=$!
+	RECORD_READY=3 setsid ./record -o capture "$@" </dev/null 3>&2 2>>messages & recorder=$!
 	# Until setsid has become the recorder, or that has ended.
 	while [ -e /proc/$recorder/exe ] && ! [ /proc/$recorder/exe -ef record ]; do sleep 0.1; done
 	echo $recorder >pid
@@ -97,7 +98,7 @@ detach)
 	prepare
 	shift
 	# By exec: adb waits for all that hold the connection, and a shell keeps what it redirects for one command.
-	(exec </dev/null >/dev/null 2>&1; run "$@") & runner=$!
+	(exec </dev/null >/dev/null 2>>messages; run "$@") & runner=$!
 	while kill -0 $runner 2>/dev/null && [ ! -e pid ]; do sleep 0.1; done
 	while is_recording && ! has_begun; do sleep 0.2; done
 	tell

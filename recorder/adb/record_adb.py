@@ -38,23 +38,26 @@ def tell(line: str) -> None:
 # ---- what the recorder says
 
 
-def without_next(line: bytes) -> bytes:
-    """The recorder's last line names the next command, which would be one of the device."""
+def as_told(line: bytes, serial: str) -> bytes:
+    """The line that the system is ready tells of which device that is. The last line names the next command, which
+    would be one of the device."""
+    if line.startswith(b"record: ready: "):
+        line = line.replace(b"record:", f"record: {serial}:".encode(), 1)
     return line.split(b"; next: ")[0].rstrip(b"\n") + b"\n"
 
 
-def pass_on(said: BinaryIO) -> None:
+def pass_on(said: BinaryIO, serial: str) -> None:
     """Passes lines on, and what shows the progress, which has no end of a line."""
     waiting = b""
     while piece := os.read(said.fileno(), 65536):
         *lines, waiting = (waiting + piece).split(b"\n")
-        told = b"".join(without_next(line) for line in lines)
+        told = b"".join(as_told(line, serial) for line in lines)
         if waiting.startswith(b"\r"):
             told, waiting = told + waiting, b""
         sys.stderr.buffer.write(told)
         sys.stderr.buffer.flush()
     if waiting:
-        sys.stderr.buffer.write(without_next(waiting))
+        sys.stderr.buffer.write(as_told(waiting, serial))
         sys.stderr.buffer.flush()
 
 
@@ -88,7 +91,7 @@ def kept(command: Command) -> str:
 
 
 def prepare(command: Command) -> None:
-    """Puts the recorder there, and has it say what the device lacks."""
+    """Puts the recorder there. With --check it says what the device lacks; else it does so when it begins to record."""
     folder = command.folder
     if device.is_there(folder):
         if folder.is_recording() or folder.has_recording():
@@ -99,7 +102,8 @@ def prepare(command: Command) -> None:
     try:
         folder.put("record", program)
         folder.put("on_device.sh", (device.HERE / "on_device.sh").read_bytes())
-        check(command)
+        if command.words.check:
+            check(command)
     except Lost:
         raise
     except BaseException:
@@ -110,7 +114,7 @@ def prepare(command: Command) -> None:
 def check(command: Command) -> None:
     options, _ = words.split_program(command.words.options)
     checked = subprocess.run(command.folder.words(
-        f"chmod 700 record && ./record --check -o {fetch.BEGIN} {shlex.join(options)}; echo checked $?"),
+        f"./record --check -o {fetch.BEGIN} {shlex.join(options)}; echo checked $?"),
         stdin=subprocess.DEVNULL, stdout=subprocess.PIPE, stderr=subprocess.PIPE)
     answer, _, status = checked.stdout.decode(errors="replace").rpartition("checked ")
     if not status.strip().isdigit():
@@ -155,7 +159,7 @@ def record(command: Command) -> None:
                           stderr=subprocess.PIPE, start_new_session=True) as program:
         assert program.stderr
         signals = Signals(program)
-        reader = threading.Thread(target=pass_on, args=(program.stderr,))
+        reader = threading.Thread(target=pass_on, args=(program.stderr, command.serial))
         reader.start()
         program.wait()
         reader.join()
@@ -189,10 +193,18 @@ def finish(command: Command) -> int:
     return status
 
 
+def do(command: Command, what: str) -> None:
+    """Has the script on the device do this, and passes on what the recorder said, without its progress."""
+    ended = subprocess.run(command.folder.words(command.on_device(what)), stdin=subprocess.DEVNULL,
+                           stderr=subprocess.PIPE)
+    for line in ended.stderr.split(b"\n"):
+        if line:
+            sys.stderr.buffer.write(as_told(line.rpartition(b"\r")[2], command.serial))
+    sys.stderr.flush()
+
+
 def begin_detached(command: Command) -> int:
-    answer = command.folder.ask(command.on_device("detach"))
-    if answer.said:
-        sys.stderr.write(f"{answer.said}\n")
+    do(command, "detach")
     if not command.folder.is_recording():
         command.folder.remove()
         raise Nothing(f"nothing is recorded on {command.serial}")
@@ -203,12 +215,7 @@ def begin_detached(command: Command) -> int:
 def fetch_recording(command: Command) -> int:
     if not device.is_there(command.folder):
         raise Nothing(f"{command.serial} has no recording in {command.folder.path}")
-    ended = subprocess.run(command.folder.words("sh on_device.sh end"), stdin=subprocess.DEVNULL,
-                           stderr=subprocess.PIPE)
-    for line in ended.stderr.split(b"\n"):
-        if line:
-            sys.stderr.buffer.write(without_next(line.rpartition(b"\r")[2]))
-    sys.stderr.flush()
+    do(command, "end")
     return finish(command)
 
 

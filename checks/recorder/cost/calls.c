@@ -15,7 +15,6 @@ enum { DEPTH = 24, FIRST = 50, MOST = 1 << 16 };
 
 static size_t bytes;
 static long count, rate;
-static void (*mark)(void);
 
 /* With an instruction after the call, so that the function keeps its frame. */
 static __attribute__((noinline)) void at_depth(int depth, void (*work)(void))
@@ -23,21 +22,6 @@ static __attribute__((noinline)) void at_depth(int depth, void (*work)(void))
 	if (depth) at_depth(depth - 1, work);
 	else work();
 	__asm__ volatile("");
-}
-
-static void make_mark(void)
-{
-#ifdef __aarch64__
-	static const uint32_t code = 0xd65f03c0;	/* ret */
-#else
-	static const uint8_t code = 0xc3;
-#endif
-	void *page = mmap((void *)MARK, 4096, PROT_READ | PROT_WRITE | PROT_EXEC,
-			  MAP_PRIVATE | MAP_ANONYMOUS | MAP_FIXED_NOREPLACE, -1, 0);
-	if (page == MAP_FAILED) fail("mark");
-	memcpy(page, &code, sizeof code);
-	__builtin___clear_cache(page, (char *)page + sizeof code);
-	memcpy(&mark, &page, sizeof mark);
 }
 
 static long long now(void)

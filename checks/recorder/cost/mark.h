@@ -1,7 +1,10 @@
-/* Where a program has an instruction that tells the plugin of QEMU to write its counts. */
+/* An instruction of a program that tells the plugin of QEMU to write its counts. */
 #ifndef MARK_H
 #define MARK_H
 
-#define MARK 0x123456789000ull
+#define MARK 0x123456789000ull	/* where it is */
+
+void make_mark(void);		/* comes before the first mark */
+extern void (*mark)(void);
 
 #endif

@@ -67,6 +67,15 @@ def print_calls(all_runs: dict[str, list[Run]]) -> None:
                 print(f"    {told(guest):22} {size:11}" + "".join(f"{cell:12,.0f}" for cell in cells))
 
 
+def print_opens(all_runs: dict[str, list[Run]]) -> None:
+    print("instructions of the kernel to open and close a file, bare and looked at; the median of three")
+    for guest, runs in all_runs.items():
+        found = by_size(runs, "opens").get(0, {})
+        if found and all(run.instructions is not None for run in found["bare"]):
+            cells = [statistics.median((run.instructions or 0) / run.count for run in found[how]) for how in HOW[:2]]
+            print(f"    {told(guest):34}" + "".join(f"{cell:12,.0f}" for cell in cells))
+
+
 def print_loader(all_runs: dict[str, list[Run]]) -> None:
     """On one processor whose clock counts instructions, a nanosecond of the loader is one."""
     print("the loader beside 1,000 calls a second: instructions for a call, and in a second without calls")
@@ -108,7 +117,7 @@ def print_times(all_runs: dict[str, list[Run]]) -> None:
 def main(folder: str, *guests: str) -> None:
     all_runs = {guest: list(runs_of(pathlib.Path(folder), guest)) for guest in guests}
     print(f"stacks have up to {longest_stack(pathlib.Path(folder), guests)} functions\n")
-    for printed in (print_calls, print_loader, print_bytes, print_times):
+    for printed in (print_calls, print_opens, print_loader, print_bytes, print_times):
         printed(all_runs)
         print()
 

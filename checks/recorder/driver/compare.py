@@ -123,16 +123,14 @@ def lost_differences(recording):
         yield "lost", "all", why, count, 0
 
 
-def form_differences(recording, is_stored):
-    """Each side list has the form that its page describes. A stored one may be of an earlier recorder. With another
-    `begin` it is told."""
+def form_differences(recording):
+    """Each side list has the form that its page describes. In another form it is told."""
     for path in recording.sides:
         text = path.read_text(errors="surrogateescape")
-        wrong = [] if is_stored and side_form.is_earlier(text) else side_form.faults(text)
-        if wrong:
+        if wrong := side_form.faults(text):
             yield "form", path.stem, wrong[0][:80], len(wrong), 0
-        elif not side_form.faults(side_form.without_drivers(text)):
-            yield "form", path.stem, "untold", 0, 1
+        elif untold := sum(not side_form.faults(one) for one in side_form.wrong_forms(text)):
+            yield "form", path.stem, "untold", untold, 0
 
 
 def end_differences(recording):
@@ -336,7 +334,6 @@ class Scenario:
         self.name, self.folder = folder.name.removesuffix("-rust"), folder	# as store.py calls some
         self.recording = Recording(folder)
         status = folder / "status"
-        self.is_stored = not status.exists()
         self.status, self.how = status.read_text().split()[:2] if status.exists() else ("0", "stored")
         code, text = report_on(auditor, self.recording.captures)
         if code == 2 and self.how == "killed" and self.recording.captures:
@@ -345,7 +342,6 @@ class Scenario:
         self.text = text
         self.output = (folder / "output").read_text(errors="replace") if (folder / "output").exists() else ""
         self.report = Report(text) if code == 0 else None
-        self.has_copies = self.how != "stored" or " books end state " in self.recording.side
         self.has_stacks = (self.how in ("stacks", "frameless")
                            or bool(re.search(r"^\d+ stack ", self.recording.side, re.M)))
         self.program = next((path for path in (folder / "program", *folder.glob("symbols/*")) if path.exists()), None)
@@ -354,6 +350,10 @@ class Scenario:
         if self.how == "stored" and self.recording.met:
             self.how = "before"
         self.books = books_of.texts(folder) if (folder / "state").exists() else None
+
+    def is_in_rust(self):
+        """Whether its driver is the one in Rust, by the words of the books."""
+        return self.books is not None and "need_return false" in self.books["state"]
 
     def differences(self, texts=None):
         """The differences, and the sections that were looked at."""
@@ -384,10 +384,9 @@ class Scenario:
                 found.append(("status", "all", "program", self.status, 0))
             if self.name == "before":
                 found += view_differences(self.folder)
-            if self.has_copies:
-                found += copy_differences(self.how, self.recording, self.folder)
+            found += copy_differences(self.how, self.recording, self.folder)
             found += end_differences(self.recording)
-            found += form_differences(self.recording, self.is_stored)
+            found += form_differences(self.recording)
             return found, {"capture", "lost", "names", "books", "end", "form"} | (
                 {"view"} if self.name == "before" else set())
         if self.books is None:
@@ -397,16 +396,14 @@ class Scenario:
         found += purpose_differences(self.name, self.report, self.recording)
         found += lost_differences(self.recording)
         found += end_differences(self.recording)
-        found += form_differences(self.recording, self.is_stored)
+        found += form_differences(self.recording)
         found += sender_differences(self.recording)
         found += bits_differences(self.how, self.recording)
         found += [("status", "all", "unsaid", words, 0) for words in SAYS.get(self.how, ()) if words not in self.output]
-        seen = sides.seen | {"purpose", "lost", "end", "form", "capture", "status", "senders", "names"}
+        seen = sides.seen | {"purpose", "lost", "end", "form", "capture", "status", "senders", "names", "books"}
         if self.name in ("people", "people-redacted"):
             found += command_differences(self.recording)
-        if self.has_copies:
-            found += copy_differences(self.how, self.recording, self.folder)
-            seen.add("books")
+        found += copy_differences(self.how, self.recording, self.folder)
         if self.name in ("secret", "secret-redacted"):
             found += secret_differences(self.recording)
             seen.add("secret")
@@ -453,7 +450,7 @@ WRONG_IN_RUST = {
 
 def wrong_of(scenarios):
     """Where the books of a guest can be made wrong, by its driver."""
-    in_rust = all("need_return false" in scenario.books["state"] for scenario in scenarios if scenario.books)
+    in_rust = all(scenario.is_in_rust() for scenario in scenarios if scenario.books)
     return WRONG_IN_RUST if in_rust else WRONG_IN_C
 
 

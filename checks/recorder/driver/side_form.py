@@ -5,7 +5,7 @@ from functools import cache
 
 from checks.kit.programs import ROOT
 
-FIRST_LINE, EARLIER = "binder side list 2", "binder side list 1"
+FIRST_LINE = "binder side list 2"
 NUMBER = "[0-9]+"
 # What the words in capitals stand for; all others stand for a number.
 KINDS = {
@@ -59,11 +59,6 @@ def faults(text: str) -> list[str]:
     return [first] * (first != FIRST_LINE) + wrong
 
 
-def is_earlier(text: str) -> bool:
-    """Whether an earlier recorder wrote it."""
-    return text.startswith(f"{EARLIER}\n")
-
-
-def without_drivers(text: str) -> str:
-    """The list under today's first line, but with `begin` as it was before."""
-    return re.sub(r" drivers=\S*", "", text.replace(EARLIER, FIRST_LINE, 1))
+def wrong_forms(text: str) -> tuple[str, ...]:
+    """The list in two other forms: with `begin` as it was before, and under the first line of the form before."""
+    return re.sub(r" drivers=\S*", "", text), text.replace(FIRST_LINE, "binder side list 1", 1)

@@ -39,7 +39,8 @@ def main(auditor, source, to, suffix="", *names):
         kept = to / (folder.name + suffix)
         shutil.rmtree(kept, ignore_errors=True)
         kept.mkdir(parents=True)
-        for path in (*files, *folder.glob("capture.*.*"), *(folder / name for name in books.NAMES)):
+        saved = [folder / name for name in books.NAMES if (folder / name).exists()]	# the driver in Rust has no log
+        for path in (*files, *folder.glob("capture.*.*"), *saved):
             shutil.copyfile(path, kept / path.name)
         (kept / "report.txt").write_text(text)
         if (folder / "status").read_text().split()[1] == "stacks":

@@ -59,7 +59,10 @@ class Stage:
     def connect(self, serial: str) -> None:
         def is_there() -> bool:
             self.adb("connect", serial)
-            return self.shell("echo there", serial).said.strip() == "there"
+            came = self.shell("echo there", serial).said.strip() == "there"
+            if not came:  # adb may keep a connection that is offline
+                self.adb("disconnect", serial)
+            return came
         self.wait_for(f"the device {serial}", is_there)
 
     def disconnect(self) -> None:
@@ -134,6 +137,7 @@ class Stage:
 READY = r"record: 127\.0\.0\.1:\d+: ready: kernel \S+, driver in C, devices binder hwbinder vndbinder"
 COUNTS = r"record: \d+ frames, 0 lost; 1 file, \d+ bytes"
 FETCHED = r"record: \d+ files, \d+ bytes fetched from 127\.0\.0\.1:\d+; next: \S+view {0}-1\.cap --side {0}\.side"
+NOTHING = r"record: nothing was recorded on 127\.0\.0\.1:\d+"
 LOST = (r"record: the connection is lost \(.*\); what was recorded stays in /data/local/tmp/binder-record of 127\.\S+;"
         r" to fetch it: \S+record --adb 127\.\S+ --fetch -o {0}")
 
@@ -200,10 +204,10 @@ def mounted(stage: Stage, folder: str, size: str) -> Iterator[None]:
 
 
 def no_btf(stage: Stage) -> None:
-    """The lines of --check are passed on: here that the kernel has no BTF."""
+    """What the device lacks is passed on: here that the kernel has no BTF."""
     with mounted(stage, "/sys/kernel/btf", "4k"):
         stage.line(stage.record(stage.serials[0]), 1, "record: /sys/kernel/btf/vmlinux is not there: a kernel with"
-                   " CONFIG_DEBUG_INFO_BTF is needed, and sysfs", r"record: 127\.\S+ can't be recorded")
+                   " CONFIG_DEBUG_INFO_BTF is needed, and sysfs", NOTHING)
     stage.nothing_left()
 
 
@@ -214,7 +218,7 @@ def no_bpf(stage: Stage) -> None:
         said = stage.shell("id -u; cat /sys/fs/selinux/enforce; echo; cat /proc/self/attr/current", serial).said
         stage.must(f"user, enforcing and domain are {said}", said.strip("\0\n").split() == ["0", "1", domain])
     stage.line(stage.record(stage.serials[4]), 1, r"record: the kernel does not let this process load the recorder's"
-               r" program.*", r"record: 127\.\S+ can't be recorded")
+               r" program.*", NOTHING)
     denied = re.compile(r"denied +\{ (map_create|prog_load) \}.*u:r:shell")
     stage.must("the log has no denial", denied.search(stage.shell("dmesg").said) is not None)
     stage.nothing_left()
@@ -312,15 +316,31 @@ def detached(stage: Stage) -> None:
     stage.nothing_left()
 
 
-def full(stage: Stage) -> None:
-    """On a full device the recording ends with the last whole frame, and is fetched."""
+def full_device(stage: Stage, name: str, *program: str) -> None:
+    """The recording ends with the last whole frame, and is fetched, and so is what is said of that."""
+    said = (r"record: capture\S*: No space left on device; the recording ends after number \d+",
+            r"record: \d+ frames, \d+ lost.*; 1 file, \d+ bytes",
+            r"record: 127\.\S+ is full, with \d+ bytes free in \S+: the recording ends early")
     with mounted(stage, "/data/local/tmp", "12m"):
-        came = stage.record(stage.serials[0], "-o", "full", "--", "/system-programs/system", "fill", FOLDER)
+        came = stage.record(stage.serials[0], "-o", name, "--", *program)
         stage.must("the status is not 1", came.status == 1)
-        stage.must("it is not said that the device is full", re.search(
-            r"^record: 127\.\S+ is full, with \d+ bytes free in \S+: the recording ends early$", came.said,
-            re.MULTILINE) is not None)
-        stage.good_capture("full")
+        for line in said:
+            stage.must(f"nobody says {line}", re.search(f"^{line}$", came.said, re.MULTILINE) is not None)
+        stage.good_capture(name)
+        stage.nothing_left()
+
+
+FILL = f"/system-programs/system fill {FOLDER}"
+
+
+def full(stage: Stage) -> None:
+    """A recording that fills the device."""
+    full_device(stage, "full", *FILL.split())
+
+
+def no_byte(stage: Stage) -> None:
+    """Another program has filled the device, so that not a byte is free."""
+    full_device(stage, "no-byte", "sh", "-c", f"cat /dev/zero >/data/local/tmp/zeros; {FILL}")
 
 
 def no_room(stage: Stage) -> None:
@@ -333,8 +353,8 @@ def no_room(stage: Stage) -> None:
 
 def fetched_wrong(stage: Stage) -> None:
     """What can't be written here stays on the device."""
-    space = r"record: the files that are kept, .* can take \d+ bytes, and \. has \d+ free"  # said by --check too
-    stage.line(stage.record(stage.serials[0], "--detach", "-o", "wrong"), 0, space, READY, space,
+    space = r"record: the files that are kept, .* can take \d+ bytes, and \. has \d+ free"
+    stage.line(stage.record(stage.serials[0], "--detach", "-o", "wrong"), 0, space, READY,
                r"record: 127\.\S+ records, also without the connection; .*")
     came = stage.record(stage.serials[0], "--fetch", "-o", "/dev/full/wrong")
     stage.line(came, 1, "record: /dev/full is not a folder in which files can be made")
@@ -348,7 +368,7 @@ def fetched_wrong(stage: Stage) -> None:
 
 # The order in which they are played; those of OTHERS only if they are named.
 SCENES = [no_device, two_devices, other_version, no_root, by_su, other_machine, no_btf, session, no_names, cable,
-          detached, full, no_room, fetched_wrong, older_adb]
+          detached, full, no_byte, no_room, fetched_wrong, older_adb]
 OTHERS = [no_bpf, old_kernel]
 # These need commands of a folder of their own, in place of which the shell of busybox takes those that it has itself.
 NOT_OF_BUSYBOX = [by_su, other_machine]
@@ -368,7 +388,6 @@ def main() -> int:
     given = line.parse_args()
     stage = Stage(given)
     try:
-        stage.connect(stage.serials[0])
         for scene in SCENES + OTHERS:
             if scene.__name__ not in (given.only or [it.__name__ for it in SCENES]):
                 continue
@@ -378,6 +397,7 @@ def main() -> int:
             began = time.monotonic()
             print(f"  {stage.scene}", flush=True)
             try:
+                stage.connect(stage.serials[0])
                 scene(stage)
             except (TimeoutError, subprocess.TimeoutExpired, OSError, sqlite3.Error) as error:
                 stage.fail(f"{type(error).__name__}: {error}")

@@ -4,9 +4,6 @@
 #   both     by the recorder, with the witness in the programs
 #   record   by the recorder only, with statically linked programs
 #   record32 by the recorder only, with statically linked 32-bit programs
-#   recorded by the recorder only, with dynamically linked programs, as for the witness
-#   witness  by the witness only
-#   bare     not at all
 #   late     by a recorder that is started while the scenario is at work
 #   before   by a recorder that is started when the scenario has made the file `ready`, and stopped when it has made
 #            `rested`
@@ -17,7 +14,6 @@
 #   drivers  by a recorder that seems to find two drivers, after one that seems to find only the one that is not there
 #   untraced  by a recorder that finds the driver's tracepoints, after one that does not
 #   two-drivers  where the device hwbinder is of the driver in C, and the others are of the one in Rust
-#   opens    no scenario: what the recorder costs any file of the system that is opened; SCENARIO is how many a round
 #   narrow   by the recorder only, with a small ring, and the scenario itself makes it lose frames
 #   redact   by the recorder only, which redacts payloads
 #   stacks   by the recorder only, which takes stacks, with programs that keep frame pointers; `program` is that program
@@ -69,15 +65,19 @@ background() { # SIGNAL: sent to the recorder after it has recorded some of a sc
 	cat $here/record.txt
 }
 
-wait_for() { # COMMAND..: until it succeeds
-	while ! "$@" 2>/dev/null; do sleep 0.2; done
+wait_for() { # COMMAND..: until it succeeds, or the program of the scenario has ended
+	while ! "$@" && kill -0 $program; do sleep 0.2; done 2>/dev/null
+}
+
+wait_for_begin() { # until the recording has begun, or there is no recorder
+	while ! grep -q ' begin ' $here/capture.side && kill -0 $recorder; do sleep 0.2; done 2>/dev/null
 }
 
 before() { # PROGRAM
 	$1 $scenario $here $number & program=$!
 	wait_for [ -e $here/ready ]
 	/record $more -o $here/capture 2>$here/record.txt & recorder=$!
-	wait_for grep -q ' begin ' $here/capture.side
+	wait_for_begin
 	sleep 1
 	touch $here/go
 	wait_for [ -e $here/rested ]
@@ -93,9 +93,9 @@ before() { # PROGRAM
 
 live() { # PROGRAM
 	/record $more -o $here/capture 2>$here/record.txt & recorder=$!
-	wait_for grep -q ' begin ' $here/capture.side
+	wait_for_begin
 	$1 $scenario $here $number & program=$!
-	while [ ! -e $here/rested ] && kill -0 $program 2>/dev/null; do sleep 0.2; done
+	wait_for [ -e $here/rested ]
 	kill -TERM $recorder
 	wait $recorder
 	touch $here/stop
@@ -190,21 +190,12 @@ play() {
 		return $status;;
 	record) /record $more -o $here/capture -- /scenarios.static $scenario $here $number;;
 	record32) /record $more -o $here/capture -- /scenarios.32 $scenario $here $number;;
-	witness)
-		mkdir -p /witness/$name
-		WITNESS=/witness/$name LD_PRELOAD=/witness.so /scenarios $scenario $here $number
-		status=$?
-		rm -rf /witness/$name
-		return $status;;
 	narrow) /record $more --ring 65536 -o $here/capture -- /scenarios.static $scenario $here $number;;
-	recorded) /record $more -o $here/capture -- /scenarios $scenario $here $number;;
 	redact) /record --redact -o $here/capture -- /scenarios.static $scenario $here $number;;
 	stacks) with_stacks /scenarios.framed;;
 	frameless) with_stacks /scenarios;;
 	flight) newest_files 131072 count_files;;
 	hoard) newest_files 8388608 watch_memory;;
-	opens) /opens $scenario $number;;
-	bare) /scenarios $scenario $here $number;;
 	late) background TERM;;
 	before) before /scenarios.static;;
 	blind) /record $more -o $here/capture -- /blind $scenario $here $number;;
