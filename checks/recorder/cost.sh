@@ -1,6 +1,7 @@
 #!/usr/bin/env bash
 # Measures what recording costs, on Debian's 6.1 kernel in QEMU, and prints a table; it is run by hand. A client makes
-# calls to a service (cost/calls.c), bare, recorded, and recorded with stacks:
+# calls to a service (cost/calls.c), bare, recorded, and recorded with stacks; and files of no driver are opened, bare
+# and looked at by the recorder (cost/opens.c):
 #
 #   counted  QEMU counts the instructions of the kernel between the first call and the last (cost/count.c), while the
 #            recorder's loader is stopped, on one processor and on four. On one, the guest's clock counts instructions
@@ -63,7 +64,9 @@ make_initramfs() { # GUEST TO
   ln -s busybox "$top/bin/sh"
   # It keeps frame pointers, for the stacks.
   "$compiler" -O2 -fno-omit-frame-pointer -Wall -Wextra -Werror -static "-I$scenarios" -o "$top/calls" \
-    "$cost/calls.c" "$scenarios"/{raw,send,processes}.c
+    "$cost"/{calls,mark}.c "$scenarios"/{raw,send,processes}.c
+  "$compiler_of_recorder" -O2 -std=gnu11 -Wall -Wextra -Werror -static "-I$root/recorder" -isystem "${recorder%/*}" \
+    -o "$top/opens" "$cost"/{opens,mark}.c "$root/recorder/common.c" -lbpf -lelf -lz
   file=$(module_files "$kernel" binder_linux)
   [[ -n $file ]] || stop 'the kernel has no module of the Binder driver'
   cp -- "$file" "$top/modules/"
@@ -89,7 +92,9 @@ play() { # GUEST
   fetch_kernel 6.1 || stop "the registry has no kernel 6.1 for $architecture"
   if [[ $machine == aarch64 ]]; then
     build_recorder_for_arm64 || stop 'the recorder for arm64 was not built'
+    compiler_of_recorder=$room/compiler-arm64
   else
+    compiler_of_recorder=$compiler
     recorder=$("$root/recorder/program.sh") busybox=$(command -v busybox)
   fi
   settings_of "$1"

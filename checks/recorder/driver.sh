@@ -19,13 +19,12 @@
 #     --stacks           records all scenarios with --stacks, but for those with --redact
 #     --append WORDS     more words for the kernel's command line
 #     --kvm              uses KVM, and not QEMU's own translator
-#     --cost             also measures what recording costs: bare, with the recorder, and with the witness
 #     --arm64            also plays a few scenarios on Debian's kernel for arm64, with a recorder built for it
 #     --sanitize         runs the recorder under the address and undefined-behaviour sanitizers; they must find nothing
 #     --store            also renews samples/driver from the results of the newest kernel; with --rust some of them, as
 #                        NAME-rust
 #     --blind [SET]      records the sessions of a blind test set instead, by default of `blind`, and judges nothing:
-#                        blind/play.sh. The other set is `unseen`
+#                        blind/play.sh. The other sets are `unseen` and `third`
 #
 # If a comparison fails, it says which one and ends with status 1.
 set -euo pipefail
@@ -34,7 +33,7 @@ here=$(readlink -f -- "${BASH_SOURCE[0]}")
 root=${here%/*/*/*}
 scenarios=$root/checks/recorder/scenarios check=driver
 limit=900 flight=20 room= recorder= auditor= built= append= words_of_recorder=
-cost= store= arm64= rust= sanitize= blind=
+store= arm64= rust= sanitize= blind=
 # One thread for all processors: with a thread for each, the kernel 6.12 died of a breakpoint that it had removed.
 acceleration='-accel tcg,thread=single -cpu max'
 series=(6.1 6.12 newest)
@@ -60,7 +59,6 @@ while (($#)); do
   --stacks) words_of_recorder=--stacks ;;
   --append) append=$2 && shift ;;
   --kvm) acceleration='-accel kvm -cpu host' ;;
-  --cost) cost=1 ;;
   --arm64) arm64=1 ;;
   --sanitize) sanitize=1 ;;
   --store) store=1 ;;
@@ -138,13 +136,6 @@ build_programs() {
     gcc -m32 -isystem /usr/include/x86_64-linux-gnu "${flags[@]}" -Wno-pointer-to-int-cast -Wno-int-to-pointer-cast \
       -static -o "$programs/scenarios.32" "${source[@]}" -lpthread
   fi
-}
-
-# What is measured with --cost, and needs the recorder's programs for the kernel.
-build_opens() {
-  "$root/recorder/build.sh" "$room/skeleton" &&
-    gcc -O2 -std=gnu11 -static -Wall -Wextra -Werror "-I$root/recorder" -isystem "$room/skeleton" \
-      -o "$programs/opens" "$scenarios/opens.c" -lbpf -lelf -lz
 }
 
 # libgbinder of Debian sid, what it needs, and a service and a client on it: a library that was not written for the
@@ -244,7 +235,6 @@ if [[ -n $built ]]; then take_programs "$(readlink -f -- "$built")"; fi
 if [[ -z $auditor ]]; then auditor=$root/crates/binder_audit/out/binder_audit; fi
 build_programs
 build_clients || stop 'the clients on libgbinder were not built'
-if [[ -n $cost ]]; then build_opens || stop 'the program that opens files was not built'; fi
 
 # What is refused before a kernel is needed: a side list that is in the way, be it a FIFO that nobody writes to, and a
 # build by root in a folder of another user.
@@ -297,14 +287,6 @@ for one in "${series[@]}"; do
   elif [[ -n $store && $one == rust ]]; then
     python3 -m checks.recorder.driver.store "$auditor" "$room/out-$one" "$root/samples/driver" \
       -rust "${stored_of_rust[@]}"
-  fi
-  if ((found > 1)); then continue; fi
-  if [[ -n $cost ]]; then
-    plan plan-cost.txt >"$room/plan"
-    emulator=${emulator/thread=single/thread=multi}	# so that recorder and load run at once, as on a real machine
-    boot "$kernel" "$room/plan" "$room/cost-$one" "$append"
-    as_machine x86_64
-    python3 -m checks.recorder.driver.cost "$room/cost-$one" || status=1
   fi
 done
 ((found)) || stop 'no kernel was found'

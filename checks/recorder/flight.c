@@ -5,6 +5,7 @@
 #include "drivers.h"
 #include "kernel.h"
 #include "kit.h"
+#include "lack.h"
 #include "names.h"
 #include "needs.h"
 #include <fcntl.h>
@@ -139,7 +140,16 @@ int __wrap_clock_gettime(clockid_t clock, struct timespec *time)
 
 void need_space(const char *out, u64 most) { (void)out, (void)most; }
 void need_capabilities(void) {}
-void need_kernel(void) {}
+
+/* With LACKING in the environment, two things are missing. */
+void need_kernel(void)
+{
+	if (!getenv("LACKING"))
+		return;
+	lack("one thing is missing");
+	lack("another one is missing");
+}
+
 void need_no_lockdown(void) {}
 int need_driver(void) { return 1; }
 int need_tracefs(void) { return 1; }

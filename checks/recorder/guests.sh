@@ -76,8 +76,8 @@ fetch_kernel() { # SERIES, or newest
   open_packages "$kernel" "$package" $parts
 }
 
-# The recorder for arm64, built with the cross compiler and Debian's libraries.
-build_recorder_for_arm64() {
+# A compiler for arm64, which finds Debian's libraries.
+make_compiler_for_arm64() {
   local folder=$room/libraries-arm64
   [[ -e $folder/opened ]] || { use_lists bookworm && open_packages "$folder" busybox-static libbpf-dev libelf-dev \
     zlib1g-dev libb2-dev; } || return 1
@@ -87,9 +87,13 @@ build_recorder_for_arm64() {
       "$folder/usr/include/aarch64-linux-gnu" "$folder/usr/lib/aarch64-linux-gnu"
   } >"$room/compiler-arm64"
   chmod +x -- "$room/compiler-arm64"
-  CC=$room/compiler-arm64 "$root/recorder/build.sh" --machine aarch64 "$room/recorder-arm64" || return 1
-  recorder=$room/recorder-arm64/record
   busybox=$folder/bin/busybox
+}
+
+build_recorder_for_arm64() {
+  make_compiler_for_arm64 &&
+    CC=$room/compiler-arm64 "$root/recorder/build.sh" --machine aarch64 "$room/recorder-arm64" || return 1
+  recorder=$room/recorder-arm64/record
 }
 
 module_files() { # KERNEL NAME..

@@ -91,6 +91,15 @@ fetch_adb() { # RELEASE
 
 # ---- the guest
 
+# The recorder for the guest; a package has its own.
+build_recorder() {
+  if [[ $machine == aarch64 ]]; then
+    make_compiler_for_arm64 || return 1
+    export CC_FOR_ARM64=$room/compiler-arm64
+  fi
+  [[ $record != "$root/record" ]] || "$root/recorder/program.sh" "$machine" >/dev/null
+}
+
 build_programs() {
   local flags=(-O2 -Wall -Wextra -Werror -static "-I$scenarios") raw=("$scenarios"/{raw,send,processes}.c)
   programs=$room/phone-$architecture
@@ -178,6 +187,7 @@ play() { # GUEST
   open_with_all sid "$room/adbd-$architecture" adbd busybox-static toybox mksh ||
     stop "the registry has no adbd for $architecture"
   build_programs
+  build_recorder || stop "the recorder for $architecture was not built"
   boot "$kernel" "$shell" "$policy" "$console"
   wait_for_guest "$console"
   rm -rf -- "$out" && mkdir -p -- "$out"
@@ -191,12 +201,6 @@ play() { # GUEST
 
 as_machine x86_64
 fetch_adb sid && fetch_adb bookworm || stop 'the registry has no adb'
-as_machine aarch64
-build_recorder_for_arm64 || stop 'the recorder for arm64 was not built'
-export CC_FOR_ARM64=$room/compiler-arm64
-if [[ $record == "$root/record" ]]; then
-  for machine in x86_64 aarch64; do "$root/recorder/program.sh" "$machine" >/dev/null; done
-fi
 status=0
 for guest in "${guests[@]}"; do play "$guest"; done
 exit "$status"
