@@ -1,8 +1,9 @@
 """Numbers as words: for the page, and for the notes of the rules."""
 
 import errno
-import hashlib
 import re
+# As hashlib has it, which loads OpenSSL too: that takes longer than all keys of a small capture.
+from _blake2 import blake2s
 
 
 def signed(unsigned: int) -> int:
@@ -73,4 +74,4 @@ def likeness(path: str, *processes: str | None) -> str:
 
 def defect_key(kind: str, who: str, path: str) -> str:
     """The key of a defect, of 16 hexadecimal digits."""
-    return hashlib.blake2s("\t".join((kind, who, path)).encode(), digest_size=8).hexdigest()
+    return blake2s("\t".join((kind, who, path)).encode(), digest_size=8).hexdigest()

@@ -17,7 +17,7 @@ TIMES = ("LONG", "VERY_LONG")
 def rows(text: str) -> Iterator[list[str]]:
     """The rows of the tables of rules: rule, verdict, sentence, thresholds and session."""
     for line in text.splitlines():
-        if re.match(r"\| [A-Z]\d \| ", line):
+        if re.match(r"\| [A-Z]\d+ \| ", line):
             yield [cell.strip() for cell in line.strip("|").split("|")]
 
 

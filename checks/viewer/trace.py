@@ -34,8 +34,8 @@ list, of one device and of two, in parts and malformed:
 - With the names of Android each transaction and its delivery have them, and say what is called.
 - A narrowed timeline has the slices of its thread, process and frames, and the counters of the whole one.
 - Names from a stranger are data. An existing file is not overwritten; only the owner can read a timeline; SIGTERM and
-  a full disk leave nothing; a malformed capture has what comes before its fault, and status 2. The processes that read
-  the database and find the events end with the timeline, also if it was killed.
+  a full disk leave nothing; a malformed capture has what comes before its fault, and status 2. The process that reads
+  the database ends with the timeline, also if it was killed.
 
 TRACE_PROCESSOR is trace_processor_shell of Perfetto 56, or a script that calls it; the system trace is made by hand.
 TRACE_VIEWER is the file trace_viewer_full.html of Catapult, with webcomponents.min.js beside it. Debian's package
@@ -60,7 +60,7 @@ from unittest import mock
 from checks.kit.captures import *
 from checks.kit.checking import Fail, check, compare, run_parts
 from checks.kit.programs import AUDITOR, DRIVER, ROOT, built_programs
-from checks.viewer.page.common import loaded, stored, texts_stored, timeline_of, view
+from checks.viewer.page.common import loaded, on_one_clock, stored, texts_stored, timeline_of, view
 from checks.viewer.timeline.browser import Pictured, make_picture, read_in_chromium
 from checks.viewer.timeline.compared import CERTAIN, SLICES, check_json, check_packets, places
 from checks.viewer.timeline.cost import print_cost
@@ -80,7 +80,7 @@ WITHOUT_SIDE = (("two-devices.cap",), ("rotated-1.cap", "rotated-2.cap"), ("refu
 
 WITH_FILES = {name: ([DRIVER / name / "capture-1.cap"], DRIVER / name / "capture.side") for name in WITH_SIDE}
 
-PICTURED = Pictured("chain", 4084, 8, 23)
+PICTURED = Pictured("chain", 4084, 13, 29)
 
 def written(database: sqlite3.Connection, path: pathlib.Path, is_android: bool = False, **window: int) -> pathlib.Path:
     path.unlink(missing_ok=True)
@@ -195,8 +195,8 @@ def check_narrow(what: str, database: sqlite3.Connection, path: pathlib.Path, fa
                                                    "the call around it ended"} <=
                 ({"after --to"} if "last" in window else {"open at the end"}), True, fail)
         after, = database.execute("SELECT min(ts) FROM frame WHERE seq > ?", (window.get("last", last),)).fetchone()
-        compare(f"{what}, {window}, when it ends", {s.end for s in read.slices if s.args.get("end") == "after --to"}
-                <= {after}, True, fail)
+        cut = {s.end - read.shift for s in read.slices if s.args.get("end") == "after --to"}
+        compare(f"{what}, {window}, when it ends", cut <= {after}, True, fail)
         shown = {upid for upid, process, thread in database.execute("SELECT upid, process, thread FROM thread")
                  if (window.get("process", process), window.get("thread", thread)) == (process, thread)}
         if "last" not in window:
@@ -331,9 +331,9 @@ def check_hostile(folder: pathlib.Path, room: pathlib.Path, fail: Fail) -> None:
             fail)
     name = HOSTILE.replace("\\x09", "\t").replace("\\x0a", "\n")
     compare("hostile names", sorted(pid for (kind, pid, _), told in json.names.items()
-                                    if told == name and kind == "process_name"), [143, 146], fail)
+                                    if told == name and kind == "process_name"), [173, 176], fail)
     compare("hostile names of threads", sorted(tid for (_, tid), told in packets.tids.items() if told == name),
-            [143, 146], fail)
+            [173, 176], fail)
     database.close()
 
 
@@ -343,17 +343,18 @@ AHEAD, SLEPT = 5_000_000_123, 50_000_000_000
 def check_clock(folder: pathlib.Path, room: pathlib.Path, fail: Fail) -> None:
     """With CLOCK_BOOTTIME in the side list all times of JSON are on that clock, as far as it was ahead then: more after
     a sleep. Nothing else is another. In Perfetto's format the times stay, and it says what the clocks showed."""
-    lines = texts_stored("leaks")[1].splitlines()
+    side = on_one_clock(texts_stored("leaks")[1])
+    lines = side.splitlines()
     begin = next(int(line.split()[0]) for line in lines if " begin " in line)
     woke = begin + 800_000_000
     for name, more in (("awake", []), ("slept", [f"{woke} clocks realtime=7 boottime={woke + AHEAD + SLEPT}",
                                                  f"{woke + 1} later words=of a newer list"])):
         told = [line.replace(" begin ", f" begin boottime={begin + AHEAD} ") for line in lines]
         (room / f"{name}.side").write_text("\n".join(told[:-1] + more + told[-1:]) + "\n")
+    (room / "plain.side").write_text(side)
     read: dict[str, tuple[ReadJson, ReadPackets]] = {}
-    for name, side in (("plain", DRIVER / "leaks/capture.side"), ("awake", room / "awake.side"),
-                       ("slept", room / "slept.side")):
-        database = loaded(folder, room / f"{name}.db", [DRIVER / "leaks/capture-1.cap"], side)
+    for name in "plain", "awake", "slept":
+        database = loaded(folder, room / f"{name}.db", [DRIVER / "leaks/capture-1.cap"], room / f"{name}.side")
         read[name] = ReadJson(written(database, room / "clock.json.gz"), database, fail), \
             ReadPackets(written(database, room / "clock.pftrace"), database, fail)
         database.close()
@@ -378,7 +379,8 @@ def check_clock(folder: pathlib.Path, room: pathlib.Path, fail: Fail) -> None:
 
 def check_early(folder: pathlib.Path, room: pathlib.Path, fail: Fail) -> None:
     """A delivery of a certain pair that was timed before its send is put at the time of its send, and counted."""
-    database = loaded(folder, room / "early.db", *WITH_FILES["threads"])
+    capture, _, side = stored("lookups")
+    database = loaded(folder, room / "early.db", [capture], side)
     pairs = database.execute(
         "SELECT s.place, s.ts, d.seq, (SELECT max(ts) FROM frame f WHERE f.utid = d.utid AND f.seq < d.seq) FROM send s"
         f" JOIN record d ON d.place = s.delivery WHERE s.place IN ({CERTAIN}) ORDER BY s.place").fetchall()
@@ -512,20 +514,16 @@ def check_reader(folder: pathlib.Path, room: pathlib.Path, fail: Fail) -> None:
     database.close()
 
 
-# Is killed while one process makes lists without end, and another one hands them on.
+# Is killed while another process makes lists without end.
 KILLED = """
 import os, signal
 from viewer.timeline.piped import Piped
 def make(send):
     while True:
         send([(0,)])
-with Piped(make) as made:
-    def hand_on(send):
-        for one in made:
-            send(one)
-    with Piped(hand_on) as lists:
-        next(lists)
-        os.kill(os.getpid(), signal.SIGKILL)
+with Piped(make) as lists:
+    next(lists)
+    os.kill(os.getpid(), signal.SIGKILL)
 """
 
 

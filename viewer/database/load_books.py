@@ -8,18 +8,8 @@ from collections import Counter, defaultdict
 from typing import Iterator, NamedTuple
 
 from viewer.database.books import Counts, Opening, Transaction, state, stats
+from viewer.database.side_list import Copy
 from viewer.units import signed
-
-
-class Copy(NamedTuple):
-    """A copy, as the side list names it: when, which book, the last number before it was made and the last one when it
-    was there, its time and its length."""
-    moment: str
-    what: str
-    from_seq: int
-    after: int
-    ts: int
-    size: int
 
 
 class Matched(NamedTuple):

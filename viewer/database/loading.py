@@ -7,7 +7,6 @@ import sqlite3
 import struct
 from typing import Callable
 
-from viewer.database import load_books
 from viewer.database.programs import answer, before_fault, build_programs, fault_in
 from viewer.database.raw_tables import load_rows
 from viewer.database.report import load_findings, load_report
@@ -16,7 +15,6 @@ from viewer.database.sqlite import named_numbers, open_database
 from viewer.files import Stopped, refuse_unreadable
 from viewer.methods.known import Methods, load_methods
 from viewer.program_names import called
-from viewer.rules import agreement
 from viewer.rules.judging import judge
 
 # ---- the names of interfaces and of services
@@ -86,7 +84,9 @@ def fill(database: sqlite3.Connection, files: list[str], side: str | None, repor
     if side is not None:
         taken.load(side)
         taken.judge()
-        taken.facts["books_doubt"] = load_books.load(database, taken.copies, beside or [side], taken.met)
+        if taken.copies:
+            from viewer.database import load_books
+            taken.facts["books_doubt"] = load_books.load(database, taken.copies, beside or [side], taken.met)
     load_report(database, report)
     load_facts(database, files, malformed, taken.facts if side is not None else {})
     load_findings(database)
@@ -96,6 +96,13 @@ def fill(database: sqlite3.Connection, files: list[str], side: str | None, repor
     database.execute("INSERT INTO capture VALUES ('methods', ?)", (len(methods or {}),))
     load_status(database, files)
     database.execute("COMMIT")
+
+
+def compare_with_books(database: sqlite3.Connection) -> None:
+    """Says where the report and the driver's books differ, if there are any."""
+    if database.execute("SELECT 1 FROM book").fetchone():
+        from viewer.rules import agreement
+        agreement.compare(database)
 
 
 def database_of(root: pathlib.Path, files: list[str], side: str | None, made: pathlib.Path,
@@ -124,6 +131,6 @@ def database_of(root: pathlib.Path, files: list[str], side: str | None, made: pa
     fill(database, files, side, report, malformed, methods, beside)
     report.unlink()
     judge(database)
-    agreement.compare(database)
+    compare_with_books(database)
     database.close()
     return malformed

@@ -4,9 +4,9 @@ import pathlib
 import re
 import shutil
 import sqlite3
-from typing import Iterable
+from typing import Iterable, NamedTuple
 
-from viewer.database import load_books, side_belongs
+from viewer.database import side_belongs
 from viewer.database.process_names import long_name
 from viewer.files import Stopped, for_owner
 from viewer.units import signed
@@ -36,6 +36,17 @@ def numbers(words: list[str], count: int) -> list[int]:
 
 
 # ---- the side list
+
+
+class Copy(NamedTuple):
+    """A copy of one of the driver's books, as the side list names it: when, which book, the last number before it was
+    made and the last one when it was there, its time and its length."""
+    moment: str
+    what: str
+    from_seq: int
+    after: int
+    ts: int
+    size: int
 
 
 # The longest name that is kept. Those of the system have at most 15 bytes, and command lines at most 256.
@@ -112,7 +123,7 @@ class SideList:
         self.calls: list[tuple[str, str]] = []
         self.frame: re.Match[str] | None = None
         self.told = 0
-        self.copies: list[load_books.Copy] = []
+        self.copies: list[Copy] = []
         self.met: dict[int, str] = {}
         self.drivers: dict[tuple[int, int], str] | None = None
 
@@ -226,8 +237,8 @@ class SideList:
 
     def take_books(self, time: int, positional: list[str], keyed: dict[str, str]) -> None:
         moment, what = positional[:2]
-        self.copies.append(load_books.Copy(moment, what, number(keyed["from"]), number(keyed["after"]), time,
-                                     number(keyed["bytes"])))
+        self.copies.append(Copy(moment, what, number(keyed["from"]), number(keyed["after"]), time,
+                                number(keyed["bytes"])))
 
     def take_thread(self, _: int, positional: list[str], keyed: dict[str, str]) -> None:
         self.database.execute("INSERT OR REPLACE INTO side_thread VALUES (?, ?, ?, ?, ?, NULL, NULL, NULL, ?)",

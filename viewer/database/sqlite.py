@@ -16,11 +16,11 @@ FRAME_HEADER, FILE_HEADER = 32, 16
 
 
 def statements_in(text: str) -> list[str]:
-    """The SQL statements of a text, one after another."""
+    """The SQL statements of a text, one after another. Each ends at the end of a line."""
     found, statement = [], ""
     for line in text.splitlines(keepends=True):
         statement += line
-        if sqlite3.complete_statement(statement):
+        if line.rstrip().endswith(";") and sqlite3.complete_statement(statement):
             found.append(statement)
             statement = ""
     return found

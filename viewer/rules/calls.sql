@@ -1,6 +1,6 @@
 -- A, C, T, U: calls and served calls that are open.
 -- needs: database/schema.sql: finding, raw_call, raw_delivery, raw_thread, side_time; nodes.sql: who; facts.sql:
---   from_before; ages.sql: ended, last, life, old; waits.sql: full_pool, lock_ring, pool, ring, waited, waits,
+--   from_before; ages.sql: ended, last, life, old; waits.sql: full_pool, lock_ring, pool, reach, ring, waited, waits,
 --   waits_for; rule.sql: lossy; pools.sql: full_wait; judging.py: counted, duration
 -- makes: nothing
 
@@ -46,15 +46,21 @@ WHERE rule IS NULL AND section = 'calls' AND what = 'open' AND l.place = finding
 UPDATE finding SET rule = 'U1' WHERE rule IS NULL AND section IN ('calls', 'served', 'books') AND what = 'open'
   AND n_good >= :ENOUGH AND coalesce(age <= :USUAL * longest, age_seq <= :USUAL * longest_seq);
 UPDATE finding SET rule = iif(upid IN (SELECT upid FROM lossy), 'M2', 'C6')
-WHERE rule IS NULL AND finding.id IN (SELECT id FROM old) AND finding.id IN (SELECT w.id FROM waited w WHERE w.by_pool)
-  AND EXISTS (SELECT 1 FROM finding q JOIN old o ON o.id = q.id WHERE q.rule = 'C7' AND q.age > :VERY_LONG);
+WHERE rule IS NULL AND finding.id IN (SELECT id FROM old)
+  AND EXISTS (SELECT 1 FROM reach r JOIN waits x ON x.server_upid = -r.begin AND x.delivery IS NULL
+    JOIN finding q ON q.id = x.id JOIN old o ON o.id = q.id
+    WHERE r.at = finding.id AND r.begin < 0 AND q.rule = 'C7' AND q.age > :VERY_LONG);
 -- If frames of its target are missing, it may wait for another call there.
 UPDATE finding SET rule = iif(upid IN (SELECT upid FROM lossy) OR coalesce(target, 0) IN (SELECT upid FROM lossy), 'M2',
   'U2')
 WHERE rule IS NULL AND section IN ('calls', 'served') AND what = 'open' AND n_good >= :ENOUGH
   AND coalesce(age > max(:LONG, :OLD * longest), age_seq > :OLD * longest_seq);
+-- Several calls of one path that all wait longer than any that came to a good end are no chance.
 UPDATE finding SET rule = 'U6' WHERE rule IS NULL AND section IN ('calls', 'served') AND what = 'open' AND later = 0
-  AND age IS NOT NULL AND finding.id NOT IN (SELECT id FROM old);
+  AND age IS NOT NULL AND finding.id NOT IN (SELECT id FROM old)
+  AND finding.id NOT IN (SELECT id FROM (SELECT id, count(*) OVER (PARTITION BY section, path) AS n FROM finding
+      WHERE rule IS NULL AND section IN ('calls', 'served') AND what = 'open' AND n_good >= :ENOUGH
+        AND age > max(:VERY_LONG, :USUAL * longest)) WHERE n >= :OFTEN);
 UPDATE finding SET rule = 'C9' WHERE rule IS NULL AND id IN (SELECT id FROM lock_ring);
 UPDATE finding SET rule = 'B1' WHERE rule IS NULL AND section = 'books';
 UPDATE finding SET rule = iif(w.delivery IS NULL, 'C5', 'C4') FROM waits w WHERE rule IS NULL AND w.id = finding.id;

@@ -2,16 +2,16 @@
 -- needs: database/schema.sql: finding
 -- makes: temporary tables: of_death, led_by
 
--- What tells of a death, the strongest first: sends to the dead, references to it, the death that is not acknowledged,
--- and the clears that wait for that.
+-- What tells of a death, the strongest first: sends to the dead, a death of which the process acknowledges hardly any,
+-- references to the dead, another death that is not acknowledged, and the clears that wait for that.
 CREATE TEMP TABLE of_death AS
-WITH death AS (SELECT id, upid, cookie, place, coalesce('process ' || target, 'object ' || generation,
-    'cookie ' || cookie) AS dead FROM finding
+WITH death AS (SELECT id, upid, cookie, place, iif(rule = 'D8', 2, 4) AS rank,
+    coalesce('process ' || target, 'object ' || generation, 'cookie ' || cookie) AS dead FROM finding
   WHERE section = 'deaths' AND what = 'unacknowledged' AND rule <> 'L1')
-SELECT id, upid, coalesce('process ' || target, 'object ' || generation) AS dead, iif(rule = 'E1', 1, 2) AS rank, place
+SELECT id, upid, coalesce('process ' || target, 'object ' || generation) AS dead, iif(rule = 'E1', 1, 3) AS rank, place
 FROM finding WHERE rule IN ('E1', 'H3')
-UNION ALL SELECT id, upid, dead, 3, place FROM death
-UNION ALL SELECT f.id, f.upid, min(d.dead), 4, f.place FROM finding f JOIN death d USING (upid, cookie)
+UNION ALL SELECT id, upid, dead, rank, place FROM death
+UNION ALL SELECT f.id, f.upid, min(d.dead), 5, f.place FROM finding f JOIN death d USING (upid, cookie)
 WHERE f.section = 'clears' AND f.rule = 'D3' GROUP BY f.id;
 CREATE TEMP TABLE led_by AS
 SELECT id, rank, first FROM (SELECT id, rank, first_value(id) OVER of_one AS first, min(rank) OVER of_one AS first_rank

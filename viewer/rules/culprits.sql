@@ -9,7 +9,7 @@ WHERE w.id = finding.id AND rule IN ('B1', 'C3', 'C4', 'C5', 'C6', 'C7', 'C8', '
   AND (rule <> 'C3' OR w.delivery NOTNULL);
 -- What failed, or never came, because of its receiver: it ended, was frozen, gave a bad reply, or reads nothing.
 -- Who goes on calling what is frozen, causes that.
-UPDATE finding SET culprit = target WHERE rule IN ('E3', 'E4', 'E6', 'E8', 'E9', 'W2', 'W3')
+UPDATE finding SET culprit = target WHERE rule IN ('E3', 'E4', 'E6', 'E8', 'E9', 'E10', 'W2', 'W3')
   AND id NOT IN (SELECT id FROM in_freeze WHERE n >= :OFTEN);
 -- If there is no space for oneway sends: the receiver, if it got most of what is in the way and frees nothing of that,
 -- and else the process that sent most of it.

@@ -1,6 +1,6 @@
--- D3, D4, D6, T, U: deaths and clears.
--- needs: database/schema.sql: finding; facts.sql: dead_record; ages.sql: begun, ended, leaving, old, process_life;
---   rule.sql: lossy
+-- D3, D4, D6, D8, T, U: deaths and clears.
+-- needs: database/schema.sql: finding; facts.sql: dead_record, given; ages.sql: begun, ended, leaving, old,
+--   process_life; rule.sql: lossy
 -- makes: temporary tables: balance, begun_death; indexes: balance_at
 
 UPDATE finding SET rule = 'D3', note = 'the one at ' || d.place FROM finding d
@@ -11,6 +11,13 @@ UPDATE finding SET rule = CASE WHEN later = 0 AND finding.id IN (SELECT id FROM 
   WHEN finding.upid IN (SELECT upid FROM lossy) THEN 'M1' WHEN later > 1 THEN 'U4'
   WHEN finding.id IN (SELECT id FROM old) THEN 'U5' ELSE 'U6' END
 WHERE rule IS NULL AND section IN ('deaths', 'clears') AND what IN ('unacknowledged', 'unconfirmed');
+-- A process that acknowledges hardly any of the deaths that it was told.
+UPDATE finding SET rule = 'D8'
+FROM (SELECT f.upid FROM finding f WHERE f.rule = 'U4' AND f.section = 'deaths' GROUP BY 1
+  HAVING count(*) >= :OFTEN AND count(*) >= :NEARLY_ALL * (SELECT count(*) FROM dead_record d
+    WHERE d.upid = f.upid AND d.kind = :BR_DEAD_BINDER)) p
+WHERE rule = 'U4' AND section = 'deaths' AND p.upid = finding.upid;
+UPDATE finding SET note = g.way FROM given g WHERE rule = 'D8' AND g.generation = finding.generation;
 -- Answers to deaths and clears. Several of one cookie may be under way at once, so those of a cookie are counted: an
 -- answer is one too many if it makes more answers than questions, and more than any answer before it.
 CREATE TEMP TABLE balance AS

@@ -25,7 +25,10 @@ UPDATE rule SET fault = CASE id
   WHEN 'H5' THEN 'references kept'
   WHEN 'H8' THEN 'references kept'
   WHEN 'H9' THEN 'references kept'
+  WHEN 'H10' THEN 'references kept'
+  WHEN 'H11' THEN 'references taken more than once'
   WHEN 'E9' THEN 'calls in which the server ended'
+  WHEN 'E10' THEN 'calls in which the server ended'
   WHEN 'F1' THEN 'buffers freed twice'
   WHEN 'D2' THEN 'second requests for a death'
   WHEN 'S1' THEN 'sends that were refused'
@@ -50,7 +53,7 @@ SELECT f.id, d.kind = 'BR_REPLY' AS reply, d.code, d.handle,
 FROM finding f JOIN handle h ON h.generation = f.generation JOIN delivery d ON d.place = h.given_by
   LEFT JOIN send a ON a.place = d.call AND d.kind = 'BR_REPLY' LEFT JOIN node_of n ON n.generation = a.generation
   LEFT JOIN send s ON s.place = d.send
-WHERE f.rule IN ('H5', 'H8', 'H9');
+WHERE f.rule IN ('H5', 'H8', 'H9', 'H10');
 
 -- What each finding is about: a call, by its code and its node, and how the finding belongs to it; or a handle, a node
 -- or an address. If the node of a call or a handle is not known, upid has the process that holds it with a minus, and
@@ -130,4 +133,4 @@ INSERT INTO finding_defect
 SELECT id, defect_key(kind, who, coalesce(path, '')) FROM told;
 CREATE INDEX finding_of_defect ON finding_defect(defect);
 
-INSERT INTO capture VALUES ('prints', 2);
+INSERT INTO capture VALUES ('prints', 3);

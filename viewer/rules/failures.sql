@@ -17,16 +17,20 @@ CREATE UNIQUE INDEX temp.failure_of ON failure(id);
 -- The first news that an object has ended: of its death, or by BR_DEAD_REPLY. One thread reads it while others send,
 -- and a process may keep the handle in several places: a single send of a thread with a code soon after says nothing.
 CREATE TEMP TABLE too_late AS
-SELECT e.id, n.rule, n.place, count(*) OVER (PARTITION BY n.rule, e.generation, e.utid, f.code) > 1 OR coalesce(
-    (SELECT ts FROM side_time x JOIN raw_record r USING (seq) WHERE r.place = e.place)
-    - (SELECT ts FROM side_time x JOIN raw_record r USING (seq) WHERE r.place = n.place) > :VERY_LONG, 0) AS certain
-FROM failure e JOIN finding f USING (id)
-  JOIN (SELECT 'E1' AS rule, generation, min(place) AS place FROM told_death GROUP BY 2
-    UNION ALL SELECT 'E2', generation, min(reply) FROM failure WHERE kind = :BR_DEAD_REPLY GROUP BY 2) n
-  ON n.generation = e.generation
-WHERE e.kind = :BR_DEAD_REPLY AND n.place < e.place;
-UPDATE finding SET rule = t.rule, note = 'told at ' || t.place
-FROM (SELECT id, min(rule) AS rule, place FROM too_late WHERE certain GROUP BY id) t
+SELECT id, rule, place, n > 1 OR coalesce(since > :VERY_LONG, 0) AS certain,
+  n >= :TOO_MANY AND coalesce(longest > :VERY_LONG, 0) AS goes_on
+FROM (SELECT e.id, n.rule, n.place, count(*) OVER alike AS n, x.ts - y.ts AS since,
+    max(x.ts - y.ts) OVER alike AS longest
+  FROM failure e JOIN finding f USING (id)
+    JOIN (SELECT 'E1' AS rule, generation, min(place) AS place FROM told_death GROUP BY 2
+      UNION ALL SELECT 'E2', generation, min(reply) FROM failure WHERE kind = :BR_DEAD_REPLY GROUP BY 2) n
+    ON n.generation = e.generation
+    JOIN raw_record s ON s.place = e.place JOIN raw_record t ON t.place = n.place
+    LEFT JOIN side_time x ON x.seq = s.seq LEFT JOIN side_time y ON y.seq = t.seq
+  WHERE e.kind = :BR_DEAD_REPLY AND n.place < e.place
+  WINDOW alike AS (PARTITION BY n.rule, e.generation, e.utid, f.code));
+UPDATE finding SET rule = iif(t.rule = 'E2' AND t.goes_on, 'E11', t.rule), note = 'told at ' || t.place
+FROM (SELECT id, min(rule) AS rule, place, goes_on FROM too_late WHERE certain GROUP BY id) t
 WHERE finding.rule IS NULL AND t.id = finding.id;
 -- A process that was frozen gets no calls until it is thawed.
 CREATE TEMP TABLE got_call AS
@@ -34,14 +38,18 @@ SELECT t.upid, c.place FROM (SELECT 1 FROM failure WHERE kind = :BR_FROZEN_REPLY
   JOIN raw_thread t USING (utid)
 WHERE c.served AND t.upid IN (SELECT target FROM failure e JOIN finding f USING (id) WHERE e.kind = :BR_FROZEN_REPLY);
 CREATE INDEX temp.got_call_by ON got_call(upid, place);
--- How many calls of its thread were refused in the same freeze: up to the same call that the process got, or the end.
+-- How many calls of its thread were refused in the same freeze, up to the same call that the process got or the end,
+-- and for how long.
 CREATE TEMP TABLE in_freeze AS
-SELECT id, thawed, count(*) OVER (PARTITION BY utid, target, thawed) AS n
+SELECT id, thawed, count(*) OVER one AS n, max(ts) OVER one - min(ts) OVER one AS lasted
 FROM (SELECT e.id, e.utid, f.target, (SELECT min(c.place) FROM got_call c WHERE c.upid = f.target AND c.place > e.reply)
-    AS thawed FROM failure e JOIN finding f USING (id) WHERE e.kind = :BR_FROZEN_REPLY AND f.target NOTNULL);
+    AS thawed, x.ts FROM failure e JOIN finding f USING (id) LEFT JOIN side_time x ON x.seq = f.seq
+  WHERE e.kind = :BR_FROZEN_REPLY AND f.target NOTNULL)
+WINDOW one AS (PARTITION BY utid, target, thawed);
 CREATE UNIQUE INDEX temp.in_freeze_of ON in_freeze(id);
-UPDATE finding SET rule = 'E4', note = 'one of ' || counted(n, 'call') || ' that its thread made while '
-  || (SELECT who FROM who WHERE upid = target) || ' was frozen'
+UPDATE finding SET rule = iif(n >= :TOO_MANY AND coalesce(lasted > :VERY_LONG, 0), 'E12', 'E4'),
+  note = 'one of ' || counted(n, 'call') || ' that its thread made while '
+    || (SELECT who FROM who WHERE upid = target) || ' was frozen'
 FROM in_freeze z WHERE rule IS NULL AND z.id = finding.id AND n >= :OFTEN;
 UPDATE finding SET rule = 'E8',
   note = (SELECT who FROM who WHERE upid = target) || ' was frozen, and got a call again at ' || thawed

@@ -31,11 +31,13 @@ INSERT INTO title VALUES
   ('H3', 'handles', NULL, 'references to an object told dead'),
   ('H4', 'handles', NULL, 'references taken more than once'), ('H5', 'handles', NULL, 'references kept'),
   ('H8', 'handles', NULL, 'references kept'), ('H9', 'handles', NULL, 'references kept'),
+  ('H10', 'handles', NULL, 'references kept'), ('H11', 'handles', NULL, 'references taken more than once'),
   ('U4', 'nodes', NULL, 'references never acknowledged'), ('U6', 'nodes', NULL, 'references not acknowledged yet'),
   ('T1', 'nodes', NULL, 'references not acknowledged yet'), ('F1', 'frees', NULL, 'buffers freed twice'),
   ('C6', NULL, NULL, 'calls that keep a pool busy'), ('S1', NULL, NULL, 'sends that were refused'),
   ('S2', NULL, NULL, 'replies without a call'), (NULL, 'pools', NULL, 'pools that calls use up'),
   (NULL, 'books', NULL, 'calls open throughout'), ('E9', NULL, NULL, 'calls in which the server ended'),
+  ('E10', NULL, NULL, 'calls in which the server ended'),
   (NULL, 'queues', NULL, 'oneway sends that wait longer and longer');
 
 -- The group of each finding, named by its leading finding: an open call leads its served end and its buffer.
@@ -49,7 +51,7 @@ SELECT f.id, f.path, likeness(f.path, t.who, p.name, o.who, q.name, s.who, x.nam
     ORDER BY t.rule IS NULL, t.what IS NULL LIMIT 1) AS title
 FROM finding f JOIN rule r ON r.id = f.rule LEFT JOIN who t ON t.upid = f.target
   LEFT JOIN process p ON p.upid = f.target LEFT JOIN who o ON o.upid = f.upid LEFT JOIN process q ON q.upid = f.upid
-  LEFT JOIN given v ON v.generation = f.generation AND f.rule IN ('H5', 'H6', 'H8', 'H9')
+  LEFT JOIN given v ON v.generation = f.generation AND f.rule IN ('H5', 'H6', 'H8', 'H9', 'H10')
   LEFT JOIN who s ON s.upid = v.sender LEFT JOIN process x ON x.upid = v.sender
 WHERE f.lead IS NULL;
 -- What is real and what is maybe on like paths is one group, with the strongest verdict of its findings.
@@ -86,7 +88,7 @@ CREATE TABLE finding_group(grp INTEGER PRIMARY KEY, verdict TEXT NOT NULL, title
 INSERT INTO finding_group
 SELECT h.grp, CASE k.rank WHEN 1 THEN 'real' WHEN 2 THEN 'maybe' WHEN 3 THEN 'explained' ELSE 'normal' END, n.title,
   iif(min(iif(f.lead IS NULL, f.path, NULL)) = max(iif(f.lead IS NULL, f.path, NULL)), n.path, o.likeness)
-    || iif(count(DISTINCT iif(f.lead IS NULL, f.upid, NULL)) > 1 AND (n.rule IN ('H5', 'H8', 'H9')
+    || iif(count(DISTINCT iif(f.lead IS NULL, f.upid, NULL)) > 1 AND (n.rule IN ('H5', 'H8', 'H9', 'H10')
       OR min(iif(f.lead IS NULL, f.path, NULL)) <> max(iif(f.lead IS NULL, f.path, NULL))),
       ' in ' || count(DISTINCT iif(f.lead IS NULL, f.upid, NULL)) || ' processes', ''),
   sum(f.lead IS NULL), s.n_all,
@@ -102,9 +104,9 @@ UPDATE finding_group SET note = (SELECT f.note FROM finding_head h JOIN finding 
 -- And what else came of the deaths that its findings tell of.
 UPDATE finding_group SET note = coalesce(note || '; ', '') || l.told
 FROM (SELECT grp, 'with ' || group_concat(CASE rank
-    WHEN 2 THEN counted(n, 'reference to the dead', 'references to the dead')
-    WHEN 3 THEN counted(n, 'death not acknowledged', 'deaths not acknowledged')
-    ELSE counted(n, 'clear not confirmed', 'clears not confirmed') END, ' and ') AS told
+    WHEN 3 THEN counted(n, 'reference to the dead', 'references to the dead')
+    WHEN 5 THEN counted(n, 'clear not confirmed', 'clears not confirmed')
+    ELSE counted(n, 'death not acknowledged', 'deaths not acknowledged') END, ' and ') AS told
   FROM (SELECT h.grp, l.rank, count(*) AS n FROM led_by l JOIN finding_head h USING (id) GROUP BY 1, 2 ORDER BY 1, 2)
   GROUP BY 1) l WHERE l.grp = finding_group.grp;
 

@@ -1,9 +1,10 @@
--- H3 to H9, T, U: references to handles and nodes that are held, and those that are balanced.
+-- H3 to H11, T, U: references to handles and nodes that are held, and those that are balanced.
 -- needs: database/schema.sql: finding, raw_generation, raw_record, raw_thread, side_time; nodes.sql: who; facts.sql:
---   given, given_way, told_death; ages.sql: ended, last, leaving, process_life; rule.sql: lossy; handles.sql:
---   handle_row; ways.sql: earlier, kept_handle, kept_way, let_go, of_way; judging.py: counted, duration
--- makes: temporary tables: mourned, dead_way, taken_again, most_held, nearly_all, growing, cache, overdue,
---   kept_elsewhere; indexes: taken_again_of, most_held_of, cache_of
+--   given, given_way, told_death; ages.sql: ended, last, leaving, process_life; waits.sql: waits; rule.sql: lossy;
+--   handles.sql: handle_row; ways.sql: earlier, kept_handle, kept_way, let_go, of_way, recorded; judging.py: counted,
+--   duration
+-- makes: temporary tables: mourned, dead_way, taken_again, reference_change, most_held, more_references, nearly_all,
+--   growing, cache, overdue, kept_elsewhere; indexes: taken_again_of, most_held_of, more_references_of, cache_of
 
 -- The proxies of the dead go with the next collection of garbage: one is held for long after :VERY_LONG, and several
 -- after :LONG.
@@ -24,27 +25,45 @@ UPDATE finding SET note = note || '; ' || d.way || ': ' || d.n || ' of '
 FROM given v JOIN dead_way d USING (upid, way) WHERE rule = 'H3' AND v.generation = finding.generation;
 -- The most that a generation that is held had at once, if one thread took and let go of all. Records of several threads
 -- say nothing of that: one may write late that it let go, when another has taken it again. By these a generation has
--- more only if it has three now. A handle may have very many generations, of which at most one is held.
+-- more only if it has three now, besides one for each of them that is in a call, and may let go after it. A handle may
+-- have very many generations, of which at most one is held.
 CREATE TEMP TABLE taken_again AS
 SELECT id, upid, handle, begin, strong, weak FROM raw_generation
 WHERE strong + weak > 0 AND (acquired > 1 OR increfs > 1);
 CREATE INDEX temp.taken_again_of ON taken_again(upid, handle, begin);
+CREATE TEMP TABLE reference_change AS
+SELECT g.id AS generation, r.place, r.seq, r.utid, (r.kind = :BC_ACQUIRE) - (r.kind = :BC_RELEASE) AS strong,
+  (r.kind = :BC_INCREFS) - (r.kind = :BC_DECREFS) AS weak
+FROM (SELECT 1 FROM taken_again LIMIT 1) CROSS JOIN raw_record r CROSS JOIN raw_thread t USING (utid)
+  CROSS JOIN taken_again g ON g.upid = t.upid AND g.handle = r.handle AND g.begin <= r.place
+WHERE r.kind IN (:BC_INCREFS, :BC_ACQUIRE, :BC_RELEASE, :BC_DECREFS);
 CREATE TEMP TABLE most_held AS
-SELECT generation, iif(min(utid) = max(utid), max(strong), max(now_strong) - 1) AS strong,
-  iif(min(utid) = max(utid), max(weak), max(now_weak) - 1) AS weak
-FROM (SELECT g.id AS generation, g.strong AS now_strong, g.weak AS now_weak, r.utid,
-    sum((r.kind = :BC_ACQUIRE) - (r.kind = :BC_RELEASE)) OVER changes AS strong,
-    sum((r.kind = :BC_INCREFS) - (r.kind = :BC_DECREFS)) OVER changes AS weak
-  FROM (SELECT 1 FROM taken_again LIMIT 1) CROSS JOIN raw_record r CROSS JOIN raw_thread t USING (utid)
-    CROSS JOIN taken_again g ON g.upid = t.upid AND g.handle = r.handle AND g.begin <= r.place
-  WHERE r.kind IN (:BC_INCREFS, :BC_ACQUIRE, :BC_RELEASE, :BC_DECREFS)
-  WINDOW changes AS (PARTITION BY g.id ORDER BY r.place)) GROUP BY 1;
+SELECT generation, iif(min(utid) = max(utid), max(strong), max(now_strong) - 1 - count(DISTINCT calls)) AS strong,
+  iif(min(utid) = max(utid), max(weak), max(now_weak) - 1 - count(DISTINCT calls)) AS weak
+FROM (SELECT c.generation, g.strong AS now_strong, g.weak AS now_weak, c.utid,
+    iif(c.utid IN (SELECT utid FROM waits), c.utid, NULL) AS calls,
+    sum(c.strong) OVER changes AS strong, sum(c.weak) OVER changes AS weak
+  FROM reference_change c JOIN taken_again g ON g.id = c.generation
+  WINDOW changes AS (PARTITION BY c.generation ORDER BY c.place)) GROUP BY 1;
 CREATE UNIQUE INDEX temp.most_held_of ON most_held(generation);
-UPDATE finding SET rule = 'H4',
+-- Of which references become more to the end: how many there are at the half of what was recorded of the process, and
+-- at the end, if that is more by enough, and the last two quarters have each made it more.
+CREATE TEMP TABLE more_references AS
+SELECT generation, half || ' held at half of its time, ' || held || ' at the end' AS told
+FROM (SELECT generation, sum(n * (left >= :LATELY)) AS half, sum(n * (left >= :LATELY / 2)) AS later, sum(n) AS held
+  FROM (SELECT c.generation, iif(g.strong > 0, c.strong, c.weak) AS n,
+      coalesce(1.0 * (l.end_ts - x.ts) / (l.end_ts - l.first_ts), 1.0 * (l.end_seq - c.seq) / (l.end_seq - l.first_seq))
+        AS left
+    FROM reference_change c JOIN taken_again g ON g.id = c.generation JOIN recorded l USING (upid)
+      LEFT JOIN side_time x ON x.seq = c.seq) GROUP BY 1)
+WHERE held - half >= max(:TOO_MANY, :GROWTH * held) AND half < later AND later < held;
+CREATE UNIQUE INDEX temp.more_references_of ON more_references(generation);
+UPDATE finding SET rule = iif(o.told NOTNULL AND finding.upid NOT IN (SELECT upid FROM lossy), 'H11', 'H4'),
   note = iif(m.strong > 1 AND g.strong > 0,
     counted(g.acquired, 'time') || ', and let go of ' || counted(g.released, 'time'),
     counted(g.increfs, 'time') || ', weakly, and let go of ' || counted(g.decrefs, 'time'))
-FROM raw_generation g JOIN most_held m ON m.generation = g.id
+    || coalesce('; ' || o.told, '')
+FROM raw_generation g JOIN most_held m ON m.generation = g.id LEFT JOIN more_references o ON o.generation = g.id
 WHERE rule IS NULL AND section = 'handles' AND what = 'held' AND g.id = finding.generation
   AND (m.strong > 1 AND g.strong > 0 OR m.weak > 1 AND g.weak > 0);
 -- H5. One handle from each of many is registration, many from one may be a leak: the ways of which nearly all handles
@@ -62,7 +81,7 @@ FROM (SELECT o.way, coalesce(b.kept, 0) AS early,
     coalesce(b.later, 0) + sum(came_left >= :LATELY / 2 AND (o.kept OR went_left < :LATELY / 2)) AS later,
     coalesce(b.kept, 0) + sum(o.kept) AS kept
   FROM of_way o LEFT JOIN earlier b USING (way)
-  WHERE o.generation NOT IN (SELECT generation FROM finding WHERE rule IN ('H3', 'H4')) GROUP BY o.way)
+  WHERE o.generation NOT IN (SELECT generation FROM finding WHERE rule IN ('H3', 'H4', 'H11')) GROUP BY o.way)
 WHERE kept - half >= max(:MANY, :GROWTH * kept) AND half < later AND later < kept;
 -- But what is in use and does not grow is a cache, also one that goes on changing what it has: so the ways of it, with
 -- how many have no rule yet, and how many of these are in use.
@@ -87,6 +106,11 @@ UPDATE finding SET rule = 'H8', note = o.told FROM overdue o WHERE o.id = findin
 UPDATE finding SET rule = 'H9' FROM kept_handle k
 WHERE rule IS NULL AND section = 'handles' AND what = 'held' AND k.generation = finding.generation
   AND k.way IN (SELECT way FROM growing);
+-- H10. Many that are not used, and become more: no cache, and no design.
+UPDATE finding SET rule = 'H10' FROM kept_handle k
+WHERE rule IN ('H5', 'H8') AND k.generation = finding.generation AND NOT k.in_use
+  AND k.way IN (SELECT o.way FROM kept_handle o JOIN finding f USING (generation) JOIN growing USING (way)
+    WHERE f.rule IN ('H5', 'H8') AND NOT o.in_use GROUP BY 1 HAVING count(*) >= :TOO_MANY);
 -- What others keep that get replies to the same code says more.
 CREATE TEMP TABLE kept_elsewhere AS
 SELECT w.id AS way, (SELECT group_concat(who || ' keeps ' || kept || ' of ' || n, ', ')
@@ -94,12 +118,13 @@ SELECT w.id AS way, (SELECT group_concat(who || ' keeps ' || kept || ' of ' || n
     WHERE o.way = w.way AND o.sender = w.sender AND o.upid <> w.upid ORDER BY o.n DESC, o.upid LIMIT :NAMED)) AS told
 FROM kept_way w;
 -- What is said of a whole way. Where only some are kept, the missing frames may have let go of these.
-UPDATE finding SET rule = iif(rule <> 'H5' AND finding.upid IN (SELECT upid FROM lossy), 'M1', rule), code = g.code,
+UPDATE finding SET code = g.code, rule = CASE WHEN finding.upid NOT IN (SELECT upid FROM lossy) THEN rule
+    WHEN rule = 'H10' THEN 'M2' WHEN rule = 'H5' THEN rule ELSE 'M1' END,
   path = g.way || iif(g.reply, '', ' from ' || (SELECT who FROM who WHERE who.upid = g.sender)),
   note = nullif(ltrim(coalesce(note, '') || coalesce('; ' || w.told, '') || coalesce('; ' || e.told, ''), '; '), '')
 FROM kept_handle k JOIN given g USING (generation) LEFT JOIN growing w ON w.way = k.way
   LEFT JOIN kept_elsewhere e ON g.reply AND e.way = k.way
-WHERE rule IN ('H5', 'H8', 'H9') AND k.generation = finding.generation;
+WHERE rule IN ('H5', 'H8', 'H9', 'H10') AND k.generation = finding.generation;
 UPDATE finding SET rule = CASE WHEN later = 0 AND finding.id IN (SELECT id FROM ended)
     OR finding.id IN (SELECT id FROM leaving) THEN 'T1'
   WHEN finding.upid IN (SELECT upid FROM lossy) THEN 'M1' WHEN later > 1 THEN 'U4' ELSE 'U6' END

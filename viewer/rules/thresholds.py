@@ -18,9 +18,12 @@ THRESHOLDS = {
     # So many must have come to a good end before the longest of them says something (U1, U2), or how
     # those waited that came to a node (W4).
     "ENOUGH": 3,
-    # So many are no accident: of one path (U3, R1, E9), of one thread (E4) or process (H3), for one pool (Q1), or times
-    # that a thread went on (U2).
+    # So many are no accident: of one path (U3, R1, C4, E9, E10), of one thread (E4) or process (H3), for one pool (Q1),
+    # or times that a thread went on (U2).
     "OFTEN": 3,
+    # So many are no design: sends of one thread to what has ended or is frozen (E11, E12), unused handles of one way
+    # (H10) and references to one object (H11) that become more to the end.
+    "TOO_MANY": 10,
     # This share of a path is nearly all of it (U3, R1, H5); so is that of a time for which loopers were busy, and the
     # rest of it is enough for a method to be named (Q1, Q2).
     "NEARLY_ALL": 0.8,

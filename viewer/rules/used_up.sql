@@ -1,8 +1,8 @@
 -- Q: pools that are used up, which are findings of their own, one for each server.
 -- needs: database/schema.sql: finding, raw_call, raw_delivery, raw_record, raw_send, raw_thread, side_time; nodes.sql:
---   who; ages.sql: process_life; waits.sql: holder; pools.sql: full_wait, kept_by, kept_by_method, kept_for;
+--   who; ages.sql: process_life; waits.sql: holder, step; pools.sql: full_wait, kept_by, kept_by_method, kept_for;
 --   judging.py: counted, duration, service_name
--- makes: temporary tables: usual_wait, used_up
+-- makes: temporary tables: usual_wait, told_by_call, used_up
 
 -- The median of the waits of all calls to these servers.
 CREATE TEMP TABLE usual_wait AS
@@ -15,12 +15,18 @@ FROM (SELECT server, dur, row_number() OVER (PARTITION BY server ORDER BY dur) A
       JOIN side_time y ON y.seq = v.seq
     WHERE v.served AND v.depth = 1 AND s.certain AND t.upid IN (SELECT server FROM full_wait)))
 WHERE nth = (n + 1) / 2;
--- If a call keeps the pool busy to the end, or is in a ring, that call is the finding.
+-- If a call keeps the pool busy to the end, or is in a ring, that call is the finding, also where the loopers wait for
+-- it by other calls.
+CREATE TEMP TABLE told_by_call AS
+WITH RECURSIVE kept(server, at) AS (SELECT upid, id FROM holder WHERE upid IN (SELECT server FROM full_wait)
+  UNION SELECT k.server, s.next FROM kept k JOIN step s ON s.id = k.at LEFT JOIN finding f ON f.id = k.at
+    WHERE k.at < 0 OR f.rule = 'C7')
+SELECT DISTINCT k.server FROM kept k JOIN finding f ON f.id = k.at WHERE f.rule IN ('C3', 'C6', 'C8');
 CREATE TEMP TABLE used_up AS
 SELECT w.server, count(*) AS n, max(w.until - w.since) AS longest, u.dur AS usual,
   coalesce(sum(w.until - w.since > :OLD * u.dur) >= :OFTEN, 0) AS is_real
 FROM full_wait w LEFT JOIN usual_wait u USING (server)
-WHERE w.server NOT IN (SELECT h.upid FROM holder h JOIN finding f USING (id) WHERE f.rule IN ('C3', 'C6', 'C7', 'C8'))
+WHERE w.server NOT IN (SELECT server FROM told_by_call)
 GROUP BY w.server;
 -- Named are the method that kept its loopers longest, and those that took their share, too.
 INSERT INTO finding(section, what, place, seq, upid, utid, code, ptr, path, waiting, rule, note, culprit)

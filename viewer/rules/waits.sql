@@ -3,9 +3,9 @@
 --   raw_thread, side_calls, side_thread, side_time; database/views.sql: came_to, process, sent_to, thread; facts.sql:
 --   from_before; ages.sql: last, life, old, process_life; judging.py: call_name, duration
 -- makes: temporary tables: waits, few, waits_for, main_thread, ring_step, ring, lock_step, lock_way, lock_ring,
---   serves_on, queued, loop, taker, taken, holder, pool, full_pool, step, waited; indexes: waits_thread, waits_server,
---   waits_delivery, next_wait, ring_step_from, lock_step_from, lock_way_from, lock_ring_of, queued_at, pool_of,
---   full_pool_of, step_from, waited_for
+--   serves_on, queued, loop, taker, taken, holder, pool, full_pool, step, reach, waited; indexes: waits_thread,
+--   waits_server, waits_delivery, next_wait, ring_step_from, lock_step_from, lock_way_from, lock_ring_of, queued_at,
+--   pool_of, full_pool_of, step_from, reach_at, waited_for
 
 -- Open calls, and what they wait for: the innermost call that the thread that got the call has made since; or, for a
 -- call that nobody got, the calls of the process that should get it. A call back to a process that waits for this very
@@ -168,20 +168,21 @@ SELECT upid, n, doing || '; ' || iif(n = 1, '1 send waits', n || ' sends wait') 
 WHERE threads = busy AND upid IN (SELECT upid FROM holder);
 CREATE UNIQUE INDEX temp.full_pool_of ON full_pool(upid);
 
--- How many wait for a call, directly or not. The steps go from a full pool to what its threads are in, from a call that
--- nobody got to the pool, and from a call to the one that it waits for. A pool is a step for all that wait there; in a
--- ring, a call that is one of these does not wait for itself.
+-- What waits for a call, directly or not, and how many that are. The steps go from a full pool to what its threads are
+-- in, from a call that nobody got to the pool, and from a call to the one that it waits for. A pool is a step for all
+-- that wait there; in a ring, a call that is one of these does not wait for itself.
 CREATE TEMP TABLE step AS
 SELECT -h.upid AS id, h.id AS next FROM holder h JOIN full_pool USING (upid)
 UNION SELECT w.id, -w.server_upid FROM waits w JOIN full_pool p ON p.upid = w.server_upid WHERE w.delivery IS NULL
 UNION SELECT n.id, n.next FROM waits_for n JOIN waits w USING (id) WHERE w.delivery NOTNULL;
 CREATE INDEX temp.step_from ON step(id);
+CREATE TEMP TABLE reach AS
+WITH RECURSIVE way(begin, at) AS (SELECT -upid, -upid FROM full_pool
+    UNION SELECT id, id FROM waits WHERE delivery NOTNULL
+  UNION SELECT w.begin, s.next FROM way w JOIN step s ON s.id = w.at)
+SELECT begin, at FROM way WHERE at > 0 AND at <> begin;
+CREATE INDEX temp.reach_at ON reach(at);
 CREATE TEMP TABLE waited AS
-WITH RECURSIVE begin(id, n) AS (SELECT -upid, n FROM full_pool
-    UNION ALL SELECT w.id, 1 FROM waits w WHERE w.delivery NOTNULL),
-  reach(begin, at) AS (SELECT id, id FROM begin UNION SELECT r.begin, s.next FROM reach r JOIN step s ON s.id = r.at)
-SELECT r.at AS id, sum(b.n - (r.begin IN (SELECT -q.upid FROM queued q WHERE q.id = r.at))) AS n,
-  max(r.begin < 0) AS by_pool
-FROM reach r JOIN begin b ON b.id = r.begin
-WHERE r.at > 0 AND r.at <> r.begin GROUP BY 1;
+SELECT r.at AS id, sum(coalesce(p.n, 1) - (r.begin IN (SELECT -q.upid FROM queued q WHERE q.id = r.at))) AS n
+FROM reach r LEFT JOIN full_pool p ON p.upid = -r.begin GROUP BY 1;
 CREATE UNIQUE INDEX temp.waited_for ON waited(id);

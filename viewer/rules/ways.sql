@@ -13,8 +13,7 @@ WHERE kept >= :OFTEN AND upid NOT IN (SELECT upid FROM manager);
 CREATE TEMP TABLE recorded AS
 SELECT q.upid, q.first_seq, x.ts AS first_ts, coalesce(p.ended_after, last.seq) AS end_seq,
   coalesce(p.ended, last.ts) AS end_ts
-FROM raw_process q JOIN process_life p USING (upid) LEFT JOIN side_time x ON x.seq = q.first_seq, last
-WHERE q.upid IN (SELECT upid FROM kept_way);
+FROM raw_process q JOIN process_life p USING (upid) LEFT JOIN side_time x ON x.seq = q.first_seq, last;
 CREATE UNIQUE INDEX temp.recorded_of ON recorded(upid);
 -- Those that are kept, and those that were taken and let go of, `went` then. `came_left` and `went_left` are the shares
 -- of what was recorded of the process that were left then.
@@ -41,7 +40,7 @@ FROM (SELECT g.upid, coalesce(n.upid, -1) AS sender,
     coalesce(1.0 * (end_ts - z.ts) / (end_ts - first_ts), 1.0 * (end_seq - e.seq) / (end_seq - first_seq)) AS went_left
   FROM recorded JOIN raw_generation g USING (upid) LEFT JOIN node_of n ON n.generation = g.id
     LEFT JOIN raw_record e ON e.place = g.end LEFT JOIN side_time z ON z.seq = e.seq
-  WHERE g.given_by IS NULL AND g.handle <> 0)
+  WHERE g.given_by IS NULL AND g.handle <> 0 AND g.upid IN (SELECT upid FROM kept_way))
 GROUP BY 1, 2;
 CREATE UNIQUE INDEX temp.had_before_of ON had_before(upid, sender);
 -- Of these, what may have come by a way: it leads to the process that handed over what came so, or it is not known

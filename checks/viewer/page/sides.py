@@ -2,7 +2,6 @@
 
 import pathlib
 import re
-import shutil
 import sqlite3
 
 from checks.kit.checking import Fail, compare
@@ -16,6 +15,13 @@ from viewer.files import Stopped
 from viewer.units import signed
 
 
+def renumbered(scenario: str, other: str) -> str:
+    """The side list of a scenario, with the numbers of the processes of another one that has as many."""
+    sides = [texts_stored(name)[1] for name in (scenario, other)]
+    numbers = dict(zip(*(re.findall(r" process 0 (\d+) ", side) for side in sides)))
+    return re.sub(r"(?<=[ =])\d+(?= )", lambda found: numbers.get(found[0], found[0]), sides[0])
+
+
 def check_side(folder: pathlib.Path, room: pathlib.Path, fail: Fail) -> None:
     """A side list of another capture is refused. If one may belong to another, a line says so, also on the page."""
     capture, side = texts_stored("leaks")
@@ -27,27 +33,28 @@ def check_side(folder: pathlib.Path, room: pathlib.Path, fail: Fail) -> None:
     stopped = side[:side.index(" frame 50\n")].rpartition("\n")[0] + "\n"
     lists = {"whole": side, "stopped": stopped, "short": stopped + "9 end recording after=49 frames=49 lost=0\n",
              "lost": side.replace(" frame 30\n", " lost 30 why=call-unreadable\n"),
-             "later": re.sub(r"^((?:.* (?:process|thread) 0 146 .*\n){2})(.* frame 25\n)", r"\2\1", side,
+             "later": re.sub(r"^((?:.* (?:process|command|thread) 0 176 .*\n){3})(.* frame 25\n)", r"\2\1", side,
                              flags=re.MULTILINE)}
     for name, data in cuts.items():
         (room / f"{name}.cap").write_bytes(data)
     for name, text in lists.items():
         (room / f"{name}.side").write_text(text)
-    shutil.copy(DRIVER / "replies/capture.side", room / "replies.side")
-    shutil.copy(DRIVER / "weak-refs/capture-1.cap", room / "weak-refs.cap")
+    (room / "replies.side").write_text(texts_stored("replies")[1])
+    (room / "weak-refs.cap").write_bytes(texts_stored("weak-refs")[0])
+    (room / "renumbered.side").write_text(renumbered("replies", "weak-refs"))
     more = ("the side list has frames that are not in the capture, {}: the capture is only a part of the recording, or"
             " the list belongs to another one")
     other = "the side list belongs to another capture: {}"
     due = [("whole", "whole", 0, ""), ("begin", "whole", 0, more.format("45 after the last")),
            ("end", "whole", 0, more.format("40 before the first")), ("gap", "whole", 0, more.format("20 between")),
-           ("weak-refs", "replies", 0, more.format("35 after the last")),
+           ("weak-refs", "renumbered", 0, more.format("35 after the last")),
            ("whole", "stopped", 0, "the side list ends with frame 49, before the capture does: it was cut, or belongs"
             " to another capture"),
            ("whole", "short", 1, other.format("it ends with frame 49, and the capture has frame 50")),
            ("whole", "lost", 1, other.format("it does not have frame 30 of the capture")),
-           ("whole", "later", 1, other.format("thread 146 of process 146 on device 0 makes a call in frame 25 of the"
+           ("whole", "later", 1, other.format("thread 176 of process 176 on device 0 makes a call in frame 25 of the"
                                               " capture, and the list has not named that thread by then")),
-           ("whole", "replies", 1, other.format("thread 143 of process 143 on device 0 makes a call in frame 1 of the"
+           ("whole", "replies", 1, other.format("thread 173 of process 173 on device 0 makes a call in frame 1 of the"
                                                 " capture, and the list has not named that thread by then"))]
     for number, (cap, list_, status, line) in enumerate(due):
         shown = room / f"side-{number}.html"
@@ -102,7 +109,7 @@ def check_forms(_: pathlib.Path, room: pathlib.Path, fail: Fail) -> None:
 
 def as_files(side: str, first: int) -> list[str]:
     """The side lists of a recorder that keeps the newest files, and whose second file begins with frame `first`."""
-    head, begun, lines = "binder side list 1\n", "", [[], []]
+    head, begun, lines = side.partition("\n")[0] + "\n", "", [[], []]
     met: list[str] = []
     for line in side.splitlines(keepends=True)[1:]:
         time, word, *rest = line.split()
@@ -150,14 +157,14 @@ def renamed(side: str, after: int, *lines: str) -> str:
 
 
 # A scenario, the frame after which threads change their names, the lines that say so, and the rows with new names: a
-# process number, a thread number, and the names of both. Of two new names the last one counts. In `reuse` process 428
+# process number, a thread number, and the names of both. Of two new names the last one counts. In `reuse` process 965
 # has ended, and its id was given again.
 RENAMES = (
-    ("threads", 200, ("pid=235 tid=235 after={after} name=old", "pid=235 tid=235 after={after} name=new client",
-                      "pid=235 tid=238 after={after} name=new worker"),
-     [(235, 235, "new client", "new client"), (235, 237, "new client", "client"),
-      (235, 238, "new client", "new worker"), (235, 239, "new client", "client")]),
-    ("reuse", 16, ("pid=428 tid=428 after={after} name=new second",), [(4194304, 428, "new second", "new second")]))
+    ("threads", 200, ("pid=309 tid=309 after={after} name=old", "pid=309 tid=309 after={after} name=new client",
+                      "pid=309 tid=312 after={after} name=new worker"),
+     [(309, 309, "new client", "new client"), (309, 311, "new client", "client"),
+      (309, 312, "new client", "new worker"), (309, 313, "new client", "client")]),
+    ("reuse", 16, ("pid=965 tid=965 after={after} name=new second",), [(4194304, 965, "new second", "new second")]))
 
 
 def check_renames(folder: pathlib.Path, room: pathlib.Path, fail: Fail) -> None:

@@ -14,7 +14,7 @@ from typing import NamedTuple
 
 from checks.kit.checking import Fail, compare
 from checks.kit.programs import DRIVER
-from checks.viewer.page.common import stored, written
+from checks.viewer.page.common import stored, texts_stored, written
 from checks.viewer.page.reports import check_harmless
 from checks.viewer.sessions.session import Session
 from viewer.database import symbols
@@ -94,7 +94,7 @@ def side_with(program: Program, seqs: list[int], path: str, more: str = "") -> s
               f"stack 3 memory=1 pid=1 pcs=0x{FIRST + program.inside[HOSTILE]:x},0x{JIT + 8:x},0x99,0xffffffffffffffff"]
     lines += [f"call {seq} stack={stack}" for seq, stack in zip(seqs, (1, 1, 1, 1, 2, 3), strict=True)]
     lines += [f"unstacked 7 what=ring-full from={seqs[0]} after={seqs[-1]}", *([more] if more else [])]
-    side = (DRIVER / "replies/capture.side").read_text()
+    _, side = texts_stored("replies")
     head, end, rest = side.rpartition("\n" + side.splitlines()[-1])
     return head + "".join(f"\n1 {line}" for line in lines) + end + rest
 
@@ -233,7 +233,7 @@ def check_recorded(folder: pathlib.Path, room: pathlib.Path, fail: Fail) -> None
     """Recorded stacks: of a program with frame pointers the function is named that keeps what it gets, and which other
     one called it. Of one without them only the C library's function is there."""
     due = {"forgetful": (["refresh_settings forgetful.c, scenarios.framed", "1 of 6 have it:", "5 of 6 have it",
-                          "the call whose reply gave the handle; 1 of 1 have it:", "find_service forgetful.c"], 10),
+                          "the call whose reply gave the handle; 1 of 1 have it:", "find_service forgetful.c"], 12),
            "forgetful-frameless": (["libc.so.6+0xfdd6b", "6 of 6 have it:"], 1)}
     for name, (texts, most) in due.items():
         shown = room / f"{name}.html"

@@ -24,7 +24,7 @@ from checks.viewer.page.reports import check_harmless, shown_of
 def check_rules(made: pathlib.Path, fail: Fail) -> None:
     """Checks that the rules in docs/RULES.md are those of the database."""
     rows = sqlite3.connect(made).execute("SELECT id, verdict, text FROM rule").fetchall()
-    told = re.findall(r"^\| ([A-Z]\d) \| (\w+) \| ([^|]*) \|", (ROOT / "docs/RULES.md").read_text(), re.MULTILINE)
+    told = re.findall(r"^\| ([A-Z]\d+) \| (\w+) \| ([^|]*) \|", (ROOT / "docs/RULES.md").read_text(), re.MULTILINE)
     compare("the rules of docs/RULES.md", sorted(told), sorted(rows), fail)
 
 
@@ -145,11 +145,11 @@ def check_told(folder: pathlib.Path, room: pathlib.Path, fail: Fail) -> None:
     due = {"hung": ("1 maybe · 1 row ",
                     "calls: place device process thread handle code verdict closer (docs/REPORT.md#calls)",
                     f"./audit report {DRIVER}/hung/capture-1.cap writes the whole report",
-                    "It has lasted 595 ms, none of its path came to a good end.", "after 103, at 632 ms",
-                    "client 260 1 service 258 0x1000 1 call 13 0 0 0 0 2 7.63 ms all", "most 2, ended with 1"),
+                    "It has lasted 573 ms, none of its path came to a good end.", "after 103, at 614 ms",
+                    "client 1794 1 service 1792 0x1000 1 call 13 0 0 0 0 1 1.96 ms all", "most 2, ended with 1"),
            "quarter": ("5 of 20", "the longest of its path that came to a good end"),
-           "dead-user": ("3180 client 309 thread 309 short-lived 308 1 failed",
-                         "client 309 1 short-lived 308 0x1000 1 call 6 3 0 ")}
+           "dead-user": ("3180 client 1857 thread 1857 short-lived 1856 1 failed",
+                         "client 1857 1 short-lived 1856 0x1000 1 call 6 3 0 ")}
     for name, texts in due.items():
         shown = room / f"{name}.html"
         view(folder, room, *stored(name), "-o", shown.name)

@@ -67,6 +67,22 @@ def others_queue(s, wait, took=0, enters=True, killed=False):
         service.ends()
 
 
+@case("C4:1 C6:1 C7:2 A1:4")
+def two_pools(s):
+    """The only loopers of two services never answer. At one of them another call waits for long, at the other one not."""
+    service, client = s.two()
+    server = s.process(300, "server")
+    server.main.writes(ENTER)
+    server.main.gives(service.main, 3, node=0x9000)
+    client.main.is_given(service.main, 1, server_handle=3)
+    server.main.gets(client.main.sends(1, 10), 0x9000)
+    service.main.gets(client.thread(1).sends(0, 10))
+    s.process(400, "other").main.sends(0, 1)
+    s.wait(1100)
+    client.thread(2).sends(1, 1)
+    s.wait(20)
+
+
 @case("C3:2 A1:4", mains=True)
 @case("U6:2 A1:4", mains=True, wait=50)
 @case("C9:2 A1:4", "its main thread waits for the call at", mains=False)
@@ -280,6 +296,7 @@ def answer_unread(s, ends=0, wait=0):
 @case("E1:1", "told at", "E1 by client 200: 1", sends=1, after=1500)
 @case("E1:2", "told at", sends=2, after=10)
 @case("E1:3", "told at", sends=3, after=10)
+@case("E1:10", "told at", sends=10, after=1500)
 @case("E3:3", sends=1, after=10, threads=3)
 @case("E1:4", "told at", sends=2, after=10, threads=2)
 @case("E1:2 E3:1", "told at", sends=2, after=10, once=1)
@@ -331,9 +348,14 @@ def news_during_calls(s):
 @case("E2:2 E3:1", "told at", sends=2)
 @case("E3:3", then=1)
 @case("E2:2 E3:2", "told at", then=2)
-def dead_reply_before(s, crossing=False, sends=1, before=0, wait=0, then=0):
+@case("E11:10 E3:1", "told at", "E11 by client 200: 10", sends=10, pause=110)
+@case("E2:9 E3:1", sends=9, pause=150)
+@case("E2:10 E3:1", sends=10, pause=90)
+@case("E11:10 E3:1", wait=1100, sends=10)
+@case("E2:10 E3:1", sends=5, pause=250, then=5)
+def dead_reply_before(s, crossing=False, sends=1, before=0, wait=0, then=0, pause=0):
     """Two threads call an object that ends, both before it ends; or the second after the first has read so, soon or
-    not, once or twice. `then`: so many times the first one calls it again."""
+    not, once or more often, with pauses. `then`: so many times the first one calls it again."""
     service, client = s.two()
     one, two = client.main, client.thread(1)
     one.sends(0, 1)
@@ -346,6 +368,7 @@ def dead_reply_before(s, crossing=False, sends=1, before=0, wait=0, then=0):
         if not crossing:
             two.sends(0, 1)
         two.reads(record(BR_DEAD_REPLY))
+        s.wait(pause)
     for _ in range(then):
         one.sends(0, 1)
         one.reads(record(BR_DEAD_REPLY))
@@ -393,9 +416,15 @@ def frozen(s, then):
 @case("E4:3", "E4 by client 200: 3", freezes=((3,),), thaws=False)
 @case("E8:4", freezes=((2,),), servers=2)
 @case("E4:4", "E4 by service 100: 2", "E4 by server 300: 2", freezes=((2,),), servers=2, thaws=False)
-def goes_on_calling_the_frozen(s, freezes, thaws=True, servers=1):
-    """In each freeze of a service threads make so many calls; then it is thawed, and gets a call. `servers`: so many
-    are frozen at the same time, and called by the same threads."""
+@case("E12:10", "one of 10 calls that its thread made while service 100 was frozen", "E12 by client 200: 10",
+      freezes=((10,),), pause=120)
+@case("E12:10", freezes=((10,),), pause=120, thaws=False)
+@case("E4:9", "E4 by client 200: 9", freezes=((9,),), pause=150)
+@case("E4:10", freezes=((10,),), pause=100)
+@case("E4:10", freezes=((5,), (5,)), pause=250)
+def goes_on_calling_the_frozen(s, freezes, thaws=True, servers=1, pause=0):
+    """In each freeze of a service threads make so many calls, with pauses; then it is thawed, and gets a call.
+    `servers`: so many are frozen at the same time, and called by the same threads."""
     service, client = s.two()
     frozen = [(0, 0, service)]
     if servers > 1:
@@ -412,6 +441,7 @@ def goes_on_calling_the_frozen(s, freezes, thaws=True, servers=1):
             for handle, _, _ in frozen * times:
                 one.sends(handle, 1)
                 one.reads(record(BR_FROZEN_REPLY))
+                s.wait(pause)
         for handle, ptr, process in frozen if thaws else ():
             client.main.asks(process.main, 1, handle, ptr)
 
@@ -658,16 +688,23 @@ def few_frames(s, wait, held):
 @case("U2:1 A1:2", good=3, took=100, wait=1100)
 @case("U6:1 A1:2", good=3, took=100, wait=900)
 @case("C4:1 A1:2", good=2, took=100, wait=1100)
+@case("C4:3 A1:6", good=3, took=600, wait=1300, calls=3)
+@case("U6:2 A1:4", good=3, took=600, wait=1300, calls=2)
+@case("U6:3 A1:6", good=2, took=600, wait=1300, calls=3)
+@case("U1:3 A1:6", good=3, took=600, wait=1100, calls=3)
+@case("U6:3 A1:6", good=3, took=100, wait=900, calls=3)
 @case("M2:1 A1:2", good=3, took=100, wait=1100, lost=1)
 @case("M2:1 A1:2", good=3, took=100, wait=1100, lost=0)
-def slow_answers(s, good, took, wait, lost=None):
-    """A call takes long. `lost`: a frame of the service, 0, or of the client, 1, is lost."""
+def slow_answers(s, good, took, wait, lost=None, calls=1):
+    """A call takes long, or several of several threads. `lost`: a frame of the service, 0, or of the client, 1, is
+    lost."""
     service, client = s.two()
     for _ in range(good):
         client.main.asks(service.main, took=took)
     if lost is not None:
         s.loses((service, client)[lost])
-    service.main.gets(client.main.sends(0, 1))
+    for at in range(calls):
+        (service.looper(at) if at else service.main).gets((client.thread(at) if at else client.main).sends(0, 1))
     s.wait(wait)
 
 

@@ -25,6 +25,39 @@ def callbacks_of_the_dead(s, dead, alive, done=9):
     s.wait(200)
 
 
+@case("D8:3 H3:3", "real deaths not acknowledged: 3 of - handles, short-lived D8 (given by calls of code 4; with 3"
+      " references to the dead)", "groups that are maybe: 0", "D8 by server 300: 3")
+@case("D8:3", "groups that are real: 1", lets_go=True)
+@case("H3:2 U4:2", dead=2, wait=1100)
+@case("D8:4 H3:5", dead=5, done=1)
+@case("H3:5 U4:3", dead=5, done=2)
+@case("H3:4 U4:3 U5:1", last=1)
+@case("D8:4 H3:5 U5:1", dead=4, last=1)
+@case("H3:3 M1:3", lost=True)
+def deaths_not_acknowledged(s, dead=3, done=0, lets_go=False, last=0, wait=200, lost=False):
+    """A server keeps, or lets go of, an object of each of some clients that end, and acknowledges the first deaths.
+    `last`: so many more deaths come last, and its thread does nothing more."""
+    manager, _, server = with_server(s)
+    others = [s.process(400 + at, "short-lived") for at in range(dead + last)]
+    for handle, other in enumerate(others, 20):
+        other.main.is_given(manager.main, 1, server_handle=3)
+        calls_back(other.main, server.main, handle)
+        server.main.writes(watch(BC_REQUEST_DEATH_NOTIFICATION, handle, handle))
+    if lost:
+        s.loses(server)
+    for handle, other in enumerate(others, 20):
+        other.ends()
+        server.main.reads(*each_long(BR_DEAD_BINDER, handle))
+        if handle < 20 + done:
+            server.main.writes(*each_long(BC_DEAD_BINDER_DONE, handle))
+        if lets_go:
+            server.main.writes(*each(BC_RELEASE, handle))
+        if handle < 20 + dead:
+            server.main.writes(ENTER)
+            server.main.writes(ENTER)
+    s.wait(wait)
+
+
 # ---- what tells of one death
 
 

@@ -133,10 +133,11 @@ class Quarters:
         while not self.s.has_side and self.s.sequence < self.sequence + 400 * parts:
             self.client.main.asks(self.manager.main)
 
-    def plays(self, server, gains, passing=0, drops=(0, 0, 0, 0), twice=(0, 0, 0, 0), uses=True,
+    def plays(self, server, gains, passing=0, drops=(0, 0, 0, 0), twice=(0, 0, 0, 0), uses: bool | int = True,
               of_before=(0, 0, 0, 0), at=100):
         """In each part the client gets some handles. It lets go of others at once, and of some that it had, and uses
-        all that it has. Or some of these it takes twice, and it lets go of what it had before."""
+        all that it has, or the first ones, or none. Or some of these it takes twice, and it lets go of what it had
+        before."""
         main, held, before = self.client.main, [], 20
         for part, gained in enumerate(gains):
             self.lasts(part + 0.2)
@@ -157,7 +158,7 @@ class Quarters:
                 main.writes(*each(BC_RELEASE, *held[:drops[part]]))
                 held = held[drops[part]:]
             self.lasts(part + 0.8)
-            for handle in held if uses else ():
+            for handle in held[:None if uses is True else uses]:
                 main.asks(server.main, 8, handle, 0x100 * handle)
         self.lasts(len(gains))
 
@@ -176,6 +177,17 @@ class Quarters:
 @case("H5:8", "4 held at half of its time, 8 at the end", passing=0)
 @case("H6:10", "8 of 8 that are kept are in use, and their number does not grow", gains=(5, 2, 1, 0), passing=0)
 @case("H8:8", "(8 others were let go of, each within 3 ms; 4 held at half of its time, 8 at the end)", uses=False)
+@case("H10:12", "(12 others were let go of, each within 3 ms; 6 held at half of its time, 12 at the end)",
+      "real references kept: 12 of 24 given by replies to code 5 of server 300 node 0x9000 H10", gains=(3, 3, 3, 3),
+      passing=3, uses=False)
+@case("H10:12", "(6 held at half of its time, 12 at the end)", gains=(3, 3, 3, 3), passing=0, uses=False)
+@case("H10:10", gains=(3, 3, 2, 2), passing=0, uses=False)
+@case("H5:9", gains=(3, 2, 2, 2), passing=0, uses=False)
+@case("H10:10 H5:2", gains=(3, 3, 3, 3), passing=0, uses=2)
+@case("H5:12", gains=(3, 3, 3, 3), passing=0, uses=3)
+@case("H5:12", gains=(4, 4, 4, 0), passing=0, uses=False)
+@case("H5:12", "6 held at half of its time, 12 at the end", gains=(3, 3, 3, 3), passing=0)
+@case("M2:12", gains=(3, 3, 3, 3), passing=3, uses=False, lost=True)
 @case("H4:4", gains=(4, 0, 0, 0), twice=(0, 0, 2, 2))
 @case("M1:8", lost=True)
 @case("H5:8", passing=0, lost=True)

@@ -113,6 +113,52 @@ def kept_by_another(s, share):
     is_served(service, victim, waiting)
 
 
+@case("A1:4 C7:2 Q1:1 U1:1", "the loopers wait for third 302", "Q1 by third 302: 1", wait=50)
+@case("A1:4 C6:1 C7:2", "C6 by third 302: 1", wait=12000)
+@case("A1:4 C7:2 Q1:1 U2:1", wait=12000, late=True)
+def kept_by_another_to_the_end(s, wait, late=False):
+    """A slow process answers the calls for which the only looper of a service waits, one after another; the last one is
+    under way at the end, or hangs. Meanwhile another call waits, at the end for long or, if `late`, not."""
+    service, client = s.two()
+    victim, third = s.process(300, "victim"), s.process(302, "third")
+    third.main.gives(service.main, 8)
+    for at in range(4):
+        address = service.main.gets(client.main.sends(0, 10))
+        waiting = None if late and at == 3 else victim.main.sends(0, 1)
+        got = third.main.gets(service.main.sends(8, 12), 0x9800)
+        if at < 3:
+            s.wait(1100)
+            service.main.answered(third.main.replies(got))
+            client.main.answered(service.main.replies(address))
+            is_served(service, victim, waiting)
+    s.wait(wait)
+    if late:
+        victim.main.sends(0, 1)
+        s.wait(500)
+
+
+@case("A1:4 C7:3 Q1:2 U1:1", "the loopers wait for third 302", "Q1 by third 302: 2", wait=50)
+@case("A1:4 C6:1 C7:3", "C6 by third 302: 1", wait=12000)
+def kept_by_another_pool(s, wait):
+    """The only looper of a service waits for the only looper of a slow process, which serves another call; the last
+    such call is under way at the end, or hangs."""
+    service, client = s.two()
+    victim, third, other = s.process(300, "victim"), s.process(302, "third"), s.process(303, "other")
+    third.main.gives(service.main, 8)
+    other.main.is_given(service.main, 1, server_handle=8)
+    for at in range(4):
+        got = third.main.gets(other.main.sends(1, 12), 0x9800)
+        address = service.main.gets(client.main.sends(0, 10))
+        waiting, queued = victim.main.sends(0, 1), service.main.sends(8, 12)
+        if at < 3:
+            s.wait(1100)
+            other.main.answered(third.main.replies(got))
+            service.main.answered(third.main.replies(third.main.gets(queued, 0x9800)))
+            client.main.answered(service.main.replies(address))
+            is_served(service, victim, waiting)
+    s.wait(wait)
+
+
 @case("Q2:1", "oneway code 7 at service 100 node 0x0", by=0)
 @case("", by=1)
 def kept_by_a_oneway_transaction(s, by):

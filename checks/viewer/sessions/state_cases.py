@@ -74,8 +74,13 @@ def proxies_of_the_dead(s, count, wait):
 @case("", takes=3, releases=1, threads=2)
 @case("H4:1", takes=2, releases=0, threads=1, weak=True)
 @case("H4:1", takes=3, releases=0, threads=2, weak=True)
-def taken_again(s, takes, releases, threads, weak=False):
-    """A handle is taken several times, by one thread or by two in turns."""
+@case("C5:1", takes=3, releases=0, threads=2, calls=1)
+@case("C5:1 H4:1", takes=4, releases=0, threads=2, calls=1)
+@case("C5:2", takes=4, releases=0, threads=2, calls=2)
+@case("C5:1 H4:1", takes=2, releases=0, threads=1, calls=1)
+@case("C5:1", takes=3, releases=0, threads=2, calls=1, weak=True)
+def taken_again(s, takes, releases, threads, weak=False, calls=0):
+    """A handle is taken several times, by one thread or by two in turns. `calls`: so many of them are in a call."""
     service, client = s.two()
     client.main.is_given(service.main, 1, take=False)
     both = [client.main, client.thread(1)][:threads]
@@ -84,7 +89,34 @@ def taken_again(s, takes, releases, threads, weak=False):
         both[at % threads].writes(*each(take, 1))
     for at in range(releases):
         both[-1].writes(*each(release, 1))
+    for one in both[:calls]:
+        one.sends(0, 1)
     s.wait(300)
+
+
+@case("H11:1", "16 times, and let go of 0 times; 5 held at half of its time, 16 at the end)", gains=(4, 1, 6, 5))
+@case("H11:1", "2 held at half of its time, 12 at the end)", gains=(1, 1, 5, 5))
+@case("H4:1", "11 times, and let go of 0 times)", gains=(1, 1, 5, 4))
+@case("H4:1", gains=(1, 1, 11, 0))
+@case("H4:1", gains=(1, 1, 0, 11))
+@case("H4:1", gains=(60, 41, 5, 5))
+@case("H11:1", "23 times, and let go of 11 times; 2 held", gains=(1, 1, 16, 5), drops=(0, 0, 11, 0))
+@case("H11:1", "12 times, weakly, and let go of 0 times; 2 held", gains=(1, 1, 5, 5), weak=True)
+@case("H4:1", gains=(1, 1, 5, 5), lost=True)
+@case("H11:1", "2 held at half of its time, 12 at the end)", gains=(1, 1, 5, 5), has_side=False)
+def more_references(s, gains, drops=(0, 0, 0, 0), weak=False, lost=False):
+    """References to one object are taken and let go of, so many in each quarter of what is recorded of a client."""
+    service, client = s.two()
+    client.main.is_given(service.main, 1, take=False)
+    take, release = (BC_INCREFS, BC_DECREFS) if weak else (BC_ACQUIRE, BC_RELEASE)
+    if lost:
+        s.loses(client)
+    for gained, dropped in zip(gains, drops):
+        client.main.writes(*each(take, *[1] * gained))
+        client.main.writes(*each(release, *[1] * dropped))
+        for _ in range(0 if s.has_side else 20):
+            client.main.asks(service.main)
+        s.wait(1000)
 
 
 @case("", first=2, then=1)

@@ -13,7 +13,7 @@ from typing import Iterator
 
 from checks.kit.checking import Fail, compare, row
 from checks.kit.programs import DRIVER
-from checks.viewer.page.common import loaded, texts_stored
+from checks.viewer.page.common import loaded, on_one_clock, texts_stored
 from checks.viewer.timeline.system_trace import AHEAD, SLEPT, SystemTrace
 from viewer.timeline import trace
 from viewer.timeline.tracks import Window
@@ -284,7 +284,7 @@ def check_joined(what: str, tool: TraceProcessor, room: pathlib.Path, database: 
 def side_of(sleeps: bool, room: pathlib.Path) -> pathlib.Path:
     """The side list of `threads`, as if the phone of the system trace had been recorded: it says what the clocks
     showed, and again after the sleep."""
-    _, side = texts_stored("threads")
+    side = on_one_clock(texts_stored("threads")[1])
     begin = int(re.search(r"^(\d+) begin ", side, re.MULTILINE)[1])
     frames = sorted(int(ts) for ts in re.findall(r"^(\d+) frame ", side, re.MULTILINE))
     woke = frames[len(frames) // 2]
