@@ -44,14 +44,16 @@ class Lane(Track):
 
 class Process(Track):
     """What a process holds: the values of its counters now, and as they are shown, and its strong references by handle.
-    `head` is how events name it in the format; None if it is not shown."""
-    __slots__ = "upid", "head", "now", "shown", "strong"
+    `touched` has a bit for each counter that may not be as it is shown. `head` is how events name the process in the
+    format; None if it is not shown."""
+    __slots__ = "upid", "head", "now", "shown", "touched", "strong"
 
-    def __init__(self, upid: int, counters: int):
+    def __init__(self, upid: int):
         super().__init__()
         self.upid = upid
         self.head: object = None
-        self.now, self.shown = [0] * counters, [0] * counters
+        self.now, self.shown = [0] * len(COUNTERS), [0] * len(COUNTERS)
+        self.touched = 0
         self.strong: dict[int, int] = {}
 
 
@@ -87,12 +89,16 @@ class Finding(NamedTuple):
 # The counters of a process: the name, and what is counted.
 COUNTERS = (("buffers", "held"), ("bytes", "held"), ("async bytes", "held"), ("references", "strong"),
             ("calls", "open"), ("threads", "busy"))
-BUFFERS, BYTES, ASYNC, REFERENCES, CALLS, BUSY = ALL_COUNTERS = range(len(COUNTERS))
+BUFFERS, BYTES, ASYNC, REFERENCES, CALLS, BUSY = range(len(COUNTERS))
+
+# The counters of a set, in which each has the bit of its number.
+ALL_COUNTERS = 2**len(COUNTERS) - 1
+COUNTERS_OF = [tuple(at for at in range(len(COUNTERS)) if touched >> at & 1) for touched in range(ALL_COUNTERS + 1)]
 
 
 class Events(Protocol):
-    """Takes the events of a timeline. Times are in nanoseconds of the axis. What it makes of `Called` is handed back to
-    it with each event."""
+    """A format: takes the events of a timeline, and writes them into a file. Times are in nanoseconds of the axis. What
+    it makes of `Called` is handed back to it with each event."""
 
     # What the axis is.
     clock: str
@@ -112,25 +118,21 @@ class Events(Protocol):
 
     def finding(self, thread: Thread, ns: int, finding: Finding) -> None: ...
 
-    def count(self, process: Process, ns: int, changed: list[tuple[int, int]]) -> None:
-        """The counters of a process that were changed, with their values."""
+    def count(self, process: Process, ns: int, changed: list[int]) -> None:
+        """The counters of a process that are not as they are shown, by their numbers."""
 
     def queue(self, thread: Thread, called: object, place: int, begin: int, end: int,
               fields: Mapping[str, object]) -> None:
         """How long a oneway transaction waited, in the process that gets it."""
 
     def end_frame(self) -> None:
-        """All that a frame has was told."""
+        """All that a frame has was told. It is called if the frame has an instant."""
 
     def flush(self) -> None:
         """Hands over what was made."""
 
     def finish(self, told: dict[str, object]) -> None:
         """The end, and what the timeline says of itself."""
-
-
-class Format(Events, Protocol):
-    """Writes the events into a file."""
 
     def lane_of(self, utid: int) -> object:
         """What two threads of the capture have in common if they are one thread of the system, and so one track."""
@@ -143,8 +145,8 @@ class Format(Events, Protocol):
 class Drawn:
     """The processes and threads of a capture, and how the events of those that are shown name them in a format."""
 
-    def __init__(self, tracks: Tracks, out: Format):
-        self.processes = {row.upid: Process(row.upid, len(COUNTERS)) for row in tracks.processes}
+    def __init__(self, tracks: Tracks, out: Events):
+        self.processes = {row.upid: Process(row.upid) for row in tracks.processes}
         self.lanes = {out.lane_of(utid): Lane() for utid in tracks.upid_of}
         self.threads = {utid: Thread(utid, self.processes[upid], self.lanes[out.lane_of(utid)])
                         for utid, upid in tracks.upid_of.items()}

@@ -72,6 +72,8 @@ class Interned:
         kind = POINTER if name in ADDRESSES else None
 
         def write(value: object) -> bytes:
+            if value is None:
+                return b""
             if isinstance(value, int):
                 field = number(kind or (UNSIGNED if value >= 0 else SIGNED), value)
             else:
@@ -85,7 +87,9 @@ def writer_of_places(called: bytes) -> Callable[[int], bytes]:
     head = called + key(UNSIGNED, VARINT)
     heads = [key(ARGUMENT, LENGTH) + varint(len(head) + length) + head for length in range(LONGEST_VARINT + 1)]
 
-    def write(value: int) -> bytes:
+    def write(value: int | None) -> bytes:
+        if value is None:
+            return b""
         made = LAST[value] if value < PAIRS else MORE[value & LOW] + RESTS[value >> BITS]
         return heads[len(made)] + made
     return write

@@ -7,16 +7,17 @@ import hashlib
 import heapq
 import itertools
 import sqlite3
+from operator import call
 from typing import Mapping
 
 from viewer.timeline.call_stacks import CallStacks
 from viewer.timeline.clocks import Moment
 from viewer.timeline.events import ARGUMENTS, CATEGORIES, SORTS, VERBS, Called, Finding, Process, Thread
-from viewer.timeline.interned import CATEGORY, CATEGORY_NAMES, EVENT_NAME, EVENT_NAMES, Interned
+from viewer.timeline.interned import CATEGORY, CATEGORY_NAMES, EVENT_NAME, EVENT_NAMES, Interned, Known
 from viewer.timeline.packed import File
 from viewer.timeline.system import System
 from viewer.timeline.tracks import Axis, ProcessRow, Tracks
-from viewer.timeline.wire import (LENGTH, LENGTHS, PAIRS, VARINT, fixed, key, message, number, text, varint,
+from viewer.timeline.wire import (FIXED, LENGTH, LENGTHS, PAIRS, VARINT, fixed, key, message, number, text, varint,
                                   varint_of_time)
 
 # The only field of Trace, and those of TracePacket.
@@ -30,7 +31,8 @@ LENGTH_BYTES = len(LENGTHS[0])
 # TrackEvent.
 TYPE, TRACK, COUNTER_VALUE, EXTRA_TRACKS, EXTRA_VALUES, FLOWS, CORRELATION = 9, 11, 30, 31, 12, 47, 52
 BEGIN, END, INSTANT, COUNTER = (number(TYPE, which) for which in range(1, 5))
-CORRELATED = key(CORRELATION, VARINT)
+FLOW, CORRELATED = key(FLOWS, FIXED), key(CORRELATION, VARINT)
+LARGEST = 2**64 - 1
 
 # TrackDescriptor, ProcessDescriptor, ThreadDescriptor and CounterDescriptor.
 UUID, NAME, OF_PROCESS, OF_THREAD, PARENT, OF_COUNTER, OWN_TRACK = 1, 2, 3, 4, 5, 8, 9
@@ -90,6 +92,7 @@ class Packets:
         self.uuids = itertools.count(self.recording % 2**BITS_OF_NUMBERS << BITS_OF_NUMBERS)
         self.parts: list[bytes] = []
         self.new = self.interned.new
+        self.names = Known(self.name_of_event)
         self.ns, self.at, self.around = -1, b"", 0
         self.arguments = [[self.interned.writer(name) for name in names] for names in ARGUMENTS]
         self.processes: dict[int, int] = {}
@@ -204,6 +207,10 @@ class Packets:
     # -- what the walk hands over
 
     def name(self, category: str, name: str) -> bytes:
+        return self.names[category, name]
+
+    def name_of_event(self, named: tuple[str, str]) -> bytes:
+        category, name = named
         return self.interned.text(EVENT_NAMES, EVENT_NAME, name) + \
             self.interned.text(CATEGORY_NAMES, CATEGORY, category)
 
@@ -221,10 +228,9 @@ class Packets:
 
     def begin(self, thread: Thread, ns: int, sort: int, called: PacketCalled, values: tuple, flow: int | None,
               stack: int | None, why: str) -> None:
-        body = BEGIN + thread.head + called.begins[sort] + b"".join(
-            [write(value) for write, value in zip(self.arguments[sort], values) if value is not None])
+        body = BEGIN + thread.head + called.begins[sort] + b"".join(map(call, self.arguments[sort], values))
         if flow is not None:
-            body += fixed(FLOWS, self.recording + flow) + CORRELATED + varint(flow)
+            body += FLOW + (self.recording + flow & LARGEST).to_bytes(8, "little") + CORRELATED + varint(flow)
         if stack is not None:
             body += self.stacks.of(stack)
         if why:
@@ -240,36 +246,40 @@ class Packets:
         self.event(ns, body)
 
     def instant(self, where: Thread | Process | None, ns: int, category: str, name: str,
-                fields: Mapping[str, object], flow: bytes = b"") -> None:
+                fields: Mapping[str, object]) -> None:
         head = self.other_track(OTHERS) if where is None else where.head
-        self.event(ns, INSTANT + head + self.name(category, name) + self.fields(fields) + flow)
+        self.event(ns, INSTANT + head + self.name(category, name) + self.fields(fields))
 
     def finding(self, thread: Thread, ns: int, finding: Finding) -> None:
         """A finding is on a track above the processes, and at its record. A flow goes through both, and through the
         findings that are one with it, in the order of their times."""
         category = f"finding,{finding.verdict}"
         flow = fixed(FLOWS, self.recording + FLOWS_OF_FINDINGS + finding.one)
+        names = [(thread.head, f"{finding.verdict}: {finding.title}")]
         if finding.verdict in ("real", "maybe"):
-            self.event(ns, INSTANT + self.other_track(FINDINGS.format(finding.verdict)) +
-                       self.name(category, f"{finding.title}: {self.tracks.certain[thread.upid]}") +
-                       self.fields(finding.fields) + flow)
-        self.instant(thread, ns, category, f"{finding.verdict}: {finding.title}", finding.fields, flow)
+            names.insert(0, (self.other_track(FINDINGS.format(finding.verdict)),
+                             f"{finding.title}: {self.tracks.certain[thread.upid]}"))
+        fields = b""
+        for head, name in names:
+            named = self.name(category, name)
+            fields = fields or self.fields(finding.fields)
+            self.event(ns, INSTANT + head + named + fields + flow)
 
-    def count(self, process: Process, ns: int, changed: list[tuple[int, int]]) -> None:
+    def count(self, process: Process, ns: int, changed: list[int]) -> None:
         """One event has all counters that were changed. Extra ones of 0 come last: after one of them Perfetto 56 takes
         all others for 0."""
         tracks = self.counters.get(process.upid)
         if tracks is None:
             tracks = self.counters[process.upid] = self.counter_tracks(process)
-        body = zeros = b""
-        for at, value in changed:
-            own, extra = tracks[at]
-            if not body:
-                body = own + varint(value)
-            elif value:
-                body += extra + varint(value)
+        now = process.now
+        first, *others = changed
+        body, zeros = tracks[first][0] + varint(now[first]), b""
+        for at in others:
+            value = now[at]
+            if value:
+                body += tracks[at][1] + varint(value)
             else:
-                zeros += extra + b"\0"
+                zeros += tracks[at][1] + b"\0"
         self.event(ns, body + zeros)
 
     def queue(self, thread: Thread, called: PacketCalled, place: int, begin: int, end: int,

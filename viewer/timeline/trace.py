@@ -9,13 +9,12 @@ from typing import Iterator
 
 from viewer.program_names import commit
 from viewer.timeline.android_names import AndroidNames
-from viewer.timeline.calls import Calls, Told
-from viewer.timeline.events import Drawn, Format
+from viewer.timeline.events import Drawn, Events
 from viewer.timeline.json_events import JsonEvents
 from viewer.timeline.packed import File
 from viewer.timeline.packets import Packets
-from viewer.timeline.piped import Piped, Send
-from viewer.timeline.rows import opened, read
+from viewer.timeline.piped import Piped
+from viewer.timeline.rows import read
 from viewer.timeline.suffixes import NATIVE
 from viewer.timeline.tracks import Axis, Tracks, Window
 from viewer.timeline.walk import Walk
@@ -31,7 +30,7 @@ def facts_of(database: sqlite3.Connection) -> dict[str, object]:
 
 
 def format_of(name: str, is_android: bool, file: File, axis: Axis, tracks: Tracks, database: sqlite3.Connection
-              ) -> Format:
+              ) -> Events:
     if not name.endswith(NATIVE):
         return JsonEvents(file, axis, tracks)
     return (AndroidNames if is_android else Packets)(file, axis, tracks, database)
@@ -50,22 +49,10 @@ def uncollected() -> Iterator[None]:
             gc.enable()
 
 
-def find_events(path: str, axis: Axis, tracks: Tracks, window: Window, drawn: Drawn, clock: str,
-                rows: Iterator[list[tuple]], send: Send) -> None:
-    """Sends the events of the database at `path`."""
-    database, out = opened(path), Calls(send, clock)
-    walk = Walk(database, rows, out, axis, tracks, window, drawn)
-    walk.walk()
-    made_by = {"tool": "binder_audit: ./view --trace", "commit": commit()}
-    out.finish({name: value for name, value in {
-        **made_by, **axis.facts(clock), **facts_of(database), **window.facts(), **walk.told}.items()
-        if value is not None})
-
-
 def write(database: sqlite3.Connection, path: pathlib.Path, window: Window, name: str, is_android: bool = False
           ) -> bool:
     """Writes the timeline into a new file, for its owner only, in the format of files that are called `name`. Returns
-    whether any thread is in it. One process reads the rows, one finds the events in them, and this one writes."""
+    whether any thread is in it. One process reads the rows, and this one finds the events in them and writes."""
     for setting in ("cache_size=-16384", "temp_store=FILE"):
         database.execute(f"PRAGMA {setting}")
     made = next(file for _, schema, file in database.execute("PRAGMA database_list") if schema == "main")
@@ -74,9 +61,12 @@ def write(database: sqlite3.Connection, path: pathlib.Path, window: Window, name
         try:
             axis, tracks = Axis(database, window), Tracks(database, window)
             out = format_of(name, is_android, file, axis, tracks, database)
-            drawn = Drawn(tracks, out)
-            with Piped(functools.partial(find_events, made, axis, tracks, window, drawn, out.clock, rows)) as calls:
-                Told(drawn, out).all(calls)
+            walk = Walk(database, rows, out, axis, tracks, window, Drawn(tracks, out))
+            walk.walk()
+            made_by = {"tool": "binder_audit: ./view --trace", "commit": commit()}
+            out.finish({name: value for name, value in {
+                **made_by, **axis.facts(out.clock), **facts_of(database), **window.facts(), **walk.told}.items()
+                if value is not None})
             return bool(tracks.shown)
         finally:
             file.close()

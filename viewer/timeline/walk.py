@@ -6,23 +6,26 @@ has not come yet was sent. docs/VIEW.md says what the events mean.
 
 import functools
 import heapq
-import itertools
 import math
-import operator
 import sqlite3
 from typing import Callable, Iterator
 
 from viewer.database.sqlite import named_numbers
 from viewer.rules.names import Names
 from viewer.timeline.ends_and_gaps import Mark, ends_of, gaps_of, lost_of, missed_of
-from viewer.timeline.events import (ASYNC, BUFFERS, BUSY, BYTES, CALL, CALLS, CAME, COUNTERS, REFERENCES,
-                                    SENT, SERVED, Called, Drawn, Events, Finding, Lane, Open, Process, Thread)
+from viewer.timeline.events import (ALL_COUNTERS, ASYNC, BUFFERS, BUSY, BYTES, CALL, CALLS, CAME, COUNTERS,
+                                    COUNTERS_OF, REFERENCES, SENT, SERVED, Called, Drawn, Events, Finding, Lane, Open,
+                                    Process, Thread)
 from viewer.timeline.rows import BY_PLACE, DELIVERY, FINDING, MARK, RECORD, SEND, Ahead
 from viewer.timeline.tracks import Axis, Tracks, Window
 
 VERDICTS = ("open", "answered", "replied", "failed", "crossed")
 TF_ONE_WAY = 1
 AROUND = "the call around it ended"
+
+# The counters of buffers, by their bits.
+HELD = 1 << BUFFERS | 1 << BYTES
+ONEWAY_HELD = HELD | 1 << ASYNC
 
 # Of so much that is called it is remembered what was made of it.
 REMEMBERED = 4096
@@ -51,7 +54,9 @@ class Walk:
         self.freed: set[int] = set()
         # The deliveries that a record frees, by its place.
         self.frees: dict[int, list[tuple[int, int, int, int]]] = {}
-        self.changed: dict[Process, None] = {}
+        # The processes with counters that may have changed since they were shown.
+        self.touched: list[Process] = []
+        self.has_instants = False
         self.is_whole, self.live, self.entered = window.is_whole(), False, 0
         self.handlers: dict[int, Callable[[Thread, tuple], None]] = {
             SEND: self.send, DELIVERY: self.deliver, RECORD: self.record, FINDING: self.finding}
@@ -76,6 +81,7 @@ class Walk:
         if self.live and thread.head is not None:
             self.out.instant(thread, self.axis.ns, category, name, fields)
             self.told["instants"] += 1
+            self.has_instants = True
 
     def is_shown_pair(self, thread: Thread, other: int | None, seq: int | None) -> bool:
         """Whether the flow between a record of a thread here and another one is shown, if their pair is certain."""
@@ -93,20 +99,18 @@ class Walk:
 
     def push(self, entry: Open, flow: int | None, stack: int | None) -> None:
         thread = entry.thread
-        process = thread.process
         if self.live:
             self.begin(entry, self.axis.ns, flow, stack)
         thread.lane.stack.append(entry)
         thread.entries += 1
-        self.changed[process] = None
         if entry.sort == CALL:
-            process.now[CALLS] += 1
+            self.change(thread.process, CALLS, 1)
             return
         if entry.sort == CAME:
             self.oneways.add(entry.place)
         thread.serving += 1
         if thread.serving == 1:
-            process.now[BUSY] += 1
+            self.change(thread.process, BUSY, 1)
 
     def begin(self, entry: Open, ns: int, flow: int | None = None, stack: int | None = None, why: str = "") -> None:
         if entry.thread.head is not None and entry.values is not None:
@@ -118,15 +122,13 @@ class Walk:
         """Ends what a thread is in, and what is then freed below it."""
         entry = lane.stack.pop()
         thread = entry.thread
-        process = thread.process
         thread.entries -= 1
-        self.changed[process] = None
         if entry.sort == CALL:
-            process.now[CALLS] -= 1
+            self.change(thread.process, CALLS, -1)
         else:
             thread.serving -= 1
             if thread.serving == 0:
-                process.now[BUSY] -= 1
+                self.change(thread.process, BUSY, -1)
             if entry.sort == CAME:
                 self.freed.discard(entry.place)
                 self.oneways.discard(entry.place)
@@ -155,19 +157,28 @@ class Walk:
 
     # -- counters
 
+    def touch(self, process: Process, counters: int) -> None:
+        if not process.touched:
+            self.touched.append(process)
+        process.touched |= counters
+
+    def change(self, process: Process, counter: int, by: int) -> None:
+        self.touch(process, 1 << counter)
+        process.now[counter] += by
+
     def count(self, ns: int) -> None:
         """Writes the counters that were changed."""
-        if not self.live:
-            return
-        for process in self.changed:
-            changed = [*itertools.compress(enumerate(process.now), map(operator.ne, process.now, process.shown))]
-            if changed and process.head is not None:
+        for process in self.touched:
+            now, shown = process.now, process.shown
+            changed = [at for at in COUNTERS_OF[process.touched] if now[at] != shown[at]]
+            process.touched = 0
+            if changed and self.live and process.head is not None:
                 if ns > process.latest:
                     process.latest = ns
                 self.out.count(process, process.latest, changed)
                 self.told["counter_events"] += len(changed)
-                process.shown = process.now.copy()
-        self.changed.clear()
+                shown[:] = now
+        self.touched.clear()
 
     # -- rows
 
@@ -253,7 +264,7 @@ class Walk:
 
     def hold(self, process: Process, size: int, oneway: int, change: int = 1) -> None:
         """A buffer that a process gets, or frees."""
-        self.changed[process] = None
+        self.touch(process, ONEWAY_HELD if oneway else HELD)
         now = process.now
         now[BUFFERS] += change
         now[BYTES] += change * size
@@ -296,8 +307,7 @@ class Walk:
         """A strong reference that is taken or let go. The driver ignores it if one is let go that is not held."""
         strong = process.strong.pop(handle, 0)
         change = 1 if takes else -1 if strong else 0
-        self.changed[process] = None
-        process.now[REFERENCES] += change
+        self.change(process, REFERENCES, change)
         if strong + change:
             process.strong[handle] = strong + change
 
@@ -309,13 +319,20 @@ class Walk:
             self.out.finding(thread, self.axis.ns, Finding(
                 verdict, title, one, {name: value for name, value in told.items() if value not in (None, "")}))
             self.told["instants"] += 1
+            self.has_instants = True
 
     # -- all of it
 
+    def end_instants(self) -> None:
+        """Instants come last in their frame."""
+        self.out.end_frame()
+        self.has_instants = False
+
     def next_frame(self, seq: int, ts: int | None, thread: Thread) -> bool:
         """Goes on to a frame. Returns whether it is past the window."""
-        self.out.end_frame()
-        if self.changed:
+        if self.has_instants:
+            self.end_instants()
+        if self.touched:
             self.count(self.axis.ns)
         if not self.is_whole and self.window.is_past(seq):
             return True
@@ -331,20 +348,24 @@ class Walk:
             at = self.axis.on(lane, self.entered) if lane.stack else 0
             for entry in lane.stack:
                 self.begin(entry, at, why="before --from")
-        self.changed = dict.fromkeys(self.processes.values())
+        for process in self.touched:
+            process.touched = 0
+        self.touched.clear()
+        for process in self.processes.values():
+            self.touch(process, ALL_COUNTERS)
         self.count(self.axis.ns)
 
     def mark(self, mark: Mark) -> None:
         """What is not a record: an end, or something that is missing."""
         axis = self.axis
-        self.out.end_frame()
+        self.end_instants()
         self.count(axis.ns)
         ns = axis.ns if mark.ts is None or not axis.timed else max(axis.ns, min(mark.ts, axis.end))
         for utid in mark.threads:
             self.leave(self.threads[utid], mark.why, ns)
         for upid in mark.processes:
             process = self.processes[upid]
-            self.changed[process] = None
+            self.touch(process, ALL_COUNTERS)
             process.now[:] = [0] * len(COUNTERS)
             process.strong.clear()
         self.count(ns)
@@ -353,6 +374,7 @@ class Walk:
         if self.window.has(mark.seq) and (where.head is not None if where else bool(self.tracks.shown)):
             self.out.instant(where, ns, mark.category, mark.name, mark.fields)
             self.told["instants"] += 1
+            self.has_instants = True
 
     def marks(self) -> Iterator[tuple]:
         yield from heapq.merge(ends_of(self.database, self.tracks), lost_of(self.database, self.tracks),
@@ -387,7 +409,7 @@ class Walk:
 
     def walk(self) -> None:
         self.walk_rows()
-        self.out.end_frame()
+        self.end_instants()
         self.count(self.axis.ns)
         if not self.live and self.window.begins_within(self.axis.last):
             self.enter()

@@ -13,6 +13,7 @@ MORE = [bytes((n & 127 | 128, n >> 7 | 128)) for n in range(PAIRS)]
 LENGTHS = [bytes((n & 127 | 128, n >> 7)) for n in range(PAIRS)]
 
 LOW = PAIRS - 1
+TWO_PAIRS, TWICE = PAIRS * PAIRS, 2 * BITS
 
 VARINT, FIXED, LENGTH = 0, 1, 2
 
@@ -45,9 +46,9 @@ def varint(number: int) -> bytes:
 
 def varint_of_time(ns: int) -> bytes:
     """A number of which the lowest 28 bits are hardly ever the same again."""
-    if ns < PAIRS * PAIRS:
+    if ns < TWO_PAIRS:
         return varint(ns)
-    return MORE[ns & LOW] + MORE[ns >> BITS & LOW] + RESTS[ns >> 2 * BITS]
+    return MORE[ns & LOW] + MORE[ns >> BITS & LOW] + RESTS[ns >> TWICE]
 
 
 @functools.cache
