@@ -3,6 +3,7 @@
 import json
 import pathlib
 import sqlite3
+import time
 from typing import Iterator
 
 from viewer.files import Stopped
@@ -23,15 +24,33 @@ AT_A_TIME = 500
 # The layout of a lab.
 LAYOUT = 1
 
+# How many seconds a loader waits for its turn.
+PATIENCE = 600
+
+
+def may_be_read_while_written(lab: sqlite3.Connection) -> None:
+    """Makes the lab one with a write-ahead log, because others may read such a file while one writes. SQLite refuses
+    this at once, and doesn't wait, while another loader does the same."""
+    until = time.monotonic() + PATIENCE
+    while True:
+        try:
+            lab.execute("PRAGMA journal_mode=WAL")
+            return
+        except sqlite3.OperationalError as error:
+            is_busy = error.sqlite_errorcode & 0xff == sqlite3.SQLITE_BUSY
+            if not is_busy or time.monotonic() > until:
+                raise
+            time.sleep(0.01)
+
 
 def open_lab(path: str, may_make: bool = False) -> sqlite3.Connection:
     """The lab, which others may read while one writes."""
     mode = "rwc" if may_make else "rw"
     try:
         lab = sqlite3.connect(f"{pathlib.Path(path).absolute().as_uri()}?mode={mode}", uri=True, isolation_level=None,
-                              timeout=600)
+                              timeout=PATIENCE)
         if may_make:
-            lab.execute("PRAGMA journal_mode=WAL")
+            may_be_read_while_written(lab)
             lab.execute("PRAGMA synchronous=NORMAL")
             lab.execute("BEGIN IMMEDIATE")
             for statement in (FOLDER / "lab.sql").read_text().split(";\n"):

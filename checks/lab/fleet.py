@@ -7,6 +7,8 @@
                                                Debian's slurmctld, slurmd and munge
     checks/run fleet -- --make                 makes 200 captures by lab/Makefile, with jobs killed; by hand
     checks/run fleet -- --cut                  cuts all stored captures in front; prints how many keys are the same
+    checks/run fleet -- --two FOLDER FOLDER    prints which keys only one of two recordings of the same sessions has, as
+                                               `checks/run driver` leaves them for two kernels
 
 What must hold:
 
@@ -29,6 +31,7 @@ import argparse
 import copy
 import hashlib
 import json
+import multiprocessing
 import os
 import pathlib
 import random
@@ -41,9 +44,10 @@ from typing import Iterator
 from checks.kit.checking import FLAG, Fail, check, compare
 from checks.kit.programs import DRIVER, ROOT, built_programs
 from checks.kit.runs import answer
-from checks.lab.keys import CUT, check_keys_of_cut
+from checks.lab.keys import CUT, check_keys_of_cut, print_keys_of_two
 from checks.lab.nodes import check_by_make, check_by_slurm
 from lab import result
+from lab.store import open_lab
 from viewer.units import defect_key
 
 # The captures whose defects each made-up session has, and those that few have.
@@ -306,13 +310,30 @@ def check_better(folder: pathlib.Path, room: pathlib.Path, of: dict[str, dict], 
 def check_asked(folder: pathlib.Path, room: pathlib.Path, key: str, fail: Fail) -> None:
     lab = room / "lab.db"
     asked = {"new": (["old=b2", "new=b3", "devices=2"], PLANTED), "since": ([], "\tb3\tb4\t"),
-             "rate": ([f"defect={key}"], "\nb3\t"), "longest": ([], "\tcode "), "holds": ([], " on binder\tb"),
+             "rate": ([f"defect={key}"], "\nb3\t"), "longest": ([], " code "), "holds": ([], " on binder\tb"),
              "called": ([f"defect={key}"], "\nb3\t"), "SELECT count(*) AS n FROM capture": ([], "n\n")}
     for question, (values, due) in asked.items():
         status, out, told = fleet(folder, "ask", lab, question, *values)
         compare(f"ask {question}", (status, due in out, told), (0, True, ""), fail)
     for question in ("new", "DELETE FROM capture", "SELECT * FROM none", "-"):
         compare(f"ask {question}", fleet(folder, "ask", lab, question)[0], 64, fail)
+
+
+def make_at_once(room: pathlib.Path, fail: Fail) -> None:
+    """Eight processes that find no lab, and make it at the same moment; twenty times, because few collide."""
+    moment = multiprocessing.Barrier(8)
+
+    def make(lab: pathlib.Path) -> None:
+        moment.wait()
+        open_lab(str(lab), may_make=True).close()
+
+    for number in range(20):
+        eight = [multiprocessing.Process(target=make, args=[room / f"new-{number}.db"]) for _ in range(8)]
+        for one in eight:
+            one.start()
+        for one in eight:
+            one.join(600)
+        compare("eight that make one lab", [one.exitcode for one in eight], [0] * 8, fail)
 
 
 def check_each(folder: pathlib.Path, room: pathlib.Path, fail: Fail) -> None:
@@ -341,6 +362,8 @@ def check_lab(folder: pathlib.Path, room: pathlib.Path, count: int, tell: bool, 
     took(f"{count} results")
     load_by_four(folder, room, count, fail)
     took("four loaders and one more")
+    make_at_once(room, fail)
+    took("eight that make one lab, twenty times")
     key = check_compared(folder, room, fail)
     took("seven comparisons")
     check_asked(folder, room, key, fail)
@@ -387,6 +410,8 @@ def judge(given: argparse.Namespace, room: pathlib.Path, fail: Fail) -> None:
         check_by_slurm(folder, room, given.slurm, fail)
     elif given.make:
         check_by_make(folder, room, fail)
+    elif given.two:
+        print_keys_of_two(folder, room, tuple(given.two))
     elif given.cut:
         names = sorted(it.parent.name for it in DRIVER.glob("*/capture-1.cap"))
         same, split = check_keys_of_cut(folder, room, names, fail)
@@ -402,4 +427,5 @@ def judge(given: argparse.Namespace, room: pathlib.Path, fail: Fail) -> None:
 
 if __name__ == "__main__":
     check(judge, results={"type": int, "default": 0}, make=FLAG, cut=FLAG,
+          two={"type": pathlib.Path, "nargs": 2, "metavar": "FOLDER"},
           slurm={"type": int, "nargs": "?", "const": 0, "metavar": "N"})
