@@ -6,14 +6,16 @@
 # Tables of methods in LAB/BUILD, SOMETHING.methods, are for all captures of the build. A line on standard error says
 # how far the lab is, if LAB/results/.progress says how many sessions there are to do.
 set -euo pipefail
-shopt -s nullglob extglob
+shopt -s nullglob
 here=$(cd -- "${BASH_SOURCE[0]%/*}" && pwd)
 lab=$1 session=$2
 IFS=/ read -r build device _ <<<"$session"
 at=$lab/$session
 
 files=("$at.cap") sides=("$at.side") words=()
-if [[ ! -e $at.cap ]]; then mapfile -t files < <(printf '%s\n' "$at"-+([0-9]).cap | sort -V); fi
+if [[ ! -e $at.cap ]]; then
+  mapfile -t files < <(printf '%s\n' "$at"-[0-9]*.cap | grep -E -- '-[0-9]+\.cap$' | sort -V)
+fi
 if [[ ! -e $at.side ]]; then mapfile -t sides < <(printf '%s\n' "${files[@]%.cap}" | sed 's/$/.side/'); fi
 for side in "${sides[@]}"; do
   if [[ -e $side ]]; then words+=("--side=$side"); fi

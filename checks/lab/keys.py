@@ -1,13 +1,14 @@
-"""What becomes of keys in a capture that begins later: the same defects have the same keys, but where a name came
-before its first frame. docs/FLEET.md says which names these are."""
+"""What becomes of keys in other captures. In one that begins later the same defects have the same keys, but where a name
+came before its first frame; docs/FLEET.md says which names these are. And in two recordings of one session, for example
+on two kernels."""
 
 import pathlib
 from typing import Iterable
 
 from checks.kit.checking import Fail, compare
 from checks.kit.frames import frames_of
-from checks.kit.programs import DRIVER
 from checks.kit.runs import answer
+from checks.viewer.page.common import texts_stored
 from checks.viewer.page.losses import met_later
 from viewer.defects.seen import Defect, defects_of, kept_database
 
@@ -18,13 +19,18 @@ CUT = "forgetful", "hello-stuck", "leaks", "sessions"
 LESS = (("reply to no call", "reply to "), ("handle", "handle, "), ("handle 0", "handle 0, "), ("cookie", "handle"))
 
 
+def recorded(folder: pathlib.Path, room: pathlib.Path, capture: pathlib.Path, side: pathlib.Path) -> dict[str, Defect]:
+    """The defects of a capture."""
+    made = room / "keys.db"
+    made.unlink(missing_ok=True)
+    answer([folder / "view", capture, "--side", side, "--groups", "--database", made], text=True)
+    return defects_of(kept_database(str(made)))
+
+
 def defects(folder: pathlib.Path, room: pathlib.Path, capture: bytes, side: str) -> dict[str, Defect]:
-    made = {name: room / f"keys.{name}" for name in ("cap", "side", "db")}
-    made["cap"].write_bytes(capture)
-    made["side"].write_text(side)
-    made["db"].unlink(missing_ok=True)
-    answer([folder / "view", made["cap"], "--side", made["side"], "--groups", "--database", made["db"]], text=True)
-    return defects_of(kept_database(str(made["db"])))
+    (room / "keys.cap").write_bytes(capture)
+    (room / "keys.side").write_text(side, errors="surrogateescape")
+    return recorded(folder, room, room / "keys.cap", room / "keys.side")
 
 
 def lacks_a_name(defect: Defect, of: Defect) -> bool:
@@ -40,7 +46,7 @@ def check_keys_of_cut(folder: pathlib.Path, room: pathlib.Path, names: Iterable[
     """Cuts stored captures in front. Returns how many defects have their key there, and how many lack a name."""
     same = split = 0
     for name in names:
-        capture, side = (DRIVER / name / "capture-1.cap").read_bytes(), (DRIVER / name / "capture.side").read_text()
+        capture, side = texts_stored(name)
         whole, frames = defects(folder, room, capture, side), frames_of(capture)
         for quarter in 1, 2:
             first = frames[len(frames) * quarter // 4]
@@ -53,3 +59,25 @@ def check_keys_of_cut(folder: pathlib.Path, room: pathlib.Path, names: Iterable[
                     fail(f"{name}, cut after {quarter} of 4: no such defect: {it.kind}, {it.who}, {it.path}")
     compare("keys of captures that are cut in front: most are the same", same > split > 0, True, fail)
     return same, split
+
+
+# ---- two recordings of one session
+
+
+def print_keys_of_two(folder: pathlib.Path, room: pathlib.Path, of: tuple[pathlib.Path, pathlib.Path]) -> None:
+    """Compares the defects that are `real` or `maybe` in the recordings of the same sessions in two folders, and prints
+    those that only one recording has."""
+    sessions = sorted(it.parent.name for it in of[0].glob("*/capture-1.cap")
+                      if (of[1] / it.parent.name / "capture-1.cap").exists())
+    both, only = 0, [0, 0]
+    for name in sessions:
+        found = [recorded(folder, room, it / name / "capture-1.cap", it / name / "capture.side") for it in of]
+        keys = [{key for key, it in defects.items() if it.counts} for defects in found]
+        both += len(keys[0] & keys[1])
+        for at in 0, 1:
+            for key in sorted(keys[at] - keys[1 - at]):
+                only[at] += 1
+                it, other = found[at][key], found[1 - at].get(key)
+                print(f"{name}: only in {of[at]}: {it.verdict}, {it.kind}, {it.who}, {it.path}; in the other one "
+                      f"{'it is ' + other.verdict if other else 'it is not'}", flush=True)
+    print(f"{len(sessions)} sessions: {both} keys in both, {only[0]} only in {of[0]}, {only[1]} only in {of[1]}")

@@ -9,6 +9,7 @@ import socket
 import sqlite3
 import subprocess
 import time
+from types import FrameType
 from typing import Callable, Iterator
 
 from checks.kit.checking import Fail, compare
@@ -116,7 +117,7 @@ class Cluster:
     """munge, slurmctld and two nodes on loopback."""
 
     def __init__(self, room: pathlib.Path):
-        self.room, self.begun = room, []
+        self.room = room
         self.conf = room / "slurm.conf"
         self.conf.write_text(CONFIGURATION.format(host=socket.gethostname().partition(".")[0], room=room))
         (room / "state").mkdir()
@@ -126,10 +127,8 @@ class Cluster:
 
     def begin(self, *words: object) -> subprocess.Popen:
         with open(self.room / "said", "ab") as said:
-            one = subprocess.Popen(list(map(str, words)), env=self.environment, stdin=subprocess.DEVNULL, stdout=said,
-                                   stderr=said, start_new_session=True)
-        self.begun.append(one)
-        return one
+            return subprocess.Popen(list(map(str, words)), env=self.environment, stdin=subprocess.DEVNULL, stdout=said,
+                                    stderr=said, start_new_session=True)
 
     def start(self) -> None:
         self.begin("munged", "--foreground", "--force", *(f"--{name}={self.room}/munge.{name}" for name in (
@@ -160,7 +159,7 @@ class Cluster:
         return found
 
     def kill(self, *texts: str) -> int:
-        """Kills the processes of tasks that have these texts."""
+        """Kills the processes that have these texts, and returns how many it found."""
         some = self.processes(*texts)
         for pid in some:
             with contextlib.suppress(ProcessLookupError):
@@ -168,23 +167,38 @@ class Cluster:
         return len(some)
 
     def stop(self) -> None:
-        for one in reversed(self.begun):
-            one.kill()
-            one.wait()
-        for pid in self.processes():
-            with contextlib.suppress(ProcessLookupError):
-                os.kill(pid, signal.SIGKILL)
+        """Kills all that it started, and what that started meanwhile."""
+        while self.kill():
+            time.sleep(0.1)
+
+
+@contextlib.contextmanager
+def stopped_first(made: Cluster) -> Iterator[None]:
+    """A signal that ends the check stops the cluster before."""
+    before = {number: signal.getsignal(number) for number in (signal.SIGINT, signal.SIGTERM)}
+
+    def stop(number: int, frame: FrameType | None) -> None:
+        made.stop()
+        before[number](number, frame)
+    for number in before:
+        signal.signal(number, stop)
+    try:
+        yield
+    finally:
+        for number, handler in before.items():
+            signal.signal(number, handler)
 
 
 @contextlib.contextmanager
 def cluster(room: pathlib.Path) -> Iterator[Cluster]:
     room.mkdir()
     made = Cluster(room)
-    try:
-        made.start()
-        yield made
-    finally:
-        made.stop()
+    with stopped_first(made):
+        try:
+            made.start()
+            yield made
+        finally:
+            made.stop()
 
 
 def check_by_slurm(folder: pathlib.Path, room: pathlib.Path, task: int, fail: Fail) -> None:
