@@ -40,101 +40,101 @@ CHAPTERS = {
 
 INTRODUCTION = """# The definitions
 
-Here is all that the [headline](PROMISES.md#fourth-rung-the-headline-any-number-of-workers) rests on:
-ROOTS, the definitions that this names, those that they name, and so on to the end. The
-proofs show that the program does what these definitions say. Whether they say what you mean, no proof can show: that
-you must read.
+The [headline](PROMISES.md#fourth-rung-the-headline-any-number-of-workers) rests on
+ROOTS, and on all definitions to which the contract leads from name to name.
+Proofs show that the program does as the definitions say. Whether the definitions say what you mean, no proof can show:
+for that, read this page.
 
-Each definition has its comment before it, which says it in words. What counts is its text. The two should say the same.
-A chapter goes from the whole to its parts: in it, a definition comes before those that it names. A heading names a file
-of `specs/` in a crate, for the definitions below it. A type or a constant of the code, from `src/`, comes after the
-first definition that names it. There a number of any width means a number without bounds, and `Vec<T>` means `List T`.
-A case may have the name of a case of another type, or of a type: the type at hand tells which is meant. Only what the
-headline needs is shown; the sentence under a heading may speak of more of its file. The words of the toolchain come
-last. `checks/run definitions` makes this page from the sources.
+The comment before a definition says the same in words; the text of the definition counts. A chapter goes from the whole
+to the parts: a definition comes before the definitions of the chapter that it names. A heading names a file of `specs/`
+in a crate, and the definitions of that file follow. A type or a constant of the code, from `src/`, follows the first
+definition that names the type or constant. In such code a number of any width means a number without bounds, and
+`Vec<T>` means `List T`. Two types may have cases of one name, and a case may have the name of a type: the type at hand
+tells which is meant. Only the definitions that the headline needs are shown, so the sentence under a heading may speak
+of more. The words of the toolchain come last. `checks/run definitions` makes this page from the sources.
 
 | sign | what it says |
 |---|---|
 | `f : A → B → C` | f makes a C of an A and a B |
 | `f x y`, `λ x. e` | f of x and y; the function that makes e of x |
-| `f None = a`, `f _ = b` | f of `None` is a, and of all else b: the first line that fits counts |
+| `f None = a`, `f _ = b` | f of `None` is a, and f of any other value is b: the first line that fits counts |
 | `let x = a in e` | e, where x is a |
 | `elim x [ \| p ↦ a \| q ↦ b ]` | a if x is p, and b if x is q |
 | `P : A → Type 0` | P is a statement about an A, which is true or not |
 | `a ≡ b` | a is b |
 | `P × Q`, `P → Q` | P and Q; if P, then Q |
 | `(x : A) → P`, `(x : A) × P` | for each x of A, P; for some x of A, P |
-| `⊤`, `⊥` | what is always true; what is never true |
+| `⊤`, `⊥` | the statement that is always true; the statement that is never true |
 | `Unit {0}` | the type that has only `tt` |
 | `A × B`, `(a, b)`, `p.0`, `p.1` | the type of pairs, a pair, and the two parts of a pair |
 | `T : Type 0` | T is a type |
-| `{A : Type 0}` | for each type A; which one is meant is seen from the rest |
-| `record` | a type with these fields; as a statement: there is something for each field |
-| `p.a`, `record { a = b }` | the field a of p; what has b as its field a |
-| `data` | a type with these cases; as a statement: it is true in each of these cases, and in no other |
+| `{A : Type 0}` | for each type A; the rest of the line shows which type is meant |
+| `record` | a type with these fields; as a statement: there is a value for each field |
+| `p.a`, `record { a = b }` | the field a of p; a value with b as the field a |
+| `data` | a type with these cases; as a statement: true in each of these cases, and in no other |
 | `[]`, `x ∷ xs`, `xs ++ ys` | the empty list; x and then the list xs; the list xs and then the list ys |
 | `a - b`, `a / b`, `a % b` | of `ℕ`: the difference, or 0 if b is larger; the quotient, rounded down; the rest |
 | `a -ℤ b` | the difference, of `ℤ` |
 | `a == b`, `a && b`, `a \|\| b` | a is b; a and b; a or b: as a `Bool` that is computed |
-| `requires { P }`, `ensures { Q }` | the caller sees to P; after the call Q is true, where `result` is what it returned |
+| `requires { P }`, `ensures { Q }` | P is true before the call, and Q after the call; `result` is the returned value |
 | `x.old`, `x.new`, `v.items` | in a contract: x before the call and after it; the elements of a `Vec` |
 """
 
 # What words of the libraries mean. The others are only listed.
 WORDS = {
     "All": "the statement is true of each element",
-    "AllZip": "the lists have the same length, and the statement is true of each two elements with the same number",
-    "Appends": "if the old bytes are known, the new ones are the old ones and then these",
-    "IfSome": "if there is a value, the statement is true of it",
-    "Keeps": "if the old bytes are known, the new ones are the same",
-    "bit_and": "the bits that both numbers have",
-    "bit_or": "the bits that at least one of the numbers has",
-    "contents": "of a writer, the bytes that it has, if they are known",
+    "AllZip": "the lists have the same length, and the statement is true of each two elements at one index",
+    "Appends": "if the old bytes are known, the new bytes are the old bytes and then the given ones",
+    "IfSome": "the statement is true of the value, if there is one",
+    "Keeps": "if the old bytes are known, the new bytes are the same",
+    "bit_and": "the bits of both numbers",
+    "bit_or": "the bits of at least one of the numbers",
+    "contents": "the bytes of a writer, if known",
     "bool_cmp": "the order of `Bool`: `false`, then `true`",
     "codes": "the bytes of a literal",
-    "cons_option": "the list, with the value before it if there is one",
+    "cons_option": "the list, after the value if there is one",
     "count_by": "how many elements pass the test",
     "decimal": "a number in decimal digits",
     "digit_glyph": "the byte of one digit, in lower case if `false` is given",
-    "digits": "a number in digits of this base, in lower case if `false` is given",
+    "digits": "a number in digits of the given base, in lower case if `false` is given",
     "drop": "the list without its first n elements",
-    "eq_by_cmp": "whether two values are `Equal` in this order",
-    "filter": "the elements that pass the test, in their order",
-    "filter_map": "what is read of the elements of which something is read, in their order",
+    "eq_by_cmp": "whether two values are `Equal` in the given order",
+    "filter": "the elements that pass the test, in order",
+    "filter_map": "the values that the function gives for the elements, in order, without `None`",
     "find": "the first element that passes the test, if one does",
-    "flat_map": "the lists that are made of the elements, one after another",
-    "fold": "the value after the last element, where each element in turn makes a new value of the one before",
+    "flat_map": "the lists that the function makes of the elements, one after another",
+    "fold": "the value after the last element, where each element in turn makes a new value of the value before",
     "int_eq": "whether two numbers of `ℤ` are the same",
     "int_min": "the lesser of two numbers of `ℤ`",
     "is_some": "whether there is a value",
     "keys_of": "the first part of each pair",
-    "last_or": "the last element, or what is given if the list is empty: some element or none",
+    "last_or": "the last element, or the given value if the list is empty",
     "length": "how many elements a list has",
     "list_any": "whether some element passes the test",
     "little_number": "the number in the first n bytes, the lowest first",
-    "map": "what is made of each element, in their order",
+    "map": "the values that the function makes of the elements, in order",
     "match_ordering": "the first, the second or the third value, for `Less`, `Equal` or `Greater`",
     "nat_cmp": "the order of `ℕ`",
-    "on": "the comparison of what is made of each of two values",
-    "option_map": "what is made of the value, if there is one",
-    "option_map_or": "what is made of the value, or the given one if there is none",
+    "on": "the comparison of the function's values of two values",
+    "option_map": "the value that the function makes of the value, if there is one",
+    "option_map_or": "the value that the function makes of the value, or the given value if there is none",
     "option_or": "the first, or the second if the first has no value",
     "ordering_then": "the first, or the second if the first is `Equal`",
     "pos": "a number of `ℕ` as a number of `ℤ`",
-    "remaining": "of a reader, the bytes that it has left, if they are known",
+    "remaining": "the bytes left in a reader, if known",
     "sameb": "whether two values of the enum, whose cases hold nothing, are the same",
-    "signed_decimal": "a number in decimal digits, after a `-` if it is below 0",
-    "slice_get": "the element with this number, counted from 0, if there is one",
-    "slice_index": "of a list of numbers the one at this index, counted from 0, or 0 after the end",
-    "starts_with": "whether the list begins with this one, by this test of two elements",
+    "signed_decimal": "a number in decimal digits, after a `-` if below 0",
+    "slice_get": "the element at the index, counted from 0, if there is one",
+    "slice_index": "the number at the index, counted from 0, or 0 after the end of the list",
+    "starts_with": "whether the list begins with the other list, by the given test of two elements",
     "suc": "`suc n` is n + 1",
     "sum": "the sum of the elements",
-    "sum_by": "the sum of the numbers that are made of the elements",
+    "sum_by": "the sum of the function's numbers of the elements",
     "take": "the first n elements, or all if there are fewer",
-    "the_type": "the enum of the values beside it",
+    "the_type": "the enum of the values beside the word",
     "then_cmp": "by the first order, and by the second where the first has `Equal`",
-    "twos_complement": "the signed number that has this number of n bytes as its two's complement",
-    "unwrap_or": "the value, or the given one if there is none",
+    "twos_complement": "the signed number with the given number of n bytes as two's complement",
+    "unwrap_or": "the value, or the given value if there is none",
     "vec_len": "how many elements a `Vec` has",
 }
 

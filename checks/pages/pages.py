@@ -19,7 +19,7 @@ What must hold:
   itself if no other crate uses it.
 - The wrong bodies in a crate's page are those in its must-fail/, each of which names the goal at which it is refused.
 - docs/PROMISES.md names each wrong body of each crate and no others, in its tables only names that are in the sources,
-  and the sizes of what is trusted, up to a tenth.
+  and the sizes of what is trusted, up to a tenth. README.md has the number of wrong bodies.
 - docs/DEFINITIONS.md is the page that checks/run definitions makes.
 """
 

@@ -1,4 +1,5 @@
-"""docs/PROMISES.md: its wrong bodies are those of the crates, its names are in the sources, and its sizes are so."""
+"""docs/PROMISES.md: its wrong bodies are those of the crates, its names are in the sources, and its sizes are so.
+README.md has the number of wrong bodies too."""
 
 import functools
 import pathlib
@@ -9,6 +10,7 @@ from typing import Callable, Iterator
 from checks.kit.programs import ROOT
 
 PAGE = ROOT / "docs/PROMISES.md"
+README = ROOT / "README.md"
 CRATES = ROOT / "crates"
 EDITS = "*/must-fail/*.edit"
 NAMED = re.compile(r"`([^`]+)`")
@@ -118,19 +120,25 @@ def wrong_sizes(text: str) -> Iterator[tuple[int, str]]:
             yield number, f"{what}: {size:,} lines or bytes, not {cell or 'no row'}"
 
 
+def wrong_count(text: str, what: str, pattern: str, count: int) -> Iterator[tuple[int, str]]:
+    """A number in a page that is not so."""
+    found = re.search(pattern, text)
+    if not found or int(found[1]) != count:
+        yield text.count("\n", 0, found.start()) + 1 if found else 1, f"there are {count} {what}"
+
+
 def wrong_counts(text: str) -> Iterator[tuple[int, str]]:
     """The numbers of crates and of wrong bodies that are not so."""
-    for what, pattern, count in (("crates of `./audit`", r"in (\d+) crates", len(below("binder_audit"))),
-                                 ("wrong bodies", r"(\d+) changes of the code", len(list(CRATES.glob(EDITS))))):
-        found = re.search(pattern, text)
-        if not found or int(found[1]) != count:
-            yield text.count("\n", 0, found.start()) + 1 if found else 1, f"there are {count} {what}"
+    yield from wrong_count(text, "crates of `./audit`", r"in (\d+) crates", len(below("binder_audit")))
+    yield from wrong_count(text, "wrong bodies", r"(\d+) changes of the code", len(list(CRATES.glob(EDITS))))
 
 
 def wrong(page: pathlib.Path) -> Iterator[tuple[int, str]]:
     """What is wrong with the page, with its line."""
+    text = page.read_text()
+    if page == README:
+        yield from wrong_count(text, "wrong bodies", r"(\d+) wrong changes of the code", len(list(CRATES.glob(EDITS))))
     if page == PAGE:
-        text = page.read_text()
         checks: tuple[Callable[[str], Iterator[tuple[int, str]]], ...] = (
             wrong_bodies, wrong_names, wrong_sizes, wrong_counts)
         for one in checks:
