@@ -7,7 +7,8 @@ crates/audit_cases/data and samples/ the listing and the auditor's report must a
 line of the first fault, and in the status. Freeze notifications, which the report counts as opaque, have their names
 and fields. A narrowed listing must be the lines of the whole listing that fit. Several
 files are one capture, also if each capture is cut into a file for each frame. In version 2 a frame has a device. Of the
-payloads in kit/tokens.py each must have the interface and the service that it names, and no other.
+payloads in kit/tokens.py each must have the interface and the service that it names, and no other. The columns that
+listing_tables fills are those of viewer/database/schema.sql.
 """
 
 import argparse
@@ -23,7 +24,7 @@ from checks.kit.captures import *
 from checks.kit.checking import Fail, check, compare
 from checks.kit.frames import frames_of
 from checks.kit.programs import CHECKS, DRIVER, LISTING, ROOT, SMALL
-from checks.kit.rows import rows_of
+from checks.kit.rows import columns_of_tables, rows_of
 from checks.kit.second_reading import NEWER
 from checks.kit.traffic import write_traffic
 
@@ -301,10 +302,7 @@ def interface_in(line: str) -> str | None:
 
 def names_in(tables: pathlib.Path, of: str = "interface") -> list[str | None]:
     """The interface, or the service, of each row of the table record."""
-    names: dict[int, str] = {}
-    for row in rows_of(tables / f"{of}.rows"):
-        letters = row["letters"].to_bytes(8, "little").rstrip(b"\0").decode()
-        names[row["id"]] = names.get(row["id"], "") + letters
+    names = {row["id"]: row["name"] for row in rows_of(tables / f"{of}.rows")}
     if len(set(names.values())) < len(names) or list(names) != list(range(1, len(names) + 1)):
         raise ValueError(f"{tables}: {names}")
     return [names[row[of]] if of in row else None for row in rows_of(tables / "record.rows")]
@@ -371,6 +369,13 @@ def check_services(room: pathlib.Path, fail: Fail) -> None:
 
 
 # ---- raw tables
+
+
+def check_columns(fail: Fail) -> None:
+    """The rows that listing_tables makes have the columns of the raw tables in schema.sql, by name and in order."""
+    made = "".join(path.read_text() for path in (ROOT / "crates/listing_tables/src").glob("*.rt"))
+    compare("columns", {tuple(re.findall(r"(\w+): ", row)) for row in re.findall(r"columns! \{(.*?)\}", made, re.DOTALL)},
+            set(map(tuple, columns_of_tables().values())), fail)
 
 
 def check_tables(room: pathlib.Path, fail: Fail) -> None:
@@ -481,6 +486,7 @@ def judge(given: argparse.Namespace, room: pathlib.Path, fail: Fail) -> None:
     for part in (check_narrowed, check_freezes, check_forms, check_parts, check_tables, check_interfaces,
                  check_services):
         part(room, fail)
+    check_columns(fail)
     check_places(fail)
     check_side(fail)
     check_words(fail)

@@ -45,7 +45,7 @@ What must hold:
 - Against the database of another capture, lines and marks say what is new, worse, grown or gone, and `gone` only of
   what could have come up again. Keys that are not alike are refused. `--fail-on` gives status 10 for what is not known.
 - SIGKILL leaves a folder, which the next `view` removes.
-- The loader in C and the one in Python make the same database of the same rows.
+- The loader puts each row as it is into its table, and refuses rows that are not whole.
 - No statement of the rules takes the square of what a capture has.
 - The rules in docs/RULES.md are those of the database, and so are the names, columns, types and keys in
   docs/DATABASE.md.

@@ -5,11 +5,11 @@
  *
  * DATABASE is created, and must not exist. SCHEMA is a file of SQL statements that create the tables. Each table whose
  * name begins with raw_ takes the rows of FOLDER/NAME.rows, where NAME is what follows raw_. docs/DATABASE.md says what
- * a row is. Only the schema says how many columns a table has. side_time takes the lines of frames of SIDE, a side
- * list. Everything is one transaction.
+ * a row is. Only the schema says how many columns a table has, and which of them are texts. side_time takes the lines
+ * of frames of SIDE, a side list. Everything is one transaction.
  *
  * Status 0: everything is loaded. Status 1: a line on standard error says why not, and DATABASE is not whole.
- * Nothing of this is proved: it copies numbers, and checks that rows are whole.
+ * Nothing of this is proved: it copies numbers and texts, and checks that rows are whole.
  */
 #include <errno.h>
 #include <fcntl.h>
@@ -84,14 +84,14 @@ struct rows {
 	unsigned char *bytes;
 	size_t length;
 	int columns;
+	uint64_t texts;		/* a bit for each column that is a text */
 };
 
-/* A cursor is at a row, or at the end of the file. The numbers of a row follow its mask. */
+/* A cursor is at a row, or at the end of the file. Of each column it has where it is, and 0 if it is NULL. */
 struct cursor {
 	sqlite3_vtab_cursor base;
-	size_t at, next;
-	uint64_t mask;
-	size_t given_back;
+	size_t at, next, given_back;
+	size_t columns_at[MOST_COLUMNS];
 };
 
 static const struct rows *rows_of(const sqlite3_vtab_cursor *cursor)
@@ -107,9 +107,14 @@ static uint64_t number_at(const struct rows *rows, size_t at)
 	return number;
 }
 
-static size_t numbers_of(uint64_t mask)
+/* Takes so many bytes of the row, from where the next row would begin otherwise. */
+static size_t take(struct cursor *cursor, const struct rows *rows, uint64_t length)
 {
-	return (size_t)__builtin_popcountll(mask);
+	size_t at = cursor->next;
+	if (rows->length - at < length)
+		stop("%s ends within a row", rows->path);
+	cursor->next += length;
+	return at;
 }
 
 /* Gives back to the system what was read, from time to time: otherwise the whole file would stay in memory. */
@@ -126,19 +131,17 @@ static int go_on(sqlite3_vtab_cursor *base)
 	struct cursor *cursor = (struct cursor *)base;
 	const struct rows *rows = rows_of(base);
 	give_back(cursor, rows);
-	size_t left = rows->length - cursor->next;
 	cursor->at = cursor->next;
-	if (left == 0)
+	if (cursor->at == rows->length)
 		return SQLITE_OK;
-	if (left < 8)
-		stop("%s ends within a row", rows->path);
-	cursor->mask = number_at(rows, cursor->at);
-	if (cursor->mask >> rows->columns)
+	uint64_t mask = number_at(rows, take(cursor, rows, 8));
+	if (mask >> rows->columns)
 		stop("%s has a row with more than %d columns: it has another layout", rows->path, rows->columns);
-	size_t size = 8 + 8 * numbers_of(cursor->mask);
-	if (left < size)
-		stop("%s ends within a row", rows->path);
-	cursor->next = cursor->at + size;
+	for (int column = 0; column < rows->columns; column++) {
+		size_t at = cursor->columns_at[column] = mask >> column & 1 ? take(cursor, rows, 8) : 0;
+		if (at && rows->texts >> column & 1)
+			take(cursor, rows, number_at(rows, at));
+	}
 	return SQLITE_OK;
 }
 
@@ -156,10 +159,12 @@ static int is_at_end(sqlite3_vtab_cursor *base)
 
 static int give_column(sqlite3_vtab_cursor *base, sqlite3_context *to, int column)
 {
-	const struct cursor *cursor = (struct cursor *)base;
-	size_t before = numbers_of(cursor->mask & (((uint64_t)1 << column) - 1));
-	if (cursor->mask >> column & 1)
-		sqlite3_result_int64(to, (sqlite3_int64)number_at(rows_of(base), cursor->at + 8 + 8 * before));
+	const struct rows *rows = rows_of(base);
+	size_t at = ((struct cursor *)base)->columns_at[column];
+	if (at && rows->texts >> column & 1)
+		sqlite3_result_text64(to, (char *)rows->bytes + at + 8, number_at(rows, at), SQLITE_STATIC, SQLITE_UTF8);
+	else if (at)
+		sqlite3_result_int64(to, (sqlite3_int64)number_at(rows, at));
 	return SQLITE_OK;
 }
 
@@ -215,22 +220,25 @@ static const sqlite3_module rows_module = {
 	.xColumn = give_column, .xRowid = give_place,
 };
 
-static int columns_of(sqlite3 *database, const char *table)
+static void learn_columns(sqlite3 *database, const char *table, struct rows *rows)
 {
 	char *statement = sqlite3_mprintf("SELECT * FROM %w", table);
 	sqlite3_stmt *whole = prepared(database, statement);
-	int columns = sqlite3_column_count(whole);
+	rows->columns = sqlite3_column_count(whole);
+	if (rows->columns > MOST_COLUMNS)
+		stop("%s has more than %d columns", table, MOST_COLUMNS);
+	for (int column = 0; column < rows->columns; column++)
+		if (!strcmp(sqlite3_column_decltype(whole, column), "TEXT"))
+			rows->texts |= (uint64_t)1 << column;
 	sqlite3_finalize(whole);
 	sqlite3_free(statement);
-	if (columns > MOST_COLUMNS)
-		stop("%s has more than %d columns", table, MOST_COLUMNS);
-	return columns;
 }
 
 static void load_table(sqlite3 *database, const char *table, const char *folder, struct rows **current)
 {
 	char *path = sqlite3_mprintf("%s/%s.rows", folder, table + strlen("raw_"));
-	struct rows rows = { .path = path, .columns = columns_of(database, table) };
+	struct rows rows = { .path = path };
+	learn_columns(database, table, &rows);
 	rows.bytes = bytes_of(path, &rows.length);
 	*current = &rows;
 	char *statements = sqlite3_mprintf(

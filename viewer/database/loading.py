@@ -17,17 +17,6 @@ from viewer.methods.known import Methods, load_methods
 from viewer.program_names import called
 from viewer.rules.judging import judge
 
-# ---- the names of interfaces and of services
-
-
-def load_names(database: sqlite3.Connection, of: str) -> None:
-    """Puts names together, of which a raw table has eight characters in a number."""
-    names: dict[int, bytes] = {}
-    for number, letters in database.execute(f"SELECT id, letters FROM raw_{of} ORDER BY id, idx"):
-        names[number] = names.get(number, b"") + struct.pack("<q", letters).rstrip(b"\0")
-    database.executemany(f"INSERT INTO {of} VALUES (?, ?)",
-                         ((number, name.decode("ascii")) for number, name in names.items()))
-
 
 # ---- the numbers of replies that are a status
 
@@ -90,8 +79,6 @@ def fill(database: sqlite3.Connection, files: list[str], side: str | None, repor
     load_report(database, report)
     load_facts(database, files, malformed, taken.facts if side is not None else {})
     load_findings(database)
-    load_names(database, "interface")
-    load_names(database, "service")
     load_methods(database, methods or {})
     database.execute("INSERT INTO capture VALUES ('methods', ?)", (len(methods or {}),))
     load_status(database, files)

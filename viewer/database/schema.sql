@@ -9,26 +9,26 @@
 -- needs: nothing
 -- makes: tables: raw_capture, raw_process, raw_thread, raw_frame, raw_record, raw_interface, raw_service, raw_object,
 --   raw_call, raw_generation, raw_send, raw_delivery, raw_level, side_device, side_process, side_thread, side_time,
---   side_clock, side_lost, interface, service, method, call_interface, object_interface, object_service, status,
---   side_missed, side_calls, side_handle, book, book_opening, book_handle, book_node, book_buffer, book_call,
---   book_process, book_open, book_stats, disagreement, side_call, side_pc, side_map, side_unstacked, symbol, capture,
---   report, finding; indexes: side_process_of_pid, side_thread_of_tid
+--   side_clock, side_lost, method, call_interface, object_interface, object_service, status, side_missed, side_calls,
+--   side_handle, book, book_opening, book_handle, book_node, book_buffer, book_call, book_process, book_open,
+--   book_stats, disagreement, side_call, side_pc, side_map, side_unstacked, symbol, capture, report, finding; indexes:
+--   side_process_of_pid, side_thread_of_tid
 
 PRAGMA user_version = 7;
 
 -- ---- raw tables: the rows that `./listing --tables` writes, column by column
 --
 -- docs/DATABASE.md has the form of a row. These tables may change; the views in views.sql may not. A change of a
--- column, of its meaning or of the order raises the layout. They are not STRICT: the loader has only whole numbers, and
--- checking each took a quarter of its time.
+-- column, of its meaning or of the order raises the layout. They are not STRICT: the loader has only whole numbers and
+-- texts, and checking each took a quarter of its time.
 --
 -- A column is present in every row unless it may be NULL. A place is the place of a record's code word unless said
 -- otherwise. A difference of two sequences is taken in 64 bits without a sign. Rows rise by the first column, in
--- raw_interface, raw_service, raw_object and raw_level by the first two. Wherever the end of the capture is meant, a
--- malformed capture ends at its first fault.
+-- raw_object and raw_level by the first two. Wherever the end of the capture is meant, a malformed capture ends at its
+-- first fault.
 
 -- The capture, in one row.
---   layout                4
+--   layout                5
 --   parts                 the number of files
 --   bytes                 the length of the joined capture; of a malformed one, the place of its fault in that
 --   frames, records       the numbers of rows of raw_frame and raw_record
@@ -93,13 +93,11 @@ CREATE TABLE raw_record(place INTEGER PRIMARY KEY, seq INTEGER NOT NULL, utid IN
   sender_euid INTEGER, data_size INTEGER, offsets_size INTEGER, offsets INTEGER, extra INTEGER, attachment INTEGER,
   value INTEGER, interface INTEGER, service INTEGER);
 
--- A row for each eight characters of the name of an interface, and of a service. Each name is there once, in the order
--- of the first records that have it.
+-- A row for each name of an interface, and of a service, in the order of the first records that have it.
 --   id        1, 2 and so on
---   idx       0 of the first eight characters, then 1 and so on
---   letters   the characters in ASCII, the first one in the lowest byte; bytes after the last one are 0
-CREATE TABLE raw_interface(id INTEGER NOT NULL, idx INTEGER NOT NULL, letters INTEGER NOT NULL);
-CREATE TABLE raw_service(id INTEGER NOT NULL, idx INTEGER NOT NULL, letters INTEGER NOT NULL);
+--   name      in ASCII
+CREATE TABLE raw_interface(id INTEGER PRIMARY KEY, name TEXT NOT NULL);
+CREATE TABLE raw_service(id INTEGER PRIMARY KEY, name TEXT NOT NULL);
 
 -- A row for each object of an attachment, up to the first bad one, which has a row too (docs/REPORT.md#objects). Of a
 -- bad object only place, idx, offset and bad are there.
@@ -283,9 +281,6 @@ CREATE TABLE side_time(seq INTEGER PRIMARY KEY, ts INTEGER NOT NULL) STRICT;
 -- What other clocks showed at a time after the beginning: after each sleep of the system, and at the end.
 CREATE TABLE side_clock(ts INTEGER PRIMARY KEY, realtime INTEGER NOT NULL, boottime INTEGER NOT NULL) STRICT;
 CREATE TABLE side_lost(seq INTEGER PRIMARY KEY, device INTEGER, process INTEGER, thread INTEGER, why TEXT) STRICT;
--- The names in raw_interface and in raw_service, put together.
-CREATE TABLE interface(id INTEGER PRIMARY KEY, name TEXT NOT NULL) STRICT;
-CREATE TABLE service(id INTEGER PRIMARY KEY, name TEXT NOT NULL) STRICT;
 -- The methods of these interfaces, as far as they are known, and those that all objects have.
 CREATE TABLE method(interface TEXT, code INTEGER, method TEXT NOT NULL, source TEXT NOT NULL,
   PRIMARY KEY(interface, code)) STRICT;

@@ -1,12 +1,12 @@
 -- The views, which docs/DATABASE.md describes. A view can't have parameters, so raw_tables.py puts the numbers in. It
 -- also joins a line that is eight spaces in to the one before it: the database keeps the text of a view, and names are
 -- longer than numbers.
--- needs: schema.sql: book_process, interface, object_interface, object_service, raw_call, raw_delivery, raw_frame,
---   raw_generation, raw_level, raw_object, raw_process, raw_record, raw_send, raw_thread, service, side_device,
+-- needs: schema.sql: book_process, object_interface, object_service, raw_call, raw_delivery, raw_frame, raw_generation,
+--   raw_interface, raw_level, raw_object, raw_process, raw_record, raw_send, raw_service, raw_thread, side_device,
 --   side_map, side_pc, side_process, side_thread, side_time, symbol; numbers.sql: cause, kind, sort, verdict;
 --   rules/nodes.sql: node_of; rules/groups.sql: traffic; rules/defects.sql: call_text, program
--- makes: views: device, process, thread, frame, record, object, call, handle, send, delivery, level, reference,
---   listing, came_to, sent_to, node_interface, stack, node_service, talk
+-- makes: views: device, process, thread, frame, record, interface, service, object, call, handle, send, delivery,
+--   level, reference, listing, came_to, sent_to, node_interface, stack, node_service, talk
 
 CREATE VIEW device AS
 SELECT DISTINCT p.device, s.name, s.driver FROM raw_process p LEFT JOIN side_device s USING (device);
@@ -39,6 +39,9 @@ SELECT r.place, r.seq, r.utid, t.upid, k.name AS kind, r.handle, r.ptr, r.cookie
 FROM raw_record r JOIN raw_thread t USING (utid) LEFT JOIN kind k ON k.number = r.kind
   LEFT JOIN side_time x USING (seq) LEFT JOIN interface i ON i.id = r.interface
   LEFT JOIN service v ON v.id = r.service;
+
+CREATE VIEW interface AS SELECT id, name FROM raw_interface;
+CREATE VIEW service AS SELECT id, name FROM raw_service;
 
 CREATE VIEW object AS
 SELECT o.place, o.idx, o.offset, s.name AS sort, o.flags, o.binder, o.handle, o.fd, o.cookie, o.num_fds, o.buffer,

@@ -1,7 +1,7 @@
 -- Which interfaces calls name: those of each code at each node, and those of each node; and under which names nodes are
 -- registered as services.
--- needs: database/schema.sql: call_interface, interface, object_interface, object_service, raw_call, raw_generation,
---   raw_object, raw_record, raw_thread, service; database/views.sql: came_to, sent_to; nodes.sql: node_of
+-- needs: database/schema.sql: call_interface, object_interface, object_service, raw_call, raw_generation, raw_object,
+--   raw_record, raw_thread; database/views.sql: came_to, interface, sent_to, service; nodes.sql: node_of
 -- makes: temporary tables: naming, told_name, to_manager, is_service
 
 -- How many records of each code and node name an interface; of a handle whose node is not known, its process with a

@@ -221,7 +221,7 @@ def check_loader(folder: pathlib.Path, room: pathlib.Path, fail: Fail) -> None:
         raw_tables.load_rows(room / f"{scenario}.db", rows, None)
         database = open_database(room / f"{scenario}.db")
         for table in columns_of_tables():
-            due = [{name: signed(value) for name, value in row.items()}
+            due = [{name: value if isinstance(value, str) else signed(value) for name, value in row.items()}
                    for row in rows_of(rows / f"{table}.rows")]
             compare(f"{scenario}: raw_{table}", loaded_rows(database, table) == due, True, fail)
         database.close()

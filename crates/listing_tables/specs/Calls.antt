@@ -9,8 +9,11 @@ use Rattle.call_stacks.specs.Verdicts.{side_of}
 use Rattle.call_stacks.specs.declared.opener.Opener.{Opener}
 use Rattle.call_stacks.specs.declared.verdict.Verdict.{Verdict}
 use Rattle.call_stacks.specs.declared.verdict.Verdict.TheVariants.{Answered, Failed, Replied, Crossed, Open}
+use Rattle.listing_tables.specs.Columns.{column_of}
 use Rattle.listing_tables.specs.declared.calls.Call.{Call}
 use Rattle.listing_tables.specs.declared.calls.CallStep.{CallStep}
+use Rattle.listing_tables.specs.declared.rows.Column.{Column}
+use Rattle.listing_tables.specs.declared.rows.Column.TheVariants.{Number}
 
 -- where a record is that leaves a mark
 abbrev pub step_place : CallStep → ℕ
@@ -75,7 +78,7 @@ verdict_number Failed = 3
 verdict_number Crossed = 4
 
 -- columns 0, 6 and 7 of a row of the table are the place, the verdict and the closer of a call
-pub record AreColumns (call : Call) (columns : List (Option ℕ)) : Type 0 where
-  pub place : slice_get columns 0 ≡ Some (Some call.place)
-  pub verdict : slice_get columns 6 ≡ Some (Some (verdict_number call.verdict))
-  pub closer : slice_get columns 7 ≡ Some (closer_place call)
+pub record AreColumns (call : Call) (columns : List Column) : Type 0 where
+  pub place : slice_get columns 0 ≡ Some (Number call.place)
+  pub verdict : slice_get columns 6 ≡ Some (Number (verdict_number call.verdict))
+  pub closer : slice_get columns 7 ≡ Some (column_of (closer_place call))

@@ -8,10 +8,13 @@ use Rattle.event_core.specs.declared.strength.Strength.TheVariants.{Strong, Weak
 use Rattle.handle_ledger.specs.Handles.{handle_change}
 use Rattle.summary_law.specs.Count.{Change, IsCount, is_lower, is_raise}
 use Rattle.summary_law.specs.declared.count.Count.{Count}
+use Rattle.listing_tables.specs.Columns.{column_of}
 use Rattle.listing_tables.specs.declared.generations.Effect.{Effect}
 use Rattle.listing_tables.specs.declared.generations.Effect.TheVariants.{Names, Takes, Holds}
 use Rattle.listing_tables.specs.declared.generations.Generation.{Generation}
 use Rattle.listing_tables.specs.declared.generations.Taken.{Taken}
+use Rattle.listing_tables.specs.declared.rows.Column.{Column}
+use Rattle.listing_tables.specs.declared.rows.Column.TheVariants.{Number}
 
 -- which count an effect changes, and how
 abbrev pub taken_by : Effect → Option (Strength × HandleChange)
@@ -111,10 +114,10 @@ abbrev pub KeepsTaken : Generation → Generation → Type 0
 KeepsTaken old new = (new.strong ≡ old.strong) × (new.weak ≡ old.weak)
 
 -- the row of a generation that has this number among all, column by column
-abbrev pub generation_columns : ℕ → Generation → List (Option ℕ)
+abbrev pub generation_columns : ℕ → Generation → List Column
 generation_columns number generation =
-    Some number ∷ Some generation.upid ∷ Some generation.handle ∷ Some generation.number ∷ Some generation.begin
-    ∷ generation.end ∷ generation.given_by ∷ generation.held_since
-    ∷ Some generation.strong.raised ∷ Some generation.strong.lowered ∷ Some generation.weak.raised
-    ∷ Some generation.weak.lowered ∷ Some generation.strong.left ∷ Some generation.weak.left
-    ∷ Some generation.held_strong ∷ Some generation.held_weak ∷ []
+    Number number ∷ Number generation.upid ∷ Number generation.handle ∷ Number generation.number
+    ∷ Number generation.begin ∷ column_of generation.end ∷ column_of generation.given_by
+    ∷ column_of generation.held_since ∷ Number generation.strong.raised ∷ Number generation.strong.lowered
+    ∷ Number generation.weak.raised ∷ Number generation.weak.lowered ∷ Number generation.strong.left
+    ∷ Number generation.weak.left ∷ Number generation.held_strong ∷ Number generation.held_weak ∷ []

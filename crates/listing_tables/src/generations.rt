@@ -10,7 +10,7 @@ ghost use Rattle.listing_tables.specs.declared.generations.Effect.TheVariants.{T
 
 use crate::buffers::Reference;
 use crate::numbered::Numbered;
-use crate::rows::{RowWriter, column};
+use crate::rows::{Column, RowWriter, columns};
 use binder_code::Kind;
 use event_core::{HandleChange, Strength};
 use indexmap::IndexMap;
@@ -214,27 +214,27 @@ impl Generation {
     }
 
     /// Its row in the table generation, where it has this number among all.
-    fn columns(&self, number: u64) -> [Option<u64>; 16]
+    fn columns(&self, number: u64) -> [Column<'static>; 16]
         ensures { result ≡ generation_columns number self.now }
     {
-        [
-            Some(number),
-            Some(u64::from(self.upid)),
-            Some(u64::from(self.handle)),
-            Some(u64::from(self.number)),
-            Some(u64::from(self.begin)),
-            column(self.end),
-            column(self.given_by),
-            column(self.held_since),
-            Some(u64::from(self.strong.raised)),
-            Some(u64::from(self.strong.lowered)),
-            Some(u64::from(self.weak.raised)),
-            Some(u64::from(self.weak.lowered)),
-            Some(u64::from(self.strong.left)),
-            Some(u64::from(self.weak.left)),
-            Some(u64::from(self.held_strong)),
-            Some(u64::from(self.held_weak)),
-        ]
+        columns! {
+            id: number,
+            upid: self.upid,
+            handle: self.handle,
+            n: self.number,
+            begin: self.begin,
+            end: self.end,
+            given_by: self.given_by,
+            held_since: self.held_since,
+            acquired: self.strong.raised,
+            released: self.strong.lowered,
+            increfs: self.weak.raised,
+            decrefs: self.weak.lowered,
+            strong: self.strong.left,
+            weak: self.weak.left,
+            held_strong: self.held_strong,
+            held_weak: self.held_weak,
+        }
     }
 }
 

@@ -1,6 +1,6 @@
 //! How far a capture goes: up to its end, or up to its first fault.
 
-use crate::rows::RowWriter;
+use crate::rows::{Column, RowWriter, columns};
 use crate::spans::number_at;
 use capture_frame::{FILE_HEADER, Fault, FaultKind, Frames};
 use listing_fields::Outcome;
@@ -8,7 +8,7 @@ use std::io::Write;
 use transaction_view::check_frame;
 
 /// The layout of the tables.
-const LAYOUT: u64 = 4;
+const LAYOUT: u64 = 5;
 
 /// How far a capture goes.
 #[derive(Clone, Copy)]
@@ -86,23 +86,19 @@ impl Ending {
 
     /// Writes the row of the table capture, with this many records.
     pub(crate) fn write<W: Write>(self, records: u64, rows: &mut RowWriter<'_, W>) -> Outcome {
-        let mut columns = [None; 11];
-        columns[0] = Some(LAYOUT);
-        columns[1] = Some(self.parts);
-        columns[2] = Some(self.bytes);
-        columns[3] = Some(self.frames);
-        columns[4] = Some(records);
-        if let Some((first, last)) = self.span {
-            columns[5] = Some(first);
-            columns[6] = Some(last);
-        }
-        columns[7] = Some(self.missing());
-        if let Some((fault, part)) = self.fault {
-            columns[8] = Some(fault_number(fault.kind));
-            columns[9] = Some(fault.place);
-            columns[10] = Some(part);
-        }
-        rows.push(&columns)
+        rows.push(&columns! {
+            layout: LAYOUT,
+            parts: self.parts,
+            bytes: self.bytes,
+            frames: self.frames,
+            records: records,
+            first_seq: self.span.map(|(first, _)| first),
+            last_seq: self.span.map(|(_, last)| last),
+            missing: self.missing(),
+            fault: self.fault.map(|(fault, _)| fault_number(fault.kind)),
+            fault_place: self.fault.map(|(fault, _)| fault.place),
+            fault_part: self.fault.map(|(_, part)| part),
+        })
     }
 }
 

@@ -2,7 +2,7 @@
 
 ghost use Rattle.std.specs.Prelude.{◌<◌};
 
-use crate::rows::RowWriter;
+use crate::rows::{Column, RowWriter, columns};
 use indexmap::IndexMap;
 use listing_fields::{ListingError, Outcome};
 use std::alloc::Global;
@@ -171,15 +171,15 @@ impl Levels {
                     next = next.saturating_add(1);
                 }
             }
-            rows.push(&[
-                Some(u64::from(upid)),
-                Some(u64::from(number)),
-                Some(most[0]),
-                Some(most[1]),
-                Some(most[2]),
-                Some(most[3]),
-                Some(most[4]),
-            ])?;
+            rows.push(&columns! {
+                upid: upid,
+                slice: u32::from(number),
+                buffers: most[0],
+                bytes: most[1],
+                refs: most[2],
+                calls: most[3],
+                served: most[4],
+            })?;
         }
         Ok(next)
     }

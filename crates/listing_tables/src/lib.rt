@@ -1,4 +1,4 @@
-//! The raw tables of a capture, as docs/DATABASE.md has them: rows of numbers, for a database.
+//! The raw tables of a capture, as docs/DATABASE.md has them: rows of numbers and names.
 #![tactic(auto)]
 
 mod buffers;

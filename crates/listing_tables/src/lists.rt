@@ -13,7 +13,7 @@ use crate::keys::key_of;
 use crate::levels::{Levels, Resource};
 use crate::messages::{Detail, Message, Messages, Path, Sent, Settled, unknown_path};
 use crate::numbered::Numbered;
-use crate::rows::{RowWriter, column};
+use crate::rows::{Column, RowWriter, columns};
 use crate::seen::Seen;
 use crate::spans::{Owner, Spans};
 use binder_code::Kind;
@@ -403,20 +403,20 @@ impl Lists {
         Ok(())
     }
 
-    fn call_columns(&self, call: &Call, opener: &Message) -> [Option<u64>; 9]
+    fn call_columns(&self, call: &Call, opener: &Message) -> [Column<'static>; 9]
         ensures { AreColumns call.now result }
     {
-        [
-            Some(u64::from(call.place)),
-            Some(opener.sequence),
-            Some(u64::from(opener.utid)),
-            Some(u64::from(call.served)),
-            Some(u64::from(call.depth)),
-            column(call.parent),
-            Some(verdict_number(call.verdict)),
-            column(call.end()),
-            self.closed_after(call, opener.sequence),
-        ]
+        columns! {
+            place: call.place,
+            seq: opener.sequence,
+            utid: opener.utid,
+            served: u64::from(call.served),
+            depth: call.depth,
+            parent: call.parent,
+            verdict: verdict_number(call.verdict),
+            closer: call.end(),
+            dur_seq: self.closed_after(call, opener.sequence),
+        }
     }
 
     /// How many sequences after this one a call is closed.

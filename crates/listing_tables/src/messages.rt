@@ -6,7 +6,7 @@ use crate::buffers::{Buffer, Buffers};
 use crate::calls::Call;
 use crate::handed::Node;
 use crate::numbered::{Numbered, narrow};
-use crate::rows::{RowWriter, column};
+use crate::rows::{Column, RowWriter, columns};
 use crate::spans::number_at;
 use binder_code::Kind;
 use call_stacks::Verdict;
@@ -205,25 +205,23 @@ impl Messages {
     }
 }
 
-fn send_columns(message: &Message, sent: Sent, partner: Option<u32>) -> [Option<u64>; 9] {
-    let mut columns = [None; 9];
-    columns[0] = Some(u64::from(message.place));
-    columns[1] = Some(message.sequence);
-    columns[2] = Some(u64::from(message.utid));
-    if let Some(index) = sent.generation {
-        columns[3] = Some(number_at(index as usize));
+fn send_columns(message: &Message, sent: Sent, partner: Option<u32>) -> [Column<'static>; 9] {
+    let (confirmed, refused) = match sent.settled {
+        Settled::Waiting => (None, None),
+        Settled::Confirmed(place) => (Some(place), None),
+        Settled::Refused(place) => (None, Some(place)),
+    };
+    columns! {
+        place: message.place,
+        seq: message.sequence,
+        utid: message.utid,
+        generation: sent.generation.map(|index| number_at(index as usize)),
+        confirmed: confirmed,
+        refused: refused,
+        delivery: partner,
+        certain: partner.map(|_| u64::from(sent.certain)),
+        fits: partner.map(|_| u64::from(sent.fits)),
     }
-    match sent.settled {
-        Settled::Waiting => {}
-        Settled::Confirmed(place) => columns[4] = Some(u64::from(place)),
-        Settled::Refused(place) => columns[5] = Some(u64::from(place)),
-    }
-    if let Some(place) = partner {
-        columns[6] = Some(u64::from(place));
-        columns[7] = Some(u64::from(sent.certain));
-        columns[8] = Some(u64::from(sent.fits));
-    }
-    columns
 }
 
 fn delivery_columns(
@@ -231,19 +229,19 @@ fn delivery_columns(
     buffer: &Buffer,
     calls: &Numbered<Call>,
     partner: Option<u32>,
-) -> [Option<u64>; 8]
+) -> [Column<'static>; 8]
     ensures { AreBufferColumns buffer.now result }
 {
-    [
-        Some(u64::from(buffer.place)),
-        Some(message.sequence),
-        Some(u64::from(message.utid)),
-        column(buffer.freed),
-        buffer.freed_after(message.sequence),
-        column(call_place(message, calls)),
-        column(partner),
-        Some(u64::from(buffer.held)),
-    ]
+    columns! {
+        place: buffer.place,
+        seq: message.sequence,
+        utid: message.utid,
+        freed_by: buffer.freed,
+        dur_seq: buffer.freed_after(message.sequence),
+        call: call_place(message, calls),
+        send: partner,
+        held: buffer.held,
+    }
 }
 
 /// The place of the call that a delivery opens, or that it answers.

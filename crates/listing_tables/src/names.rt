@@ -1,6 +1,6 @@
 //! The names that records have, of interfaces and of services, and their tables.
 
-use crate::rows::RowWriter;
+use crate::rows::{Column, RowWriter, columns};
 use crate::spans::number_at;
 use indexmap::IndexSet;
 use listing_fields::{Item, ListingError, Outcome, interface_of, reply_name, service_of};
@@ -43,12 +43,12 @@ impl Names {
 
     /// Writes the rows of the table interface.
     pub(crate) fn write_interfaces<W: Write>(&self, rows: &mut RowWriter<'_, W>) -> Outcome {
-        write_names(&self.interfaces, rows)
+        write_names(self.alloc, &self.interfaces, rows)
     }
 
     /// Writes the rows of the table service.
     pub(crate) fn write_services<W: Write>(&self, rows: &mut RowWriter<'_, W>) -> Outcome {
-        write_names(&self.services, rows)
+        write_names(self.alloc, &self.services, rows)
     }
 }
 
@@ -68,46 +68,23 @@ fn number_in(
     Ok(Some(number))
 }
 
-fn write_names<W: Write>(names: &IndexSet<Vec<u8>>, rows: &mut RowWriter<'_, W>) -> Outcome {
+fn write_names<W: Write>(
+    alloc: Global,
+    names: &IndexSet<Vec<u8>>,
+    rows: &mut RowWriter<'_, W>,
+) -> Outcome {
     let mut number = 0u64;
+    let mut letters = Vec::new(alloc);
     for bytes in names {
         number = number.saturating_add(1);
-        push_name(rows, number, bytes.as_slice())?;
-    }
-    Ok(())
-}
-
-/// Writes a name: a row for each eight characters of it.
-fn push_name<W: Write>(rows: &mut RowWriter<'_, W>, number: u64, bytes: &[u8]) -> Outcome {
-    let mut count = 0u64;
-    let mut letters = 0u64;
-    // The bytes that are 0 are halves of units of UTF-16.
-    for byte in bytes {
-        if *byte != 0 {
-            letters |= u64::from(*byte) << (8 * (count % 8));
-            count = count.saturating_add(1);
-            if count % 8 == 0 {
-                push_letters(rows, number, count, letters)?;
-                letters = 0;
+        // The bytes that are 0 are halves of units of UTF-16.
+        letters.clear();
+        for byte in bytes {
+            if *byte != 0 {
+                letters.push(*byte)?;
             }
         }
+        rows.push(&columns! { id: number, name: Column::Text(letters.as_slice()) })?;
     }
-    if letters == 0 {
-        return Ok(());
-    }
-    push_letters(rows, number, count.saturating_add(7), letters)
-}
-
-/// Writes the characters up to this count, at most eight of them.
-fn push_letters<W: Write>(
-    rows: &mut RowWriter<'_, W>,
-    number: u64,
-    count: u64,
-    letters: u64,
-) -> Outcome {
-    rows.push(&[
-        Some(number),
-        Some((count / 8).saturating_sub(1)),
-        Some(letters),
-    ])
+    Ok(())
 }

@@ -1,6 +1,8 @@
 //! The rows that are written.
 
 ghost use Rattle.std.specs.Prelude.{◌≡◌};
+ghost use Rattle.listing_tables.specs.Columns.{column_of};
+ghost use Rattle.listing_tables.specs.declared.rows.Column.TheVariants.{Number};
 
 use listing_fields::{Outcome, write_error};
 use std::alloc::Global;
@@ -25,13 +27,18 @@ impl<'w, W: Write> RowWriter<'w, W> {
         }
     }
 
-    /// Takes a row: a mask, and then the numbers. The mask has a bit for each column that has a
-    /// number, the lowest bit for the first column. There are 64 columns at most.
-    pub(crate) fn push(&mut self, columns: &[Option<u64>]) -> Outcome {
+    /// Takes a row: a mask, and then the columns that are not NULL. The mask has a bit for each of
+    /// them, the lowest bit for the first column. There are 64 columns at most.
+    pub(crate) fn push(&mut self, columns: &[Column<'_>]) -> Outcome {
         self.push_number(mask_of(columns))?;
         for column in columns {
-            if let Some(number) = column {
-                self.push_number(*number)?;
+            match *column {
+                Column::Null => {}
+                Column::Number(number) => self.push_number(number)?,
+                Column::Text(text) => {
+                    self.push_number(text.len() as u64)?;
+                    self.bytes.extend_from_slice(text)?;
+                }
             }
         }
         if self.bytes.len() < PIECE {
@@ -58,12 +65,12 @@ impl<'w, W: Write> RowWriter<'w, W> {
     }
 }
 
-/// Which columns have a number.
-fn mask_of(columns: &[Option<u64>]) -> u64 {
+/// Which columns are not NULL.
+fn mask_of(columns: &[Column<'_>]) -> u64 {
     let mut mask = 0u64;
     let mut bit = 1u64;
     for column in columns {
-        if column.is_some() {
+        if !matches!(*column, Column::Null) {
             mask |= bit;
         }
         bit = bit.wrapping_mul(2);
@@ -71,13 +78,58 @@ fn mask_of(columns: &[Option<u64>]) -> u64 {
     mask
 }
 
-/// A column of four bytes.
-pub(crate) fn column(number: Option<u32>) -> Option<u64>
-    ensures { result ≡ number }
-{
-    match number {
-        Some(number) => Some(u64::from(number)),
-        None => None,
+/// What a row has in a column. A text is ASCII.
+#[derive(Clone, Copy)]
+pub(crate) enum Column<'t> {
+    Null,
+    Number(u64),
+    Text(&'t [u8]),
+}
+
+/// The columns of a row, in order, each with its name in viewer/database/schema.sql.
+macro_rules! columns {
+    ($($name:ident: $value:expr),* $(,)?) => {
+        [$(Column::from($value)),*]
+    };
+}
+
+pub(crate) use columns;
+
+impl From<u64> for Column<'_> {
+    ghost from_gives = { λ number column. column ≡ Number number };
+
+    fn from(number: u64) -> Self {
+        Column::Number(number)
+    }
+}
+
+impl From<u32> for Column<'_> {
+    ghost from_gives = { λ number column. column ≡ Number number };
+
+    fn from(number: u32) -> Self {
+        Column::Number(u64::from(number))
+    }
+}
+
+impl From<Option<u64>> for Column<'_> {
+    ghost from_gives = { λ given column. column ≡ column_of given };
+
+    fn from(given: Option<u64>) -> Self {
+        match given {
+            Some(number) => Column::Number(number),
+            None => Column::Null,
+        }
+    }
+}
+
+impl From<Option<u32>> for Column<'_> {
+    ghost from_gives = { λ given column. column ≡ column_of given };
+
+    fn from(given: Option<u32>) -> Self {
+        match given {
+            Some(number) => Column::Number(u64::from(number)),
+            None => Column::Null,
+        }
     }
 }
 

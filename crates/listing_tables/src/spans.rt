@@ -1,7 +1,7 @@
 //! The processes and the threads of a capture, each with its number and its span.
 
 use crate::numbered::narrow;
-use crate::rows::RowWriter;
+use crate::rows::{Column, RowWriter, columns};
 use capture_frame::{Direction, Frame, Process, Thread};
 use indexmap::IndexMap;
 use listing_fields::{ListingError, Outcome, thread_of};
@@ -92,14 +92,14 @@ impl Spans {
     /// Writes the rows of the table process.
     pub(crate) fn write_processes<W: Write>(&self, rows: &mut RowWriter<'_, W>) -> Outcome {
         for (process, span) in self.processes.iter() {
-            rows.push(&[
-                Some(u64::from(span.upid)),
-                Some(u64::from(process.device)),
-                Some(u64::from(process.number)),
-                Some(span.first),
-                Some(span.last),
-                Some(span.frames),
-            ])?;
+            rows.push(&columns! {
+                upid: span.upid,
+                device: process.device,
+                process: process.number,
+                first_seq: span.first,
+                last_seq: span.last,
+                frames: span.frames,
+            })?;
         }
         Ok(())
     }
@@ -109,16 +109,16 @@ impl Spans {
         let mut utid = 0u64;
         for (thread, span) in self.threads.iter() {
             utid = utid.saturating_add(1);
-            rows.push(&[
-                Some(utid),
-                Some(u64::from(span.upid)),
-                Some(u64::from(thread.number)),
-                Some(span.first),
-                Some(span.last),
-                Some(span.frames),
-                span.record,
-                span.written,
-            ])?;
+            rows.push(&columns! {
+                utid: utid,
+                upid: span.upid,
+                thread: thread.number,
+                first_seq: span.first,
+                last_seq: span.last,
+                frames: span.frames,
+                last_record: span.record,
+                last_write: span.written,
+            })?;
         }
         Ok(())
     }

@@ -121,9 +121,9 @@ fn walk_item<F: Write, R: Write, O: Write>(
     streams: &mut Streams<'_, F, R, O>,
 ) -> Outcome {
     let named = named_of(item.record);
-    let mut columns = record_columns(frame, owner.utid, item, named);
-    columns[18] = tables.names.interface(item)?;
-    columns[19] = tables.names.service(item)?;
+    let interface = tables.names.interface(item)?;
+    let service = tables.names.service(item)?;
+    let columns = record_columns(frame, owner.utid, item, named, interface, service);
     streams.records.push(&columns)?;
     write_objects(&mut streams.objects, item)?;
     tables.add_item(frame, owner, item, named)
