@@ -4,50 +4,17 @@ import os
 import pathlib
 import shutil
 import sqlite3
-import struct
 from typing import Callable
 
 from viewer.database.programs import answer, before_fault, build_programs, fault_in
 from viewer.database.raw_tables import load_rows
 from viewer.database.report import load_findings, load_report
 from viewer.database.side_list import SideList
-from viewer.database.sqlite import named_numbers, open_database
+from viewer.database.sqlite import open_database
 from viewer.files import Stopped, refuse_unreadable
 from viewer.methods.known import Methods, load_methods
 from viewer.program_names import called
 from viewer.rules.judging import judge
-
-
-# ---- the numbers of replies that are a status
-
-
-# Before the body of an attachment entry come three numbers of 4 bytes (docs/ENVELOPE.md).
-ENTRY_HEAD = 12
-
-
-def status_places(database: sqlite3.Connection) -> list[tuple[int, int | None]]:
-    """The places of such replies, each with that of its attachment entry."""
-    return database.execute("SELECT place, attachment FROM raw_record WHERE kind = :BR_REPLY AND data_size = 4"
-                            " AND flags & :TF_STATUS_CODE", named_numbers(database)).fetchall()
-
-
-def load_status(database: sqlite3.Connection, files: list[str]) -> None:
-    """Reads these numbers in the capture. In the joined capture a part begins where the one before it ends, without
-    the header of its file."""
-    asked, found, shift = status_places(database), [], 0
-    for name in files if asked else ():
-        with open(name, "rb") as part:
-            size = os.fstat(part.fileno()).st_size
-            for place, entry in asked:
-                if entry is not None and 16 <= entry - shift < size:
-                    part.seek(entry - shift + ENTRY_HEAD)
-                    found.append((place, *struct.unpack("<i", part.read(4))))
-        shift += size - 16
-    database.executemany("INSERT INTO status VALUES (?, NULL)", [(place,) for place, _ in asked])
-    database.executemany("INSERT OR REPLACE INTO status VALUES (?, ?)", found)
-
-
-# ---- all of it
 
 
 def load_facts(database: sqlite3.Connection, files: list[str], malformed: str | None,
@@ -81,7 +48,6 @@ def fill(database: sqlite3.Connection, files: list[str], side: str | None, repor
     load_findings(database)
     load_methods(database, methods or {})
     database.execute("INSERT INTO capture VALUES ('methods', ?)", (len(methods or {}),))
-    load_status(database, files)
     database.execute("COMMIT")
 
 

@@ -9,7 +9,7 @@
 -- needs: nothing
 -- makes: tables: raw_capture, raw_process, raw_thread, raw_frame, raw_record, raw_interface, raw_service, raw_object,
 --   raw_call, raw_generation, raw_send, raw_delivery, raw_level, side_device, side_process, side_thread, side_time,
---   side_clock, side_lost, method, call_interface, object_interface, object_service, status, side_missed, side_calls,
+--   side_clock, side_lost, method, call_interface, object_interface, object_service, side_missed, side_calls,
 --   side_handle, book, book_opening, book_handle, book_node, book_buffer, book_call, book_process, book_open,
 --   book_stats, disagreement, side_call, side_pc, side_map, side_unstacked, symbol, capture, report, finding; indexes:
 --   side_process_of_pid, side_thread_of_tid
@@ -77,6 +77,8 @@ CREATE TABLE raw_frame(seq INTEGER PRIMARY KEY, place INTEGER NOT NULL, utid INT
 --   code to offsets   fields of the seven transactions and replies; sender_pid has a sign
 --   extra        buffers_size of the two _SG forms, secctx of BR_TRANSACTION_SEC_CTX
 --   attachment   the place of the record's attachment entry; NULL without one
+--   status       of a BR_REPLY with TF_STATUS_CODE and four bytes of data, the number that they are, with a sign; NULL
+--                if they are not in the capture
 --   value        the code word of a record without a name; is_frozen of BR_FROZEN_BINDER. With a sign: the error of
 --                BR_ERROR, the result of BC_ACQUIRE_RESULT and BR_ACQUIRE_RESULT, the priority of BC_ATTEMPT_ACQUIRE
 --                and BR_ATTEMPT_ACQUIRE
@@ -91,7 +93,7 @@ CREATE TABLE raw_frame(seq INTEGER PRIMARY KEY, place INTEGER NOT NULL, utid INT
 CREATE TABLE raw_record(place INTEGER PRIMARY KEY, seq INTEGER NOT NULL, utid INTEGER NOT NULL, kind INTEGER NOT NULL,
   handle INTEGER, ptr INTEGER, cookie INTEGER, address INTEGER, code INTEGER, flags INTEGER, sender_pid INTEGER,
   sender_euid INTEGER, data_size INTEGER, offsets_size INTEGER, offsets INTEGER, extra INTEGER, attachment INTEGER,
-  value INTEGER, interface INTEGER, service INTEGER);
+  status INTEGER, value INTEGER, interface INTEGER, service INTEGER);
 
 -- A row for each name of an interface, and of a service, in the order of the first records that have it.
 --   id        1, 2 and so on
@@ -291,8 +293,6 @@ CREATE TABLE object_interface(upid INTEGER, ptr INTEGER, interface INTEGER NOT N
   others INTEGER NOT NULL, PRIMARY KEY(upid, ptr)) STRICT;
 CREATE TABLE object_service(upid INTEGER, ptr INTEGER, service INTEGER, registered INTEGER, n INTEGER NOT NULL,
   others INTEGER NOT NULL, PRIMARY KEY(upid, ptr)) STRICT;
--- The number that a BR_REPLY with TF_STATUS_CODE has in place of data; NULL if its data are not in the capture.
-CREATE TABLE status(place INTEGER PRIMARY KEY, value INTEGER) STRICT;
 CREATE TABLE side_missed(id INTEGER PRIMARY KEY, what TEXT NOT NULL, count INTEGER NOT NULL, from_seq INTEGER NOT NULL,
   after INTEGER NOT NULL, ts INTEGER NOT NULL) STRICT;
 CREATE TABLE side_calls(device INTEGER, process INTEGER, thread INTEGER, made INTEGER NOT NULL,

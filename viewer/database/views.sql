@@ -6,7 +6,7 @@
 --   side_map, side_pc, side_process, side_thread, side_time, symbol; numbers.sql: cause, kind, sort, verdict;
 --   rules/nodes.sql: node_of; rules/groups.sql: traffic; rules/defects.sql: call_text, program
 -- makes: views: device, process, thread, frame, record, interface, service, object, call, handle, send, delivery,
---   level, reference, listing, came_to, sent_to, node_interface, stack, node_service, talk
+--   status, level, reference, listing, came_to, sent_to, node_interface, stack, node_service, talk
 
 CREATE VIEW device AS
 SELECT DISTINCT p.device, s.name, s.driver FROM raw_process p LEFT JOIN side_device s USING (device);
@@ -87,6 +87,10 @@ FROM raw_delivery d JOIN raw_thread t USING (utid) JOIN raw_record r USING (plac
   LEFT JOIN raw_record f ON f.place = d.freed_by LEFT JOIN side_time b ON b.seq = d.seq
   LEFT JOIN side_time z ON z.seq = d.seq + d.dur_seq
   LEFT JOIN interface i ON i.id = iif(r.kind = :BR_REPLY, c.interface, r.interface);
+
+-- The replies that have a number in place of data.
+CREATE VIEW status AS
+SELECT place, status AS value FROM raw_record WHERE kind = :BR_REPLY AND data_size = 4 AND flags & :TF_STATUS_CODE;
 
 CREATE VIEW level AS SELECT upid, slice, buffers, bytes, refs, calls, served FROM raw_level;
 

@@ -9,8 +9,8 @@
 -- which a capture has only if it saw that they were registered or asked for.
 --
 -- If any of that changes, the last number in this file, `prints`, rises: keys with another one are not compared.
--- needs: database/schema.sql: call_interface, capture, finding, method, object_interface, status; database/views.sql:
---   call, delivery, device, handle, interface, process, record, send; nodes.sql: node_of; rule.sql: rule; groups.sql:
+-- needs: database/schema.sql: call_interface, capture, finding, method, object_interface; database/views.sql: call,
+--   delivery, device, handle, interface, process, record, send, status; nodes.sql: node_of; rule.sql: rule; groups.sql:
 --   title, traffic; judging.py: defect_key, status_name
 -- makes: tables: program, call_text, defect, finding_defect; temporary tables: came_by, matter, told; indexes:
 --   finding_of_defect

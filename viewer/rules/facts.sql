@@ -1,7 +1,7 @@
 -- What is known of each finding: what its record says, which node its handle leads to, its path, and how many took that
 -- path.
 -- needs: database/schema.sql: book_open, finding, raw_call, raw_delivery, raw_generation, raw_record, raw_send,
---   raw_thread, report, side_time, status; database/views.sql: delivery; nodes.sql: manager, node_of, who; judging.py:
+--   raw_thread, report, side_time; database/views.sql: delivery, status; nodes.sql: manager, node_of, who; judging.py:
 --   call_name, object_name, service_name, status_name
 -- makes: temporary tables: from_before, dead_record, told_death, asked, buffer_path, buffer_text, send_path, given,
 --   given_way, object_of, answered, answered_name; indexes: dead_cookie, dead_handle, dead_place, told_generation,

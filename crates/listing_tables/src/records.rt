@@ -11,6 +11,9 @@ use record_view::Record;
 use std::io::Write;
 use transaction_view::Transaction;
 
+/// TF_STATUS_CODE.
+const STATUS_CODE: u32 = 0x08;
+
 /// The row of a frame with this many records.
 pub(crate) fn frame_columns(frame: Frame<'_>, utid: u32, records: u64) -> [Column<'static>; 7] {
     columns! {
@@ -32,7 +35,7 @@ pub(crate) fn record_columns(
     named: Named,
     interface: Option<u64>,
     service: Option<u64>,
-) -> [Column<'static>; 20] {
+) -> [Column<'static>; 21] {
     let record = item.record;
     let sent = Transaction::of(record);
     columns! {
@@ -53,10 +56,25 @@ pub(crate) fn record_columns(
         offsets: sent.map(|it| it.offsets()),
         extra: sent.and_then(|it| it.extra()),
         attachment: item.entry.map(|entry| entry.place),
+        status: status_of(item),
         value: number_of(record),
         interface: interface,
         service: service,
     }
+}
+
+/// The number that a BR_REPLY with TF_STATUS_CODE has in place of data.
+fn status_of(item: Item<'_>) -> Option<u64> {
+    let reply = Transaction::of(item.record)?;
+    let is_status = reply.flags() & STATUS_CODE != 0 && reply.data_size() == 4;
+    if item.record.kind != Kind::BrReply || !is_status {
+        return None;
+    }
+    let data = item.entry?.body;
+    if data.len() < 4 {
+        return None;
+    }
+    Some(signed(u32_at(data, 0).cast_signed()))
 }
 
 /// The number of a kind in docs/COMMANDS.md, and 256 more for a return. A transaction with a
