@@ -8,11 +8,11 @@
 -- book_opening are new; the notifications have their names in record; what the driver in Rust does not tell is NULL.
 -- needs: nothing
 -- makes: tables: raw_capture, raw_process, raw_thread, raw_frame, raw_record, raw_interface, raw_service, raw_object,
---   raw_call, raw_generation, raw_send, raw_delivery, raw_level, side_device, side_process, side_thread, side_time,
---   side_clock, side_lost, method, call_interface, object_interface, object_service, side_missed, side_calls,
---   side_handle, book, book_opening, book_handle, book_node, book_buffer, book_call, book_process, book_open,
---   book_stats, disagreement, side_call, side_pc, side_map, side_unstacked, symbol, capture, report, finding; indexes:
---   side_process_of_pid, side_thread_of_tid
+--   raw_call, raw_generation, raw_send, raw_delivery, raw_slice, raw_level, side_device, side_process, side_thread,
+--   side_time, side_clock, side_lost, method, call_interface, object_interface, object_service, side_missed,
+--   side_calls, side_handle, book, book_opening, book_handle, book_node, book_buffer, book_call, book_process,
+--   book_open, book_stats, disagreement, side_call, side_pc, side_map, side_unstacked, symbol, capture, report,
+--   finding; indexes: side_process_of_pid, side_thread_of_tid
 
 PRAGMA user_version = 7;
 
@@ -257,10 +257,15 @@ CREATE TABLE raw_send(place INTEGER PRIMARY KEY, seq INTEGER NOT NULL, utid INTE
 CREATE TABLE raw_delivery(place INTEGER PRIMARY KEY, seq INTEGER NOT NULL, utid INTEGER NOT NULL, freed_by INTEGER,
   dur_seq INTEGER, call INTEGER, send INTEGER, held INTEGER NOT NULL);
 
--- What each process holds at most in each of 16 slices of the capture. The slice of a frame is (seq - first_seq) * 16 /
--- (last_seq - first_seq + 1), rounded down, without overflow. A slice starts from the level at the end of the slice
+-- The 16 slices of a capture that has frames. A frame is in the last slice that does not begin after it.
+--   slice       0 to 15
+--   first_seq   where it begins: first_seq + slice * (last_seq - first_seq + 1) / 16 of the capture, rounded up. With
+--               fewer than 16 sequences, several slices begin at one
+CREATE TABLE raw_slice(slice INTEGER PRIMARY KEY, first_seq INTEGER NOT NULL);
+
+-- What each process holds at most in each slice of the capture. A slice starts from the level at the end of the slice
 -- before, so a slice in which a level does not change, or only falls, has the level that it began with.
---   slice     0 to 15; each process has all 16
+--   slice     each process has all 16
 --   buffers   deliveries that are not freed
 --   bytes     the sum of their data_size; 2^63 - 1 if it is above that
 --   refs      the sum of strong over all generations of the process

@@ -51,10 +51,9 @@ def edges_of(capture: Capture) -> list[float]:
     first, last, until = (capture.facts.get(key) for key in ("first_seq", "last_seq", "until_ts"))
     if first is None or until is None or last - first < 16:
         return EVEN
-    begins = [ts for at in range(16) for ts, in
-              capture.ask("SELECT ts FROM side_time WHERE seq >= ? ORDER BY seq LIMIT 1",
-                          first - (-at * (last - first + 1) // 16))]
-    if len(begins) < 16:
+    begins = [ts for ts, in capture.ask("SELECT (SELECT ts FROM side_time WHERE seq >= first_seq ORDER BY seq LIMIT 1)"
+                                        " FROM raw_slice ORDER BY slice")]
+    if None in begins:
         return EVEN
     whole = max(until - begins[0], 1)
     return [min(max((ts - begins[0]) / whole, 0), 1) for ts in (*begins, until)]

@@ -3,13 +3,11 @@
 ghost use Rattle.std.specs.Prelude.{◌<◌};
 
 use crate::rows::{Column, RowWriter, columns};
+use crate::slices::{SLICES, Slices};
 use indexmap::IndexMap;
 use listing_fields::{ListingError, Outcome};
 use std::alloc::Global;
 use std::io::Write;
-
-/// How many slices there are.
-const SLICES: u8 = 16;
 
 /// The highest number that is written: SQLite has no higher one.
 const MOST: u128 = 9_223_372_036_854_775_807;
@@ -45,9 +43,9 @@ struct Slice {
 /// What all processes hold.
 #[derive(Drop)]
 pub(crate) struct Levels {
-    /// The sequences of the first and of the last frame of the capture.
-    span: (u64, u64),
-    /// The number of the slice that is gone through.
+    /// The slices of the capture.
+    all: Slices,
+    /// The number of the one that is gone through.
     number: u8,
     /// By process and resource.
     levels: IndexMap<(u32, u8), Level>,
@@ -58,7 +56,7 @@ impl Levels {
     /// Nothing yet.
     pub(crate) fn new(alloc: Global) -> Levels {
         Levels {
-            span: (0, 0),
+            all: Slices::of((0, 0)),
             number: 0,
             levels: IndexMap::new(alloc),
             slices: Vec::new(alloc),
@@ -67,15 +65,12 @@ impl Levels {
 
     /// Sets the sequences of the first and of the last frame of the capture.
     pub(crate) fn set_span(&mut self, span: (u64, u64)) {
-        self.span = span;
+        self.all = Slices::of(span);
     }
 
     /// Goes to the slice of a frame.
     pub(crate) fn go_to(&mut self, sequence: u64) {
-        let (first, last) = self.span;
-        let gone = u128::from(sequence.saturating_sub(first)) * 16;
-        let all = u128::from(last.saturating_sub(first)) + 1;
-        self.number = (gone / all).min(15) as u8;
+        self.number = self.all.number_of(sequence);
     }
 
     /// A process holds more, by this much. The changes of a resource come in the order of the
@@ -160,7 +155,7 @@ impl Levels {
     ) -> Result<usize, ListingError> {
         let mut next = next;
         let mut held = [0u64; 5];
-        for number in 0..SLICES {
+        for number in 0..SLICES as u8 {
             let mut most = held;
             for resource in 0..5u8 {
                 if let Some(slice) = self.slices.as_slice().get(next)

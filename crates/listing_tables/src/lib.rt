@@ -21,6 +21,7 @@ mod pairs;
 mod records;
 mod rows;
 mod seen;
+mod slices;
 mod spans;
 mod tables;
 mod waiting;

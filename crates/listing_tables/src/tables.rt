@@ -5,6 +5,7 @@ use crate::lists::{Lists, Origin};
 use crate::names::Names;
 use crate::numbered::narrow;
 use crate::rows::RowWriter;
+use crate::slices::Slices;
 use crate::spans::{Owner, Spans};
 use capture_frame::Frame;
 use listing_fields::{Item, ListingError, Named, Outcome};
@@ -26,11 +27,12 @@ pub enum Name {
     Generation,
     Send,
     Delivery,
+    Slice,
     Level,
 }
 
 /// The tables by name.
-pub const NAMES: [(&str, Name); 13] = [
+pub const NAMES: [(&str, Name); 14] = [
     ("capture", Name::Capture),
     ("process", Name::Process),
     ("thread", Name::Thread),
@@ -43,6 +45,7 @@ pub const NAMES: [(&str, Name); 13] = [
     ("generation", Name::Generation),
     ("send", Name::Send),
     ("delivery", Name::Delivery),
+    ("slice", Name::Slice),
     ("level", Name::Level),
 ];
 
@@ -159,6 +162,10 @@ impl Tables {
                     .messages
                     .write_deliveries(&lists.buffers, &lists.calls, rows)
             }
+            Name::Slice => match ending.span {
+                Some(span) => Slices::of(span).write(rows),
+                None => Ok(()),
+            },
             Name::Level => lists.levels.write(self.spans.processes()?, rows),
         }
     }

@@ -2,12 +2,12 @@
 -- most come first. Of its buffers, how much space the driver has given for data and offsets, each rounded up to 8
 -- bytes, and how much of this for oneway transactions. After its end a process holds nothing, and a call ends with its
 -- thread. ?1: the most rows.
--- needs: database/schema.sql: raw_call, raw_capture, raw_delivery, raw_generation, raw_level, raw_record, raw_thread;
---   database/numbers.sql: flag, kind; database/views.sql: process, thread
+-- needs: database/schema.sql: raw_call, raw_capture, raw_delivery, raw_generation, raw_level, raw_record, raw_slice,
+--   raw_thread; database/numbers.sql: flag, kind; database/views.sql: process, thread
 -- makes: columns: upid, ended, space, oneway_space, buffers, buffers_left, bytes, bytes_left, refs, refs_left, calls,
 --   calls_left, served, served_left
 WITH lived AS MATERIALIZED (SELECT p.upid, iif(p.ended_after <= c.last_seq, p.ended_after, NULL) AS ended_after,
-    (p.ended_after - c.first_seq) * 16 / (c.last_seq - c.first_seq + 1) AS slice FROM process p, raw_capture c),
+    (SELECT max(slice) FROM raw_slice WHERE first_seq <= p.ended_after) AS slice FROM process p, raw_capture c),
   left_over AS MATERIALIZED (
     SELECT upid, count(*) AS buffers, min(total(data_size), 9e18) AS bytes, min(total(space), 9e18) AS space,
       min(total(iif(oneway, space, 0)), 9e18) AS oneway
