@@ -9,13 +9,13 @@ pub(crate) struct BufferPairs;
 
 impl OpensAndCloses for BufferPairs {
     ghost use Rattle.process_ledgers.specs.Items.{buffer_pending_of};
-    ghost use Rattle.process_ledgers.proofs.ItemPlaces.{pending_keeps};
+    ghost use Rattle.process_ledgers.proofs.ItemPlaces.{buffer_keeps};
 
     ghost read = { buffer_pending_of };
 
-    ghost keeps = { pending_keeps };
+    ghost keeps = { buffer_keeps };
 
     fn ledger<'l>(ledgers: &'l ProcessLedgers<'_>) -> &'l Pending<u64> {
-        ledgers.buffers.own.pending()
+        &ledgers.buffers.own
     }
 }
