@@ -6,12 +6,12 @@ ghost use Rattle.capture_frame.specs.Envelope.{PlacedFrame};
 ghost use Rattle.audit_findings.specs.Frames.{AreGoodFrames, good_views_halves};
 ghost use Rattle.audit_findings.specs.Summary.{SumsPiece, GivesHandlesAt, GivesUnfreed, GiveSectionsOf, process_count};
 
-use crate::buffers::BufferPairs;
 use crate::findings::Sections;
 use crate::handles::listed_handles;
 use crate::in_turn::ProcessRow;
 use crate::ledgers::FrameLedgers;
 use crate::paired::Unclosed;
+use crate::pairs::BufferPairs;
 use crate::places::lists_of;
 use capture_frame::{Frame, FrameSlice};
 use handle_ledger::HeldRow;
