@@ -17,7 +17,6 @@ mod handles;
 mod held;
 mod in_turn;
 pub mod laws;
-mod ledgers;
 mod nodes;
 mod objects;
 mod oneway;
