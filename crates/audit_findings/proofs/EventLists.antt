@@ -25,7 +25,7 @@ use Rattle.summary_law.specs.Readings.{by_key, chosen, read_all, read_each, with
 use Rattle.summary_law.proofs.GatherLaws.{HasKeyOrNothing, gathered_sorted}
 use Rattle.summary_law.proofs.InOrderLaws.{each_among_firsts, firsts_distinct}
 use Rattle.summary_law.proofs.Members.{Rises, in_place, rises-map}
-use Rattle.summary_law.proofs.ReadingLaws.{chosen-is, read-both, read-made, read-picked, read-plain, read-rises}
+use Rattle.summary_law.proofs.ReadingLaws.{chosen-is, read-both, read-made, read-picked, read-rises}
 use Rattle.audit_findings.specs.declared.open_and_stray.OpenAndStray.{OpenAndStray}
 use Rattle.audit_findings.specs.Kept.{pairs_at_places, places_of}
 use Rattle.audit_findings.specs.Places.{EventTest, RiseInPlace, either, is_stray_close, is_unclosed, item_is, passing_events, open_and_stray, places_in}
@@ -58,12 +58,6 @@ module _ {I : Type 0} (place : I → ℕ) (read : EventRead → Option I) (keeps
       ap (map place) (read-picked (chosen test) read [] own) ∙ read-made of_item place [] own
       ∙ ap (λ (r : List EventRead → EventRead → List EventRead → Option ℕ). read_each r [] own) (λ i b e l. placed_item b e l i)
       ∙ sym (read-made (chosen (item_is read test)) place_of_event [] own)
-
--- the items that are made of others
-pub items_made : {I J : Type 0} (f : I → J) (read : EventRead → Option I) (es : List EventRead)
-    → filter_map (λ e. option_map f (read e)) es ≡ map f (filter_map read es)
-items_made f read es =
-    read-plain (λ e. option_map f (read e)) [] es ∙ sym (read-made (λ b e l. read e) f [] es) ∙ ap (map f) (sym (read-plain read [] es))
 
 -- ---- the processes of events
 

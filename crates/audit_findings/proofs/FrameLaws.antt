@@ -3,11 +3,13 @@ use Rattle.std.proofs.Common.{◌≡◌, ℕ, ◌+◌, ◌-◌, ◌*◌, ◌<◌
 use Rattle.std.specs.Prelude.{AllPairs}
 use Rattle.std.specs.List.{sum_by}
 use Rattle.std.proofs.lemmas.Grind.{flat_map-append}
-use Rattle.std.proofs.lemmas.List.{append-nil}
+use Rattle.std.proofs.lemmas.List.{append-nil, map-append}
 use Rattle.std.proofs.lemmas.List.Concat.{flat_map-cons}
 use Rattle.std.proofs.lemmas.List.Elements.{All-append, All-nil, All-weaker}
 use Rattle.std.proofs.lemmas.List.Sums.{sum_by-cons}
-use Rattle.capture_frame.specs.Envelope.{PlacedFrame, commands_place}
+use Rattle.capture_frame.specs.Cut.{shown_by}
+use Rattle.capture_frame.specs.Envelope.{PlacedFrame, commands_place, placed_frame}
+use Rattle.capture_frame.specs.declared.frame.Frame.{Frame}
 use Rattle.capture_frame.specs.Lookup.{AreApart, span_of}
 use Rattle.event_core.specs.Events.{EventRead, events_of, events_of_frames}
 use Rattle.event_core.proofs.FrameEvents.{events_few, events_rise, events_within, list_length, lists_small}
@@ -85,3 +87,7 @@ few_frames frames good =
     let short = all_short frames in
     let few = good.few in
     (omega (arith, short, few), ((omega (arith, short, few), frames_rise frames good.apart), all_small (2 ^ 32) frames few))
+
+-- good views of frames that follow others show few frames
+pub few_shown : (first second : List Frame) → AreGoodFrames (shown_by (first ++ second)) → AreFewFrames (shown_by first ++ shown_by second)
+few_shown first second good = few_frames (shown_by first ++ shown_by second) (subst AreGoodFrames (map-append placed_frame first second) good)

@@ -1,5 +1,5 @@
 -- The ledgers of events and of frames while they are made: what each keeps of the list that it sums.
-use Rattle.std.specs.Prelude.{◌≡◌, ℕ, ◌+◌, ◌<◌, ◌^◌, List, [], ◌∷◌, ◌++◌, length, map, count_by, All}
+use Rattle.std.specs.Prelude.{◌≡◌, ℕ, ◌+◌, ◌<◌, ◌^◌, List, [], ◌∷◌, length, map, count_by, All}
 use Rattle.capture_frame.specs.Envelope.{PlacedFrame}
 use Rattle.std.proofs.Common.{subst}
 use Rattle.std.proofs.lemmas.List.{map-append}
@@ -9,14 +9,12 @@ use Rattle.transaction_view.specs.Attachments.{EntryText}
 use Rattle.event_core.specs.Events.{EventRead}
 use Rattle.summary_law.specs.Fits.{IsShort, IsPlaced, all_halves, placed_halves}
 use Rattle.audit_findings.specs.declared.event_ledgers.EventLedgers.{EventLedgers}
-use Rattle.audit_findings.specs.declared.findings.Sections.{Sections}
 use Rattle.audit_findings.specs.declared.flags.FlagLedger.{FlagLedger}
-use Rattle.audit_findings.specs.declared.ledgers.FrameLedgers.{FrameLedgers}
 use Rattle.audit_findings.specs.declared.objects.ObjectLedger.{ObjectLedger}
 use Rattle.audit_findings.specs.declared.sequences.Sequences.{Sequences}
 use Rattle.audit_findings.specs.CodeCounts.{CountWords}
 use Rattle.audit_findings.specs.Codes.{code_words, is_opaque}
-use Rattle.audit_findings.specs.Findings.{findings_of, last_sequence}
+use Rattle.audit_findings.specs.Findings.{last_sequence}
 use Rattle.audit_findings.specs.Flags.{flagged}
 use Rattle.audit_findings.specs.Buffers.{is_leaked}
 use Rattle.audit_findings.specs.Handles.{handles_in}
@@ -24,7 +22,7 @@ use Rattle.audit_findings.specs.InTurn.{rows_in}
 use Rattle.audit_findings.specs.declared.in_turn.ProcessRow.{ProcessRow}
 use Rattle.handle_ledger.specs.declared.held_row.HeldRow.{HeldRow}
 use Rattle.event_core.specs.Events.{events_of_frames}
-use Rattle.audit_findings.specs.Kept.{at_places, bad_at_place}
+use Rattle.audit_findings.specs.Kept.{bad_at_place}
 use Rattle.audit_findings.specs.Objects.{bad_objects, sort_count, good_objects, times_of}
 use Rattle.audit_findings.specs.Oneway.{oneway_counts}
 use Rattle.audit_findings.specs.Places.{places_in}
@@ -32,12 +30,11 @@ use Rattle.object_view.specs.declared.sort.Sort.{Sort}
 use Rattle.event_core.specs.Reading.{event_text}
 use Rattle.event_core.specs.declared.event.Event.{Event}
 use Rattle.process_ledgers.specs.Concerns.{concerned}
-use Rattle.process_ledgers.specs.EachProcess.{AreLedgersOf, SumsEach, SumsOrder}
-use Rattle.process_ledgers.specs.Processes.{process_of_placed, processes_of}
+use Rattle.process_ledgers.specs.EachProcess.{AreLedgersOf}
+use Rattle.process_ledgers.specs.Processes.{processes_of}
 use Rattle.capture_frame.specs.declared.process.Process.{Process}
 use Rattle.process_ledgers.specs.ProcessLedgers.{SumsProcess}
 use Rattle.process_ledgers.specs.declared.process_ledgers.ProcessLedgers.{ProcessLedgers}
-use Rattle.process_ledgers.specs.declared.processes.Processes.{Processes}
 use Rattle.summary_law.specs.Fed.{SumsPicked}
 use Rattle.summary_law.specs.InOrder.{SumsInOrder}
 use Rattle.summary_law.specs.Summary.{FitsInHalves}
@@ -96,32 +93,9 @@ pub record SumsGiven (sums : EventSums) (events : List Event) : Type 0 where
   pub threads : SumsThreadCalls sums.threads (map event_text events)
   pub processes : SumsPicked concerned (SumsInOrder same_process SumsProcess) sums.processes.entries.entries events
 
--- the ledgers are the sums of these frames: of their sequences, of their processes in order, and of all their events
-pub record SumsLedgers (ledgers : FrameLedgers) (frames : List PlacedFrame) : Type 0 where
-  pub sequences : SumsFrames ledgers.sequences frames
-  pub order : SumsOrder ledgers.order.entries.entries frames
-  pub given : List Event
-  pub are_all : map event_text given ≡ events_of_frames frames
-  pub sums : SumsGiven ledgers.of_events given
-
--- the ledgers are the sums of some frames
-abbrev pub SumsSome : FrameLedgers → Type 0
-SumsSome ledgers = (frames : List PlacedFrame) × SumsLedgers ledgers frames
-
--- the new ledgers are the old ones, except that the order has the process of the next frame too
-pub record NamesProcess (old : FrameLedgers) (process : Process) (new : FrameLedgers) : Type 0 where
-  pub sequences : new.sequences ≡ old.sequences
-  pub order : (frames : List PlacedFrame) (next : PlacedFrame) → SumsLedgers old frames
-      → process ≡ process_of_placed next → SumsOrder new.order.entries.entries (frames ++ next ∷ [])
-  pub sums : (events : List Event) → SumsGiven old.of_events events → SumsGiven new.of_events events
-
 -- few frames, with few events
 abbrev pub AreFewFrames : List PlacedFrame → Type 0
 AreFewFrames frames = IsShort frames × AreFewEvents (events_of_frames frames)
-
--- the ledgers are the sums of some frames that are few
-abbrev pub AreOfFew : FrameLedgers → Type 0
-AreOfFew ledgers = (frames : List PlacedFrame) × SumsLedgers ledgers frames × AreFewFrames frames
 
 -- a list for each process of these frames, in order: the places of its leaked deliveries
 abbrev pub AreUnfreed : List PlacedFrame → List (List ℕ) → Type 0
@@ -139,16 +113,3 @@ GivesHandles ledgers frames unfreed rows =
     (process : Process) → AreLedgersOf ledgers (events_of_frames frames) process
     → unfreed ≡ places_in is_leaked (events_of_frames frames) process
     → rows ≡ handles_in (events_of_frames frames) process
-
--- whatever few frames the ledgers are the sums of: if their processes have these leaked deliveries and these rows of
--- `handles`, the sections keep the findings of the frames
-abbrev pub GiveSections : FrameLedgers → List (List ℕ) → List (List (ProcessRow HeldRow)) → Sections ℕ → Type 0
-GiveSections ledgers unfreed handles sections =
-    (frames : List PlacedFrame) → SumsLedgers ledgers frames → AreFewFrames frames → AreUnfreed frames unfreed
-    → AreListedHandles frames handles → sections ≡ at_places (findings_of frames)
-
--- whatever frames the ledgers are the sums of, these are their processes, each with its ledgers; a process without an
--- item has the ledgers `none`, which are sums of nothing
-abbrev pub GivesProcesses : FrameLedgers → ProcessLedgers → Processes → Type 0
-GivesProcesses ledgers none processes =
-    (frames : List PlacedFrame) → SumsLedgers ledgers frames → SumsProcess none [] → SumsEach processes frames

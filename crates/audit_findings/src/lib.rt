@@ -2,13 +2,10 @@
 #![tactic(auto)]
 
 mod both;
-mod buffers;
 mod call_sections;
 mod calls;
-mod clears;
 mod code_counts;
 mod codes;
-mod deaths;
 mod entries;
 mod event_ledgers;
 mod event_sections;
@@ -20,20 +17,19 @@ mod handles;
 mod held;
 mod in_turn;
 pub mod laws;
-mod ledgers;
 mod nodes;
 mod objects;
 mod oneway;
 mod oneway_counts;
 mod open_and_stray;
 mod paired;
+mod pairs;
 mod piece_summary;
 mod places;
 mod process_sections;
 mod record_counts;
 mod references;
 mod refused;
-mod requests;
 mod rows;
 mod sequences;
 mod served;

@@ -48,7 +48,7 @@ few_firsts {K} eq (k ∷ keys) =
 -- the summary counts the different processes of the frames
 process_number : (summary : PieceSummary) (frames : List PlacedFrame) → SumsPiece summary frames → process_count summary ≡ length (processes_of frames)
 process_number summary frames sums =
-    let entries = summary.ledgers.order.entries.entries in
+    let entries = summary.order.entries.entries in
     let order = sums.order.order ∙ ap (firsts same_process) (map-map (λ (e : Process × ⊤). e.0) order_item frames) in
     sym (length-map entries (λ (e : Process × Nothing). e.0)) ∙ ap length order
 

@@ -1,7 +1,6 @@
 //! Opens and closes, requests, and their joins, in lists written by hand and in large ones.
 
-use binder_code::Kind;
-use event_core::{BufferItem, KeyEvent, PendingChange, RequestChange, RequestItem, RequestKey};
+use event_core::{KeyEvent, PendingChange, RequestChange, RequestItem, RequestKey};
 use pending_ledger::{Buffers, Deaths, Requests};
 use std::alloc::{AllocError, Global};
 use std::process::Abort;
@@ -178,44 +177,18 @@ const DOZEN_ASKED: Asked = Asked {
     standing: &[6, 9, 11],
 };
 
-/// The opens and closes as deaths.
-fn deaths_of(alloc: Global, pairs: &Pairs) -> Result<Vec<(u64, KeyEvent)>, AllocError> {
+/// An open or a close of a key.
+fn item(place: u64, change: PendingChange, key: u64) -> (u64, KeyEvent) {
+    (key, KeyEvent { place, change })
+}
+
+/// The opens and closes with their places.
+fn items_of(alloc: Global, pairs: &Pairs) -> Result<Vec<(u64, KeyEvent)>, AllocError> {
     let mut items = Vec::new(alloc);
     for (place, (change, key)) in pairs.steps.iter().enumerate() {
-        let place = place as u64;
-        let change = *change;
-        items.push((*key, KeyEvent { place, change }))?;
+        items.push(item(place as u64, *change, *key))?;
     }
     Ok(items)
-}
-
-/// The same as deliveries and frees.
-fn buffers_of(alloc: Global, pairs: &Pairs) -> Result<Vec<BufferItem>, AllocError> {
-    let mut items = Vec::new(alloc);
-    for (place, (change, address)) in pairs.steps.iter().enumerate() {
-        let place = place as u64;
-        let address = *address;
-        items.push(match change {
-            PendingChange::Open => delivery(place, address),
-            PendingChange::Close => BufferItem::Free { place, address },
-        })?;
-    }
-    Ok(items)
-}
-
-/// A delivery, by turns in each of the three kinds that deliver.
-fn delivery(place: u64, address: u64) -> BufferItem {
-    let kind = match place % 3 {
-        0 => Kind::BrTransaction,
-        1 => Kind::BrTransactionSecCtx,
-        _ => Kind::BrReply,
-    };
-    BufferItem::Delivery {
-        place,
-        address,
-        data_size: 24,
-        kind,
-    }
 }
 
 /// The changes at their places.
@@ -230,20 +203,11 @@ fn requests_of(alloc: Global, asked: &Asked) -> Result<Vec<RequestItem>, AllocEr
     Ok(items)
 }
 
-/// The deaths leave what is expected.
-fn expect_deaths(rt: &impl Abort, deaths: &Deaths, pairs: &Pairs) -> Result<(), AllocError> {
-    let outstanding = deaths.outstanding()?;
+/// The ledger has what is expected.
+fn expect_lists(rt: &impl Abort, ledger: &Deaths, pairs: &Pairs) -> Result<(), AllocError> {
+    let outstanding = ledger.outstanding()?;
     assert!(rt; outstanding.as_slice() == pairs.outstanding);
-    let strays = deaths.strays()?;
-    assert!(rt; strays.as_slice() == pairs.strays);
-    Ok(())
-}
-
-/// The buffers leave what is expected.
-fn expect_buffers(rt: &impl Abort, buffers: &Buffers, pairs: &Pairs) -> Result<(), AllocError> {
-    let outstanding = buffers.outstanding()?;
-    assert!(rt; outstanding.as_slice() == pairs.outstanding);
-    let strays = buffers.strays()?;
+    let strays = ledger.strays()?;
     assert!(rt; strays.as_slice() == pairs.strays);
     Ok(())
 }
@@ -255,16 +219,12 @@ fn expect_requests(rt: &impl Abort, requests: &Requests, asked: &Asked) -> Resul
     Ok(())
 }
 
-/// The pairs as deaths and as buffers leave what is expected.
+/// The pairs leave what is expected.
 fn expect_pairs(rt: &impl Abort, alloc: Global, pairs: &Pairs) -> Result<(), AllocError> {
-    let items = deaths_of(alloc, pairs)?;
+    let items = items_of(alloc, pairs)?;
     assert!(rt; is_placed(items.as_slice()));
-    let deaths: Deaths = summary_of(alloc, items.as_slice())?;
-    expect_deaths(rt, &deaths, pairs)?;
-    let items = buffers_of(alloc, pairs)?;
-    assert!(rt; is_placed(items.as_slice()));
-    let buffers: Buffers = summary_of(alloc, items.as_slice())?;
-    expect_buffers(rt, &buffers, pairs)
+    let ledger: Deaths = summary_of(alloc, items.as_slice())?;
+    expect_lists(rt, &ledger, pairs)
 }
 
 /// The changes leave the requests that are expected.
@@ -293,16 +253,14 @@ fn deliveries_and_frees(
     alloc: Global,
     count: u64,
     freed: u64,
-) -> Result<Vec<BufferItem>, AllocError> {
+) -> Result<Vec<(u64, KeyEvent)>, AllocError> {
     let mut items = Vec::new(alloc);
     for place in 0..count {
-        items.push(delivery(place, place))?;
+        items.push(item(place, OPEN, place))?;
     }
     for nth in 0..freed {
-        items.push(BufferItem::Free {
-            place: count.saturating_add(nth),
-            address: count.saturating_sub(nth).saturating_sub(1),
-        })?;
+        let address = count.saturating_sub(nth).saturating_sub(1);
+        items.push(item(count.saturating_add(nth), CLOSE, address))?;
     }
     Ok(items)
 }
@@ -324,7 +282,7 @@ fn requests_and_death(alloc: Global, count: u32) -> Result<Vec<RequestItem>, All
 }
 
 /// How many of the deliveries are leaked.
-fn leaked(rt: &impl Abort, alloc: Global, items: &[BufferItem]) -> Result<usize, AllocError> {
+fn leaked(rt: &impl Abort, alloc: Global, items: &[(u64, KeyEvent)]) -> Result<usize, AllocError> {
     assert!(rt; is_placed(items));
     let buffers: Buffers = summary_of(alloc, items)?;
     let strays = buffers.strays()?;

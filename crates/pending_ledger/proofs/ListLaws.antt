@@ -1,9 +1,6 @@
 -- Lists that are read from other lists.
-use Rattle.std.proofs.Common.{◌≡◌, ℕ, suc, ◌<◌, List, [], ◌∷◌, ◌++◌, map, Option, Some, None, filter_map, refl, ap, ◌∙◌, arith}
-use Rattle.std.proofs.lemmas.List.Elements.{All-map}
-use Rattle.std.proofs.lemmas.List.Kept.{AllPairs-cons}
+use Rattle.std.proofs.Common.{◌≡◌, List, [], ◌∷◌, ◌++◌, Option, Some, None, filter_map, refl, ap, ◌∙◌}
 use Rattle.std.specs.List.{cons_option}
-use Rattle.summary_law.specs.Fits.{PlacesRise}
 
 -- if what is read of a list has an element in its midst, so has the list
 pub record ReadSplit {X Y : Type 0} (read : X → Option Y) (xs : List X) (front : List Y) (y : Y) (back : List Y) : Type 0 where
@@ -59,11 +56,3 @@ module _ {X Y : Type 0} (read : X → Option Y) where
             let rest : filter_map read xs ≡ front ++ y ∷ back = cc in
             kept x xs f front y back (is ∙ ap (λ t. Some t) same) (read_split xs front y back rest)
       ] refl e
-
--- places of a mapped list
-pub rising_map : {X Y : Type 0} (place : Y → ℕ) (f : X → Y) (xs : List X) → PlacesRise (λ x. place (f x)) xs → PlacesRise place (map f xs)
-rising_map place f [] rise = λ i j d below within. absurd (omega arith)
-rising_map place f (x ∷ xs) rise =
-    AllPairs-cons (λ a b. place a < place b) (f x) (map f xs)
-    (All-map (λ b. place (f x) < place b) f xs (λ j d within. rise 0 (suc j) d (omega arith) (omega arith)))
-    (rising_map place f xs (λ i j d below within. rise (suc i) (suc j) d (omega arith) (omega arith)))

@@ -1,8 +1,8 @@
 -- What is outstanding under each key, and what is a stray there, in the whole list.
-use Rattle.std.proofs.Common.{◌≡◌, ℕ, ◌&&◌, ◌||◌, not, Bool, true, false, cond, List, [], ◌∷◌, ◌++◌, map, Some, None}
-use Rattle.std.proofs.Common.{IsPermutation, IsSorted, nat_cmp, Ordering, refl, ap, subst, ◌∙◌, sym, arith}
+use Rattle.std.proofs.Common.{◌≡◌, ℕ, ◌&&◌, ◌||◌, not, Bool, true, false, cond, List, [], ◌∷◌, map, Some, None}
+use Rattle.std.proofs.Common.{IsPermutation, IsSorted, nat_cmp, Ordering, refl, ap, subst, ◌∙◌, sym}
 use Rattle.std.proofs.lemmas.Cmp.{eq_by_cmp_equiv}
-use Rattle.std.proofs.lemmas.List.{length-map, map-append, map-id}
+use Rattle.std.proofs.lemmas.List.{map-id}
 use Rattle.std.proofs.lemmas.List.Sorted.{IsNonDecreasingBy-from_sort}
 use Rattle.std.proofs.lemmas.Map.Keys.{IsDistinct-from_sorted}
 use Rattle.std.specs.BTreeMap.{IsOrdered}
@@ -10,36 +10,17 @@ use Rattle.std.specs.Cmp.{IsTotalOrder}
 use Rattle.std.specs.List.{cons_option, last_or, list_any}
 use Rattle.std.specs.Map.{keys_of}
 use Rattle.std.specs.Ordering.{eq_by_cmp}
-use Rattle.event_core.specs.Buffers.{buffer_pending}
-use Rattle.event_core.specs.declared.buffer.BufferItem.{BufferItem}
 use Rattle.event_core.specs.declared.pending.KeyEvent.{KeyEvent}
 use Rattle.pending_ledger.proofs.KeyLaws.{is_last_open, is_unmet_close, opens_read, unmet_read}
-use Rattle.pending_ledger.proofs.ListLaws.{rising_map}
 use Rattle.pending_ledger.specs.declared.key.KeyLedger.{KeyLedger}
 use Rattle.pending_ledger.specs.declared.pending.Pending.{Pending}
 use Rattle.pending_ledger.specs.KeyEvents.{event_change, is_closing}
-use Rattle.pending_ledger.specs.Ledgers.{buffer_place}
 use Rattle.pending_ledger.specs.Pending.{is_close, was_open, closes, changes_of, is_unclosed_item, is_stray_item, place_of, places_if}
 use Rattle.pending_ledger.specs.Sums.{gather, KeySums, PendingSums}
 use Rattle.summary_law.proofs.GatherLaws.{as_it_is, entries_sorted, map_each, map_none}
 use Rattle.summary_law.proofs.ReadingLaws.{chosen-is, read-rises}
 use Rattle.summary_law.specs.ByKey.{SumsByKey}
-use Rattle.summary_law.specs.Fits.{IsPlaced}
 use Rattle.summary_law.specs.Readings.{by_key, chosen, read_all, with_key}
-
--- buffers as the opens and closes that they are
-pub buffers_both : (first second : List BufferItem) → map buffer_pending (first ++ second) ≡ map buffer_pending first ++ map buffer_pending second
-buffers_both first second = map-append buffer_pending first second
-
-pub buffers_more : (items : List BufferItem) (item : BufferItem)
-    → map buffer_pending (items ++ item ∷ []) ≡ map buffer_pending items ++ buffer_pending item ∷ []
-buffers_more items item = buffers_both items (item ∷ [])
-
-pub buffers_placed : (items : List BufferItem) → IsPlaced buffer_place items → IsPlaced place_of (map buffer_pending items)
-buffers_placed items placed =
-    let long = length-map items buffer_pending in
-    let short = placed.0 in
-    (omega arith, rising_map (λ (item : ℕ × KeyEvent). place_of item) buffer_pending items placed.1)
 
 -- ---- what is seen under the key of an item
 

@@ -1,5 +1,4 @@
 pub mod Pending
-pub mod Ledgers
 pub mod Requests
 pub mod KeyEvents
 pub mod Sums

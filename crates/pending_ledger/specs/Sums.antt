@@ -3,14 +3,11 @@ use Rattle.std.specs.Prelude.{◌≡◌, ℕ, Bool, true, false, List, map, Opti
 use Rattle.std.specs.List.{last_or, list_any}
 use Rattle.std.specs.Ordering.{eq_by_cmp, nat_cmp}
 use Rattle.std.specs.declared.cmp.Ordering.{Ordering}
-use Rattle.event_core.specs.Buffers.{buffer_pending}
-use Rattle.event_core.specs.declared.buffer.BufferItem.{BufferItem}
 use Rattle.event_core.specs.declared.pending.KeyEvent.{KeyEvent}
 use Rattle.event_core.specs.declared.pending.PendingChange.TheVariants.{Open, Close}
 use Rattle.event_core.specs.declared.request.RequestChange.{RequestChange}
 use Rattle.event_core.specs.declared.request.RequestChange.TheVariants.{Request, Clear, Dead}
 use Rattle.event_core.specs.declared.request.RequestItem.{RequestItem}
-use Rattle.pending_ledger.specs.declared.buffers.Buffers.{Buffers}
 use Rattle.pending_ledger.specs.declared.cookie.CookieRequests.{CookieRequests}
 use Rattle.pending_ledger.specs.declared.key.KeyLedger.{KeyLedger}
 use Rattle.pending_ledger.specs.declared.opens.Opens.{Opens}
@@ -18,7 +15,6 @@ use Rattle.pending_ledger.specs.declared.pending.Pending.{Pending}
 use Rattle.pending_ledger.specs.declared.requests.Requests.{Requests}
 use Rattle.pending_ledger.specs.declared.strays.Strays.{Strays}
 use Rattle.pending_ledger.specs.KeyEvents.{event_change, is_closing, after_last, open_places, unmet_places, first_change}
-use Rattle.pending_ledger.specs.Ledgers.{leaked_places, stray_free_places}
 use Rattle.pending_ledger.specs.Pending.{is_unclosed_item, is_stray_item, place_of, places_if}
 use Rattle.pending_ledger.specs.Requests.{request_place, standing_request_places}
 use Rattle.summary_law.specs.ByKey.{SumsByKey}
@@ -53,19 +49,6 @@ GivesOutstanding {K} cmp pending places =
 abbrev pub GivesStrays : {K : Type 0} → (K → K → Ordering) → Pending K → List ℕ → Type 0
 GivesStrays {K} cmp pending places =
     (items : List (K × KeyEvent)) → PendingSums cmp pending items → places ≡ places_if (is_stray_item (eq_by_cmp cmp)) items
-
--- the value sums these deliveries and frees, as opens and closes of their addresses
-abbrev pub BuffersSums : Buffers → List BufferItem → Type 0
-BuffersSums buffers items = PendingSums nat_cmp buffers.pending (map buffer_pending items)
-
--- for whatever items the value sums, these are the places of the leaked deliveries
-abbrev pub GivesLeaked : Buffers → List ℕ → Type 0
-GivesLeaked buffers places = (items : List BufferItem) → BuffersSums buffers items → places ≡ leaked_places items
-
--- for whatever items the value sums, these are the places of the stray frees
-abbrev pub GivesStrayFrees : Buffers → List ℕ → Type 0
-GivesStrayFrees buffers places =
-    (items : List BufferItem) → BuffersSums buffers items → places ≡ stray_free_places items
 
 -- the cookie that a change is about
 abbrev pub change_cookie : RequestChange → ℕ

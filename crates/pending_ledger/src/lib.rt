@@ -2,7 +2,6 @@
 //! clears that are not confirmed, and standing requests. And what is closed while it is not open.
 #![tactic(auto)]
 
-mod buffers;
 mod cookie;
 mod key;
 mod opens;
@@ -11,6 +10,5 @@ mod places;
 mod requests;
 mod strays;
 
-pub use buffers::Buffers;
-pub use pending::{Clears, Deaths, Pending};
+pub use pending::{Buffers, Clears, Deaths, Pending};
 pub use requests::Requests;

@@ -17,6 +17,9 @@ pub struct Pending<K: Ord + Copy> {
     keys: ByKey<K, KeyLedger>,
 }
 
+/// Deliveries, by the address of their buffer: each is open until the process frees the buffer.
+pub type Buffers = Pending<u64>;
+
 /// Deaths that a process is notified of, by cookie: each is open until the process acknowledges it.
 pub type Deaths = Pending<u64>;
 

@@ -16,14 +16,14 @@ use Rattle.event_core.specs.Reading.{event_text}
 use Rattle.event_core.specs.declared.event.Event.{Event}
 use Rattle.handle_ledger.specs.Handles.{HandleLedgerSums}
 use Rattle.handle_ledger.specs.Nodes.{NodeLedgerSums}
-use Rattle.pending_ledger.specs.Sums.{BuffersSums, PendingSums, RequestsSums}
+use Rattle.pending_ledger.specs.Sums.{PendingSums, RequestsSums}
 use Rattle.summary_law.specs.ByKey.{items_of, IsOwn}
 use Rattle.summary_law.specs.Fed.{SumsPicked}
 use Rattle.summary_law.specs.InOrder.{SumsInOrder, firsts}
 use Rattle.process_ledgers.specs.declared.processes.Processes.{Processes}
 use Rattle.process_ledgers.specs.declared.process_ledgers.ProcessLedgers.{ProcessLedgers}
 use Rattle.process_ledgers.specs.Concerns.{concerns, concerned}
-use Rattle.process_ledgers.specs.Items.{buffer_item_of, clear_item_of, death_item_of, handle_item_of, node_item_of, oneway_item_of, request_item_of}
+use Rattle.process_ledgers.specs.Items.{buffer_pending_of, clear_item_of, death_item_of, handle_item_of, node_item_of, oneway_item_of, request_item_of}
 use Rattle.process_ledgers.specs.EachProcess.{AreLedgersOf, SumsEach, SumsOrder, ledgers_in, order_item}
 use Rattle.process_ledgers.specs.Oneway.{OnewaySums}
 use Rattle.process_ledgers.specs.ProcessLedgers.{SumsProcess, picked_by}
@@ -33,7 +33,7 @@ use Rattle.process_ledgers.specs.Processes.{events_in, items_of_process}
 record PickNone (e : EventRead) : Type 0 where
   handles : handle_item_of e ≡ None
   nodes : node_item_of e ≡ None
-  buffers : buffer_item_of e ≡ None
+  buffers : buffer_pending_of e ≡ None
   requests : request_item_of e ≡ None
   deaths : death_item_of e ≡ None
   clears : clear_item_of e ≡ None
@@ -103,7 +103,7 @@ pub own_ledgers : (ledgers : ProcessLedgers) (q : Process) (events : List Event)
 own_ledgers ledgers q events sums = record {
   handles = subst (HandleLedgerSums ledgers.handles.own) (own_items handle_item_of (λ e is. (none_else e is).handles) q events) sums.handles;
   nodes = subst (NodeLedgerSums ledgers.nodes.own) (own_items node_item_of (λ e is. (none_else e is).nodes) q events) sums.nodes;
-  buffers = subst (BuffersSums ledgers.buffers.own) (own_items buffer_item_of (λ e is. (none_else e is).buffers) q events) sums.buffers;
+  buffers = subst (PendingSums nat_cmp ledgers.buffers.own) (own_items buffer_pending_of (λ e is. (none_else e is).buffers) q events) sums.buffers;
   requests = subst (RequestsSums ledgers.requests.own) (own_items request_item_of (λ e is. (none_else e is).requests) q events) sums.requests;
   deaths = subst (PendingSums nat_cmp ledgers.deaths.own) (own_items death_item_of (λ e is. (none_else e is).deaths) q events) sums.deaths;
   clears = subst (PendingSums nat_cmp ledgers.clears.own) (own_items clear_item_of (λ e is. (none_else e is).clears) q events) sums.clears;

@@ -7,12 +7,10 @@ use Rattle.event_core.specs.Buffers.{buffer_item, buffer_pending}
 use Rattle.event_core.specs.Clears.{clear_item}
 use Rattle.event_core.specs.Deaths.{death_change}
 use Rattle.event_core.specs.Requests.{request_change}
-use Rattle.event_core.specs.declared.buffer.BufferItem.{BufferItem}
 use Rattle.event_core.specs.declared.pending.KeyEvent.{KeyEvent}
-use Rattle.pending_ledger.specs.Ledgers.{buffer_place}
 use Rattle.pending_ledger.specs.Pending.{place_of}
 use Rattle.pending_ledger.specs.Requests.{request_place}
-use Rattle.process_ledgers.specs.Items.{KeepsPlace, buffer_item_of, buffer_pending_of, clear_item_of, death_item_of, request_item_of}
+use Rattle.process_ledgers.specs.Items.{KeepsPlace, buffer_pending_of, clear_item_of, death_item_of, request_item_of}
 
 pub made_there : {A I : Type 0} (place : I → ℕ) (make : A → I) (at : ℕ) → ((a : A) → place (make a) ≡ at) → (o : Option A) (i : I) → option_map make o ≡ Some i
     → place i ≡ at
@@ -22,11 +20,11 @@ made_there place make at there (Some a) i is = sym (ap (λ o. place (unwrap_or o
 some_there : {I : Type 0} (place : I → ℕ) (made i : I) (at : ℕ) → place made ≡ at → Some made ≡ Some i → place i ≡ at
 some_there place made i at there is = sym (ap (λ o. place (unwrap_or o i)) is) ∙ there
 
-buffer_there : (at : ℕ) (kind : Kind) (payload : List ℕ) (i : BufferItem) → buffer_item at kind payload ≡ Some i → buffer_place i ≡ at
-buffer_there at BrTransaction payload i is = some_there buffer_place _ i at refl is
-buffer_there at BrTransactionSecCtx payload i is = some_there buffer_place _ i at refl is
-buffer_there at BrReply payload i is = some_there buffer_place _ i at refl is
-buffer_there at BcFreeBuffer payload i is = some_there buffer_place _ i at refl is
+buffer_there : (at : ℕ) (kind : Kind) (payload : List ℕ) (i : ℕ × KeyEvent) → option_map buffer_pending (buffer_item at kind payload) ≡ Some i → place_of i ≡ at
+buffer_there at BrTransaction payload i is = some_there place_of _ i at refl is
+buffer_there at BrTransactionSecCtx payload i is = some_there place_of _ i at refl is
+buffer_there at BrReply payload i is = some_there place_of _ i at refl is
+buffer_there at BcFreeBuffer payload i is = some_there place_of _ i at refl is
 buffer_there at _ payload i is = let no : ⊥ = cc in absurd no
 
 clear_there : (at : ℕ) (kind : Kind) (payload : List ℕ) (i : ℕ × KeyEvent) → clear_item at kind payload ≡ Some i → place_of i ≡ at
@@ -34,7 +32,7 @@ clear_there at BcClearDeathNotification payload i is = some_there place_of _ i a
 clear_there at BrClearDeathNotificationDone payload i is = some_there place_of _ i at refl is
 clear_there at _ payload i is = let no : ⊥ = cc in absurd no
 
-pub buffer_keeps : KeepsPlace buffer_place buffer_item_of
+pub buffer_keeps : KeepsPlace place_of buffer_pending_of
 buffer_keeps e i is = buffer_there e.place e.kind e.payload i is
 
 pub request_keeps : KeepsPlace request_place request_item_of
@@ -45,11 +43,3 @@ death_keeps e i is = made_there place_of _ e.place (λ change. refl) (death_chan
 
 pub clear_keeps : KeepsPlace place_of clear_item_of
 clear_keeps e i is = clear_there e.place e.kind e.payload i is
-
-pending_there : (at : ℕ) (o : Option BufferItem) → ((b : BufferItem) → o ≡ Some b → buffer_place b ≡ at) → (i : ℕ × KeyEvent)
-    → option_map buffer_pending o ≡ Some i → place_of i ≡ at
-pending_there at None keeps i is = let no : ⊥ = cc in absurd no
-pending_there at (Some b) keeps i is = sym (ap (λ o. place_of (unwrap_or o i)) is) ∙ keeps b refl
-
-pub pending_keeps : KeepsPlace place_of buffer_pending_of
-pending_keeps e i is = pending_there e.place (buffer_item_of e) (buffer_keeps e) i is

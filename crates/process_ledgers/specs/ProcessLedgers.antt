@@ -6,11 +6,11 @@ use Rattle.event_core.specs.Reading.{event_text}
 use Rattle.event_core.specs.declared.event.Event.{Event}
 use Rattle.handle_ledger.specs.Handles.{HandleLedgerSums}
 use Rattle.handle_ledger.specs.Nodes.{NodeLedgerSums}
-use Rattle.pending_ledger.specs.Sums.{BuffersSums, PendingSums, RequestsSums}
+use Rattle.pending_ledger.specs.Sums.{PendingSums, RequestsSums}
 use Rattle.summary_law.specs.Fed.{SumsPicked}
 use Rattle.summary_law.specs.Fits.{IsPlaced}
 use Rattle.process_ledgers.specs.declared.process_ledgers.ProcessLedgers.{ProcessLedgers}
-use Rattle.process_ledgers.specs.Items.{buffer_item_of, clear_item_of, death_item_of, handle_item_of, node_item_of, oneway_item_of, request_item_of}
+use Rattle.process_ledgers.specs.Items.{buffer_pending_of, clear_item_of, death_item_of, handle_item_of, node_item_of, oneway_item_of, request_item_of}
 use Rattle.process_ledgers.specs.Oneway.{OnewaySums}
 
 -- the place of an event
@@ -29,7 +29,7 @@ picked_by read event = read (event_text event)
 pub record SumsProcess (ledgers : ProcessLedgers) (events : List Event) : Type 0 where
   pub handles : SumsPicked (picked_by handle_item_of) HandleLedgerSums ledgers.handles.own events
   pub nodes : SumsPicked (picked_by node_item_of) NodeLedgerSums ledgers.nodes.own events
-  pub buffers : SumsPicked (picked_by buffer_item_of) BuffersSums ledgers.buffers.own events
+  pub buffers : SumsPicked (picked_by buffer_pending_of) (PendingSums nat_cmp) ledgers.buffers.own events
   pub requests : SumsPicked (picked_by request_item_of) RequestsSums ledgers.requests.own events
   pub deaths : SumsPicked (picked_by death_item_of) (PendingSums nat_cmp) ledgers.deaths.own events
   pub clears : SumsPicked (picked_by clear_item_of) (PendingSums nat_cmp) ledgers.clears.own events

@@ -1,12 +1,11 @@
 //! What each ledger of a process picks from its events.
 
 ghost use Rattle.event_core.specs.Reading.{event_text};
-ghost use Rattle.process_ledgers.specs.Items.{handle_item_of, node_item_of, buffer_item_of, request_item_of, death_item_of, clear_item_of, oneway_item_of};
+ghost use Rattle.process_ledgers.specs.Items.{handle_item_of, node_item_of, buffer_pending_of, request_item_of, death_item_of, clear_item_of, oneway_item_of};
 
 use event_core::{
-    BufferItem, Event, HandleChange, KeyEvent, NodeChange, NodeKey, OnewayKey, RequestItem,
-    Strength, buffer_step, clear_step, death_step, handle_step, node_step, oneway_step,
-    request_step,
+    Event, HandleChange, KeyEvent, NodeChange, NodeKey, OnewayKey, RequestItem, Strength,
+    buffer_step, clear_step, death_step, handle_step, node_step, oneway_step, request_step,
 };
 use std::marker::PhantomData;
 use summary_law::Picks;
@@ -47,7 +46,7 @@ impl<'c> Picks for NodeItems<'c> {
     }
 }
 
-/// Deliveries and frees.
+/// Deliveries, which open their buffer's address, and frees, which close it.
 pub struct BufferItems<'c> {
     of: PhantomData<Event<'c>>,
 }
@@ -55,13 +54,13 @@ pub struct BufferItems<'c> {
 impl<'c> Picks for BufferItems<'c> {
     type Thing = Event<'c>;
 
-    type Item = BufferItem;
+    type Item = (u64, KeyEvent);
 
-    ghost picks = { λ event. buffer_item_of (event_text event) };
+    ghost picks = { λ event. buffer_pending_of (event_text event) };
 
     #[inline(always)]
-    fn pick(event: Event<'c>) -> Option<BufferItem> {
-        buffer_step(event)
+    fn pick(event: Event<'c>) -> Option<(u64, KeyEvent)> {
+        Some(buffer_step(event)?.pending())
     }
 }
 

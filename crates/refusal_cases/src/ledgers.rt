@@ -7,8 +7,8 @@ use crate::sums::{Way, summed};
 use crate::told;
 use call_stacks::ThreadCalls;
 use event_core::{
-    Event, OnewayKey, buffer_step, clear_step, death_step, handle_step, node_step, oneway_step,
-    request_step,
+    Event, KeyEvent, OnewayKey, buffer_step, clear_step, death_step, handle_step, node_step,
+    oneway_step, request_step,
 };
 use handle_ledger::{HandleLedger, NodeLedger};
 use object_view::{Objects, held_step};
@@ -66,8 +66,13 @@ pub(crate) fn nodes<W: Write>(alloc: Global, bytes: &[u8], way: Way, out: &mut W
     tell_ledger!(alloc, bytes, way, out; node_step, is_short, NodeLedger: rows)
 }
 
+/// The open of a buffer's address by a delivery, or its close by a free.
+fn buffer_pending(event: Event<'_>) -> Option<(u64, KeyEvent)> {
+    Some(buffer_step(event)?.pending())
+}
+
 pub(crate) fn buffers<W: Write>(alloc: Global, bytes: &[u8], way: Way, out: &mut W) -> Printed {
-    tell_ledger!(alloc, bytes, way, out; buffer_step, is_placed, Buffers: outstanding strays)
+    tell_ledger!(alloc, bytes, way, out; buffer_pending, is_placed, Buffers: outstanding strays)
 }
 
 pub(crate) fn deaths<W: Write>(alloc: Global, bytes: &[u8], way: Way, out: &mut W) -> Printed {

@@ -3,12 +3,11 @@
 ghost use Rattle.std.specs.Bool.{OnTrue, OnFalse};
 ghost use Rattle.std.specs.Prelude.{◌≡◌, ℕ};
 ghost use Rattle.call_stacks.specs.Calls.{capture_event_reads};
-ghost use Rattle.pending_ledger.specs.Ledgers.{buffer_place};
 ghost use Rattle.pending_ledger.specs.Pending.{place_of};
 ghost use Rattle.pending_ledger.specs.Requests.{request_place};
 ghost use Rattle.summary_law.specs.Fits.{IsPlaced};
 
-use event_core::{BufferItem, Event, KeyEvent, RequestItem};
+use event_core::{Event, KeyEvent, RequestItem};
 
 /// An item that has a place: that of its record in the capture.
 pub trait Placed: Copy {
@@ -25,14 +24,6 @@ impl Placed for (u64, KeyEvent) {
 
     fn place(self) -> u64 {
         self.1.place
-    }
-}
-
-impl Placed for BufferItem {
-    ghost place_in = { buffer_place };
-
-    fn place(self) -> u64 {
-        self.pending().1.place
     }
 }
 

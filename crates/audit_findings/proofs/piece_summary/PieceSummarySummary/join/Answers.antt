@@ -1,25 +1,48 @@
-use Rattle.std.proofs.Common.{◌++◌, subst, sym}
+use Rattle.std.proofs.Common.{◌++◌, map, sym, subst, length-append, arith}
 use Rattle.std.proofs.lemmas.List.{map-append}
 use Rattle.capture_frame.specs.Cut.{shown_by}
 use Rattle.capture_frame.specs.Envelope.{placed_frame}
-use Rattle.audit_findings.specs.Frames.{AreGoodFrames}
-use Rattle.audit_findings.specs.Ledgers.{SumsLedgers}
-use Rattle.audit_findings.proofs.FrameLaws.{few_frames}
+use Rattle.process_ledgers.specs.EachProcess.{order_item}
+use Rattle.audit_findings.specs.Ledgers.{AreFewEvents}
+use Rattle.audit_findings.specs.Summary.{SumsPiece}
+use Rattle.audit_findings.proofs.FrameLaws.{few_shown}
+use Rattle.audit_findings.proofs.GivenLaws.{both_given, order_both}
+use Rattle.audit_findings.proofs.SequenceLaws.{frame_count}
 use Rattle.audit_findings.proofs.piece_summary.PieceSummarySummary.join.Goals as goal
 
-pub join-requires : goal.join-requires
-join-requires c =
+pub then-requires : goal.then-requires
+then-requires c =
     let first = shown_by c.requires.0 in
-    let second = shown_by c.requires.1 in (
-      first,
-      second,
-      c.requires.2,
-      c.requires.3,
-      few_frames (first ++ second) (subst AreGoodFrames (map-append placed_frame c.requires.0 c.requires.1) c.requires.4),
-    )
+    let second = shown_by c.requires.1 in
+    let count = frame_count c.args.self.sequences first c.requires.2.sequences in
+    let more = frame_count c.args.later.sequences second c.requires.3.sequences in
+    let long = length-append first second in
+    let short = (few_shown c.requires.0 c.requires.1 c.requires.4).0 in
+    omega (arith, count, more, long, short)
+
+pub join-order-requires : goal.join-order-requires
+join-order-requires c =
+    (map order_item (shown_by c.requires.0), map order_item (shown_by c.requires.1), c.requires.2.order, c.requires.3.order, λ key. tt)
+
+pub join-of_events-requires : goal.join-of_events-requires
+join-of_events-requires c =
+    let sums = c.requires.2 in
+    let others = c.requires.3 in
+    let both = both_given (shown_by c.requires.0) (shown_by c.requires.1) sums.given others.given sums.are_all others.are_all in
+    (sums.given, others.given, sums.sums, others.sums, subst AreFewEvents (sym both) (few_shown c.requires.0 c.requires.1 c.requires.4).1)
 
 pub returns : goal.returns
-returns c views others sums more good =
-    let both = map-append placed_frame views others in
-    subst (SumsLedgers c.in_ok-ledgers.ledgers) (sym both)
-    (c.in_ok-ledgers.ensures (shown_by views) (shown_by others) sums more (few_frames (shown_by views ++ shown_by others) (subst AreGoodFrames both good)))
+returns c views later sums others good =
+    let first = shown_by views in
+    let second = shown_by later in
+    let both = both_given first second sums.given others.given sums.are_all others.are_all in
+    subst (SumsPiece _) (sym (map-append placed_frame views later))
+    (record {
+      sequences = c.then.ensures first second sums.sequences others.sequences;
+      order = order_both _ first second
+          (c.in_ok-order.ensures (map order_item first) (map order_item second) sums.order others.order (λ key. tt));
+      given = sums.given ++ others.given;
+      are_all = both;
+      sums = c.in_ok-of_events.ensures sums.given others.given sums.sums others.sums
+          (subst AreFewEvents (sym both) (few_shown views later good).1);
+    })

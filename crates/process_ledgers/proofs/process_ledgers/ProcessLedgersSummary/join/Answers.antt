@@ -1,8 +1,7 @@
 use Rattle.std.proofs.Common.{◌++◌}
-use Rattle.pending_ledger.specs.Ledgers.{buffer_place}
 use Rattle.pending_ledger.specs.Pending.{place_of}
 use Rattle.pending_ledger.specs.Requests.{request_place}
-use Rattle.process_ledgers.specs.Items.{buffer_item_of, clear_item_of, death_item_of, handle_item_of, node_item_of, oneway_item_of, request_item_of}
+use Rattle.process_ledgers.specs.Items.{buffer_pending_of, clear_item_of, death_item_of, handle_item_of, node_item_of, oneway_item_of, request_item_of}
 use Rattle.process_ledgers.proofs.FitLaws.{few_by, placed_by}
 use Rattle.process_ledgers.proofs.ItemPlaces.{buffer_keeps, request_keeps, death_keeps, clear_keeps}
 use Rattle.process_ledgers.proofs.OnewayLaws.{by_derived, by_said}
@@ -15,7 +14,7 @@ pub join-nodes-requires : goal.join-nodes-requires
 join-nodes-requires c = (c.requires.0, c.requires.1, c.requires.2.nodes, c.requires.3.nodes, few_by node_item_of _ c.requires.4)
 
 pub join-buffers-requires : goal.join-buffers-requires
-join-buffers-requires c = (c.requires.0, c.requires.1, c.requires.2.buffers, c.requires.3.buffers, placed_by buffer_place buffer_item_of buffer_keeps _ c.requires.4)
+join-buffers-requires c = (c.requires.0, c.requires.1, c.requires.2.buffers, c.requires.3.buffers, placed_by place_of buffer_pending_of buffer_keeps _ c.requires.4)
 
 pub join-requests-requires : goal.join-requests-requires
 join-requests-requires c = (c.requires.0, c.requires.1, c.requires.2.requests, c.requires.3.requests, placed_by request_place request_item_of request_keeps _ c.requires.4)
@@ -41,7 +40,7 @@ returns c first second sums others fits =
     record {
       handles = c.in_ok-handles.ensures first second sums.handles others.handles (few_by handle_item_of all fits);
       nodes = c.in_ok-nodes.ensures first second sums.nodes others.nodes (few_by node_item_of all fits);
-      buffers = c.in_ok-buffers.ensures first second sums.buffers others.buffers (placed_by buffer_place buffer_item_of buffer_keeps all fits);
+      buffers = c.in_ok-buffers.ensures first second sums.buffers others.buffers (placed_by place_of buffer_pending_of buffer_keeps all fits);
       requests = c.in_ok-requests.ensures first second sums.requests others.requests (placed_by request_place request_item_of request_keeps all fits);
       deaths = c.in_ok-deaths.ensures first second sums.deaths others.deaths (placed_by place_of death_item_of death_keeps all fits);
       clears = c.in_ok-clears.ensures first second sums.clears others.clears (placed_by place_of clear_item_of clear_keeps all fits);

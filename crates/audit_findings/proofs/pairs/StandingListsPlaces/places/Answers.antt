@@ -5,7 +5,7 @@ use Rattle.process_ledgers.proofs.ItemPlaces.{request_keeps}
 use Rattle.process_ledgers.specs.Items.{request_item_of}
 use Rattle.process_ledgers.specs.Processes.{events_in, items_of_process}
 use Rattle.audit_findings.proofs.EventLists.{items_listed}
-use Rattle.audit_findings.proofs.requests.StandingListsPlaces.places.Goals as goal
+use Rattle.audit_findings.proofs.pairs.StandingListsPlaces.places.Goals as goal
 
 pub returns : goal.returns
 returns c =

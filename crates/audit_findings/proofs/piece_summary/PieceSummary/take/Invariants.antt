@@ -5,7 +5,7 @@ use Rattle.event_core.specs.Events.{events_of}
 use Rattle.event_core.specs.Reading.{event_text}
 use Rattle.audit_findings.specs.Ledgers.{AreFewEvents, SumsGiven}
 use Rattle.audit_findings.proofs.GivenLaws.{AreGiven}
-use Rattle.audit_findings.proofs.ledgers.FrameLedgers.take.Given as goal
+use Rattle.audit_findings.proofs.piece_summary.PieceSummary.take.Given as goal
 
 -- the reader has given these events, and the sums have them too; the sequences and the processes stay
 abbrev pub invariant-loop-event : goal.invariant-loop-event

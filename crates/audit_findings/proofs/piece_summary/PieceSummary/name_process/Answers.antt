@@ -14,7 +14,7 @@ use Rattle.audit_findings.specs.Ledgers.{SumsGiven}
 use Rattle.audit_findings.specs.declared.event_sums.EventSums.{EventSums}
 use Rattle.audit_findings.proofs.GivenLaws.{order_next}
 use Rattle.audit_findings.proofs.OrderLaws.{order_there}
-use Rattle.audit_findings.proofs.ledgers.FrameLedgers.name_process.Goals as goal
+use Rattle.audit_findings.proofs.piece_summary.PieceSummary.name_process.Goals as goal
 
 pub add-requires : goal.add-requires
 add-requires c = (map order_item c.requires.0, c.requires.1.order, λ key. tt)

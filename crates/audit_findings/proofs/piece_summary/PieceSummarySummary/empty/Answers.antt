@@ -1,5 +1,5 @@
 use Rattle.std.proofs.Common.{[], refl}
-use Rattle.audit_findings.proofs.ledgers.FrameLedgers.empty.Goals as goal
+use Rattle.audit_findings.proofs.piece_summary.PieceSummarySummary.empty.Goals as goal
 
 pub returns : goal.returns
 returns c = record { sequences = refl; order = c.empty.ensures; given = []; are_all = refl; sums = c.empty-2.ensures }

@@ -8,7 +8,7 @@ use Rattle.audit_findings.specs.Ledgers.{AreFewGiven, SumsFrames, SumsGiven}
 use Rattle.audit_findings.proofs.FrameLaws.{events_with}
 use Rattle.audit_findings.proofs.GivenLaws.{few_given, few_with, given_next}
 use Rattle.audit_findings.proofs.SequenceLaws.{frame_count}
-use Rattle.audit_findings.proofs.ledgers.FrameLedgers.take.Goals as goal
+use Rattle.audit_findings.proofs.piece_summary.PieceSummary.take.Goals as goal
 
 pub with-self-requires : goal.with-self-requires
 with-self-requires c =
