@@ -1,7 +1,7 @@
 use Rattle.std.proofs.Common.{◌≡◌, None, Some, IfSome, Option, slice_set, sym, ap, subst, ◌∙◌, rules}
 use Rattle.std.proofs.lemmas.Cmp.{eq_by_cmp_equiv}
 use Rattle.std.proofs.lemmas.Result.{on_ok_weaker}
-use Rattle.std.specs.BTreeMap.{BTreeMap, get}
+use Rattle.std.specs.BTreeMap.{get}
 use Rattle.std.specs.Ordering.{eq_by_cmp}
 use Rattle.summary_law.proofs.ByKeyLaws.{alone, together}
 use Rattle.summary_law.proofs.PlaceLaws.{entry_at, found_part, index_written, no_part, part_written}

@@ -1,7 +1,6 @@
-use Rattle.std.proofs.Common.{◌≡◌, ap, subst, sym, ◌∙◌, rules}
+use Rattle.std.proofs.Common.{ap, subst}
 use Rattle.std.specs.BTreeMap.{IsOrdered}
 use Rattle.summary_law.proofs.PlaceLaws.{places_of, parts_ordered}
-use Rattle.summary_law.specs.Places.{ArePlaces, parts_at}
 use Rattle.summary_law.proofs.by_key.RefByKeyIntoIterator.into_iter.Goals as goal
 
 pub invariant_of-result : goal.invariant_of-result
