@@ -9,7 +9,7 @@ use binder_code::Kind;
 use capture_frame::u64_at;
 
 /// A node of a process, `struct binder_ptr_cookie` of `linux/android/binder.h`.
-#[derive(Clone, Copy, Debug, PartialEq, Eq, PartialOrd, Ord)]
+#[derive(Clone, Copy, Debug, PartialEq, Eq, PartialOrd, Ord, Hash)]
 pub struct NodeKey {
     pub ptr: u64,
     pub cookie: u64,

@@ -11,7 +11,7 @@ use transaction_view::Transaction;
 const ONE_WAY: u32 = 0x01;
 
 /// What a oneway transaction is counted under: sent, with the handle that it goes to; or received.
-#[derive(Clone, Copy, Debug, PartialEq, Eq, PartialOrd, Ord)]
+#[derive(Clone, Copy, Debug, PartialEq, Eq, PartialOrd, Ord, Hash)]
 pub enum OnewayKey {
     Sent(u32),
     Received,

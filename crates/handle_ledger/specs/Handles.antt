@@ -46,7 +46,7 @@ pub record HandleCountsSum (counts : HandleCounts) (effects : List (Strength × 
 
 -- the ledger has the counts of each handle that an item names, and of no other
 abbrev pub HandleLedgerSums : HandleLedger → List HandleItem → Type 0
-HandleLedgerSums ledger items = SumsByKey nat_cmp HandleCountsSum ledger.handles.entries items
+HandleLedgerSums ledger items = SumsByKey nat_cmp HandleCountsSum ledger.handles items
 
 -- for whatever items the ledger sums, these are the rows
 abbrev pub GivesHandleRows : HandleLedger → List (ℕ × HandleCounts) → Type 0

@@ -84,7 +84,7 @@ pub record NodeCountsSum (counts : NodeCounts) (effects : List (Strength × Node
 
 -- the ledger has the counts of each node that an item names, and of no other
 abbrev pub NodeLedgerSums : NodeLedger → List NodeItem → Type 0
-NodeLedgerSums ledger items = SumsByKey node_cmp NodeCountsSum ledger.nodes.entries items
+NodeLedgerSums ledger items = SumsByKey node_cmp NodeCountsSum ledger.nodes items
 
 -- for whatever items the ledger sums, these are the rows
 abbrev pub GivesNodeRows : NodeLedger → List NodeRow → Type 0

@@ -21,7 +21,7 @@ impl HandleLedger {
         ensures { IfOk result (λ rows. GivesHandleRows self.now rows.items) }
     {
         let mut rows = Vec::new(self.handles.allocator());
-        for (handle, counts) in &self.handles.entries {
+        for (handle, counts) in &self.handles {
             rows.push((*handle, *counts))?;
         }
         Ok(rows)

@@ -45,11 +45,11 @@ impl HandleLedger {
     /// The handles that an item names.
     fn named(&self) -> Result<BTreeSet<u32>, AllocError>
         ensures named { IfOk result (λ handles. (handle : ℕ) → contains nat_cmp handles handle ≡
-            list_any (eq_by_cmp nat_cmp handle) (keys_of self.now.handles.entries.entries)) }
-        ensures ordered { IfOk result (λ handles. IsOrdered nat_cmp self.now.handles.entries) }
+            list_any (eq_by_cmp nat_cmp handle) (keys_of self.now.handles.entries)) }
+        ensures ordered { IfOk result (λ handles. IsOrdered nat_cmp self.now.handles) }
     {
         let mut handles = BTreeSet::new(self.handles.allocator());
-        for (handle, _) in &self.handles.entries {
+        for (handle, _) in &self.handles {
             handles.insert(*handle)?;
         }
         Ok(handles)
@@ -71,7 +71,7 @@ impl HandleLedger {
     fn taken(&self, handle: u32) -> HandleCounts
         ensures { GivesHandleCounts self.now handle result }
     {
-        match self.handles.entries.get(&handle) {
+        match self.handles.get(handle) {
             Some(counts) => *counts,
             None => HandleCounts::empty(self.handles.allocator()),
         }

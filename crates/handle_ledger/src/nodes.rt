@@ -24,7 +24,7 @@ impl NodeLedger {
         ensures { IfOk result (λ rows. GivesNodeRows self.now rows.items) }
     {
         let mut rows = Vec::new(self.nodes.allocator());
-        for (key, counts) in &self.nodes.entries {
+        for (key, counts) in &self.nodes {
             rows.push(NodeRow {
                 key: *key,
                 counts: *counts,

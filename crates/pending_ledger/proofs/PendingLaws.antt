@@ -60,15 +60,15 @@ opens_of ledger = ledger.opens.places
 abbrev pub strays_of : KeyLedger → List ℕ
 strays_of ledger = ledger.strays.places.items
 
-module _ {K : Type 0} (cmp : K → K → Ordering) (laws : IsTotalOrder cmp) (pending : Pending K) (ordered : IsOrdered cmp pending.keys.entries)
+module _ {K : Type 0} (cmp : K → K → Ordering) (laws : IsTotalOrder cmp) (pending : Pending K) (ordered : IsOrdered cmp pending.keys)
     (items : List (K × KeyEvent)) (sums : PendingSums cmp pending items) where
   -- what the ledger of each key lists, gathered and sorted, is what passes a test that sees only items of the same key
   of_keys : (test : List (K × KeyEvent) → K × KeyEvent → List (K × KeyEvent) → Bool) (lists : KeyLedger → List ℕ)
       → ((ledger : KeyLedger) (own : List (K × KeyEvent)) → KeySums ledger (map event_of own) → lists ledger ≡ places_if test own) → (places : List ℕ)
-      → IsPermutation (gather lists pending.keys.entries.entries) places → IsSorted nat_cmp places
+      → IsPermutation (gather lists pending.keys.entries) places → IsSorted nat_cmp places
       → places ≡ map place_of (read_all (by_key (eq_by_cmp cmp) key_of (chosen test)) items)
   of_keys test lists tells places moved sorted =
-      let m = pending.keys.entries in
+      let m = pending.keys in
       let item_of : K × KeyEvent → K × KeyEvent = λ item. item in
       let all = subst (SumsByKey cmp KeySums m) (sym (map-id items)) sums.0 in
       entries_sorted (eq_by_cmp_equiv laws) item_of (chosen test) place_of KeySums lists
@@ -80,14 +80,14 @@ module _ {K : Type 0} (cmp : K → K → Ordering) (laws : IsTotalOrder cmp) (pe
       places moved (IsNonDecreasingBy-from_sort (λ n. n) places sorted)
 
   -- the gathered opens, sorted
-  pub outstanding_sorted : (places : List ℕ) → IsPermutation (gather opens_of pending.keys.entries.entries) places → IsSorted nat_cmp places
+  pub outstanding_sorted : (places : List ℕ) → IsPermutation (gather opens_of pending.keys.entries) places → IsSorted nat_cmp places
       → places ≡ places_if (is_unclosed_item (eq_by_cmp cmp)) items
   outstanding_sorted places moved sorted =
       of_keys (is_last_open event_of) opens_of (λ ledger own holds. holds.0.places ∙ opens_read event_of [] own) places moved sorted
       ∙ ap (λ read. map place_of (read_all read items)) (sym (left_open_by_key (eq_by_cmp cmp)))
 
   -- the gathered strays, sorted
-  pub strays_sorted : (places : List ℕ) → IsPermutation (gather strays_of pending.keys.entries.entries) places → IsSorted nat_cmp places
+  pub strays_sorted : (places : List ℕ) → IsPermutation (gather strays_of pending.keys.entries) places → IsSorted nat_cmp places
       → places ≡ places_if (is_stray_item (eq_by_cmp cmp)) items
   strays_sorted places moved sorted =
       of_keys (is_unmet_close event_of) strays_of (λ ledger own holds. holds.1.places ∙ unmet_read event_of [] own) places moved sorted

@@ -261,10 +261,10 @@ handles_read items =
 
 -- the handles of an entry are in order
 abbrev pub HasOrder : ℕ × CookieRequests → Type 0
-HasOrder entry = IsOrdered nat_cmp entry.1.handles.entries
+HasOrder entry = IsOrdered nat_cmp entry.1.handles
 
 abbrev GoodCookie : CookieRequests → List RequestItem → Type 0
-GoodCookie requests items = CookieSums requests items × IsOrdered nat_cmp requests.handles.entries
+GoodCookie requests items = CookieSums requests items × IsOrdered nat_cmp requests.handles
 
 number_laws : IsEquivalence (eq_by_cmp nat_cmp)
 number_laws = eq_by_cmp_equiv nat_cmp_total
@@ -272,7 +272,7 @@ number_laws = eq_by_cmp_equiv nat_cmp_total
 cookie_tells : (requests : CookieRequests) (own : List RequestItem) → GoodCookie requests (map (λ (i : RequestItem). i) own)
     → IsPermutation (standing_places requests) (map request_place (read_all (chosen stands_in) own))
 cookie_tells requests own good =
-    let m = requests.handles.entries in
+    let m = requests.handles in
     let events = handle_events own in
     let pairs : map (λ (e : ℕ × KeyEvent). e) events ≡ events = map-id events in
     let handles : SumsByKey nat_cmp OpensSums m (map (λ (e : ℕ × KeyEvent). e) events)
@@ -286,11 +286,11 @@ cookie_tells requests own good =
     (map_none nat_cmp nat_cmp_total OpensSums m good.1 (map (λ (e : ℕ × KeyEvent). e) events) handles))
 
 -- the gathered requests, sorted
-pub standing_sorted : (requests : Requests) → IsOrdered nat_cmp requests.cookies.entries → All HasOrder requests.cookies.entries.entries
+pub standing_sorted : (requests : Requests) → IsOrdered nat_cmp requests.cookies → All HasOrder requests.cookies.entries
     → (items : List RequestItem) → RequestsSums requests items → (places : List ℕ)
-    → IsPermutation (gather standing_places requests.cookies.entries.entries) places → IsSorted nat_cmp places → places ≡ standing_request_places items
+    → IsPermutation (gather standing_places requests.cookies.entries) places → IsSorted nat_cmp places → places ≡ standing_request_places items
 standing_sorted requests ordered handles_ordered items sums places moved sorted =
-    let m = requests.cookies.entries in
+    let m = requests.cookies in
     let parts = map_each nat_cmp nat_cmp_total CookieSums m ordered (map by_cookie items) sums.0 in
     entries_sorted number_laws by_cookie (chosen stands_in) request_place GoodCookie standing_places cookie_tells items m.entries
     (IsDistinct-from_sorted nat_cmp (keys_of m.entries) ordered)

@@ -38,7 +38,7 @@ KeySums ledger events = OpensSums ledger.opens events × StraysSums ledger.stray
 
 -- the value has the ledger of the events of each key, and the places of the items rise
 abbrev pub PendingSums : {K : Type 0} → (K → K → Ordering) → Pending K → List (K × KeyEvent) → Type 0
-PendingSums cmp pending items = SumsByKey cmp KeySums pending.keys.entries items × IsPlaced place_of items
+PendingSums cmp pending items = SumsByKey cmp KeySums pending.keys items × IsPlaced place_of items
 
 -- for whatever items the value sums, these are the places of the outstanding opens
 abbrev pub GivesOutstanding : {K : Type 0} → (K → K → Ordering) → Pending K → List ℕ → Type 0
@@ -94,17 +94,17 @@ opens_list opens = opens.places
 
 -- the places of the standing requests of a cookie, handle after handle
 abbrev pub standing_places : CookieRequests → List ℕ
-standing_places requests = gather opens_list requests.handles.entries.entries
+standing_places requests = gather opens_list requests.handles.entries
 
 -- of the items of a cookie: whether there is a death, and what is kept of each handle's events after the last death
 pub record CookieSums (requests : CookieRequests) (items : List RequestItem) : Type 0 where
   pub dead : requests.dead ≡ list_any is_death items
-  pub handles : SumsByKey nat_cmp OpensSums requests.handles.entries (handle_events items)
+  pub handles : SumsByKey nat_cmp OpensSums requests.handles (handle_events items)
 
 -- the value has what is kept of the items of each cookie, and the places of the items rise
 abbrev pub RequestsSums : Requests → List RequestItem → Type 0
 RequestsSums requests items =
-    SumsByKey nat_cmp CookieSums requests.cookies.entries (map by_cookie items) × IsPlaced request_place items
+    SumsByKey nat_cmp CookieSums requests.cookies (map by_cookie items) × IsPlaced request_place items
 
 -- for whatever items the value sums, these are the places of the standing requests
 abbrev pub GivesStanding : Requests → List ℕ → Type 0

@@ -38,9 +38,9 @@ impl CookieRequests {
     pub fn push_standing(&self, places: &mut Vec<u64>) -> Result<(), AllocError>
         ensures items { OnOk result
             (places.new.items ≡ places.old.items ++ standing_places self.now) }
-        ensures ordered { IsOrdered nat_cmp self.now.handles.entries }
+        ensures ordered { IsOrdered nat_cmp self.now.handles }
     {
-        for (_handle, opens) in &self.handles.entries {
+        for (_handle, opens) in &self.handles {
             opens.places.push_to(places)?;
         }
         Ok(())

@@ -8,12 +8,13 @@ ghost use Rattle.summary_law.specs.Fits.{IsPlaced, placed_halves};
 use crate::key::KeyLedger;
 use event_core::KeyEvent;
 use std::alloc::{AllocError, Global};
+use std::hash::Hash;
 use summary_law::{ByKey, Summary};
 
 /// The outstanding opens and the stray closes in a list of opens and closes of keys. The caller
 /// feeds it items of one process only: no item names its process.
 #[derive(Drop)]
-pub struct Pending<K: Ord + Copy> {
+pub struct Pending<K: Ord + Copy + Hash> {
     keys: ByKey<K, KeyLedger>,
 }
 
@@ -26,13 +27,13 @@ pub type Deaths = Pending<u64>;
 /// Clears, by cookie: each is open until the driver confirms it.
 pub type Clears = Pending<u64>;
 
-impl<K: Ord + Copy> Pending<K> {
+impl<K: Ord + Copy + Hash> Pending<K> {
     /// The places of the outstanding opens, rising: no later close has their key.
     pub fn outstanding(&self) -> Result<Vec<u64>, AllocError>
         ensures { IfOk result (λ places. GivesOutstanding K.cmp self.now places.items) }
     {
         let mut places = Vec::new(self.keys.allocator());
-        for (_key, ledger) in &self.keys.entries {
+        for (_key, ledger) in &self.keys {
             ledger.opens.places.push_to(&mut places)?;
         }
         places.sort_unstable();
@@ -44,7 +45,7 @@ impl<K: Ord + Copy> Pending<K> {
         ensures { IfOk result (λ places. GivesStrays K.cmp self.now places.items) }
     {
         let mut places = Vec::new(self.keys.allocator());
-        for (_key, ledger) in &self.keys.entries {
+        for (_key, ledger) in &self.keys {
             places.extend_from_slice(ledger.strays.places.as_slice())?;
         }
         places.sort_unstable();
@@ -52,7 +53,7 @@ impl<K: Ord + Copy> Pending<K> {
     }
 }
 
-impl<K: Ord + Copy> Summary for Pending<K> {
+impl<K: Ord + Copy + Hash> Summary for Pending<K> {
     type Item = (K, KeyEvent);
 
     ghost fits = { IsPlaced place_of };

@@ -33,7 +33,7 @@ impl Requests {
         ensures { IfOk result (λ places. GivesStanding self.now places.items) }
     {
         let mut places = Vec::new(self.cookies.allocator());
-        for (_cookie, requests) in &self.cookies.entries {
+        for (_cookie, requests) in &self.cookies {
             requests.push_standing(&mut places)?;
         }
         places.sort_unstable();

@@ -2,6 +2,7 @@ pub mod Summary
 pub mod Count
 pub mod Fits
 pub mod ByKey
+pub mod Places
 pub mod Amount
 pub mod Tally
 pub mod InOrder

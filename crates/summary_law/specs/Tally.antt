@@ -46,7 +46,7 @@ pub record AreTallyRows {K : Type 0} (cmp : K → K → Ordering) (items : List 
 
 -- the tally has the number of items and the sum of the weights of each key that has items, and of no other key
 abbrev pub TallySums : {K : Type 0} → (K → K → Ordering) → Tally K → List (K × ℕ) → Type 0
-TallySums cmp tally items = SumsByKey cmp IsAmount tally.amounts.entries items
+TallySums cmp tally items = SumsByKey cmp IsAmount tally.amounts items
 
 -- for whatever items the tally sums, these are the rows
 abbrev pub GivesRows : {K : Type 0} → (K → K → Ordering) → Tally K → List (K × ℕ × ℕ) → Type 0

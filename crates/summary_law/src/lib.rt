@@ -6,6 +6,7 @@ mod amount;
 mod by_key;
 mod count;
 mod fed;
+mod guesses;
 mod in_order;
 pub mod laws;
 mod list;
@@ -15,7 +16,7 @@ mod summary;
 mod tally;
 
 pub use amount::Amount;
-pub use by_key::ByKey;
+pub use by_key::{ByKey, Parts};
 pub use count::Count;
 pub use fed::Fed;
 pub use in_order::InOrder;

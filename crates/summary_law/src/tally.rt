@@ -8,20 +8,21 @@ use crate::amount::Amount;
 use crate::by_key::ByKey;
 use crate::summary::Summary;
 use std::alloc::{AllocError, Global};
+use std::hash::Hash;
 
 /// The count and the sum of the weights of each key, over items that are a key and a weight.
 #[derive(Drop)]
-pub struct Tally<K: Ord + Copy> {
+pub struct Tally<K: Ord + Copy + Hash> {
     amounts: ByKey<K, Amount>,
 }
 
-impl<K: Ord + Copy> Tally<K> {
+impl<K: Ord + Copy + Hash> Tally<K> {
     /// Each key with its count and its sum, the keys rising.
     pub fn rows(&self) -> Result<Vec<(K, u64, u128)>, AllocError>
         ensures { IfOk result (λ rows. GivesRows K.cmp self.now rows.items) }
     {
         let mut rows = Vec::new(self.amounts.allocator());
-        for (key, amount) in &self.amounts.entries {
+        for (key, amount) in &self.amounts {
             rows.push((*key, amount.count, amount.sum))?;
         }
         Ok(rows)
@@ -31,14 +32,14 @@ impl<K: Ord + Copy> Tally<K> {
     pub fn amount(&self, key: K) -> Amount
         ensures { GivesAmount K.cmp self.now key result }
     {
-        match self.amounts.entries.get(&key) {
+        match self.amounts.get(key) {
             Some(amount) => *amount,
             None => Amount { count: 0, sum: 0 },
         }
     }
 }
 
-impl<K: Ord + Copy> Summary for Tally<K> {
+impl<K: Ord + Copy + Hash> Summary for Tally<K> {
     type Item = (K, u64);
 
     ghost fits = { IsShort };

@@ -8,7 +8,7 @@ use Rattle.handle_ledger.proofs.handles.HandleLedger.named.Goals as goal
 
 pub loop-handle-init : goal.loop-handle-init
 loop-handle-init c = λ q.
-    let whole : c.into_iter-handle-iterator.result ≡ c.args.self.now.handles.entries.entries = search rules in
+    let whole : c.into_iter-handle-iterator.result ≡ c.args.self.now.handles.entries = search rules in
     let none : c.new-handles.result.keys ≡ [] = c.new-handles.ensures.empty in
     rw (whole, none) refl
 
@@ -20,7 +20,7 @@ loop-handle-preserved c = λ q.
     ∙ c.loop-handle.invariant q
 
 pub returns-clause-ordered : goal.returns-clause-ordered
-returns-clause-ordered c = c.into_iter-handle-iterator.ensures.into_iter_gives.5
+returns-clause-ordered c = c.into_iter-handle-iterator.ensures.into_iter_gives.1
 
 pub returns-clause-named : goal.returns-clause-named
 returns-clause-named c = λ q.

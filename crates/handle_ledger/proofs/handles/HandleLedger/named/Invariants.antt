@@ -8,4 +8,4 @@ use Rattle.handle_ledger.proofs.handles.HandleLedger.named.Given as goal
 abbrev pub invariant-loop-handle : goal.invariant-loop-handle
 invariant-loop-handle l = (q : ℕ)
     → (contains nat_cmp l.handles q || list_any (eq_by_cmp nat_cmp q) (keys_of l.handle-iterator))
-    ≡ list_any (eq_by_cmp nat_cmp q) (keys_of l.self.handles.entries.entries)
+    ≡ list_any (eq_by_cmp nat_cmp q) (keys_of l.self.handles.entries)

@@ -22,6 +22,6 @@ returns c = λ items held mine theirs q.
     = take_all c.loop-row.row-index rows c.loop-row-test.false ∙ c.as_slice-row-items.ensures.value in
     c.loop-row.invariant q
     ∙ ap₂ ◌||◌
-    (c.in_ok-handles.ensures.named q ∙ named_entries c.args.self.now.handles.entries c.in_ok-handles.ensures.ordered items mine q)
+    (c.in_ok-handles.ensures.named q ∙ named_entries c.args.self.now.handles c.in_ok-handles.ensures.ordered items mine q)
     (ap (list_any (is_of q)) all ∙ held_handles held c.in_ok-rows.rows.items (c.in_ok-rows.ensures held theirs) q)
     ∙ sym (list_any-append (eq_by_cmp nat_cmp q) (keys_of items) (map (λ reference. reference.0.0) held))

@@ -7,8 +7,8 @@ use Rattle.handle_ledger.proofs.handles.HandleLedger.rows.Goals as goal
 
 pub returns : goal.returns
 returns c = λ items sums.
-    let entries = c.args.self.now.handles.entries in
-    let ordered : IsOrdered nat_cmp entries = c.into_iter-handle-iterator.ensures.into_iter_gives.5 in
+    let entries = c.args.self.now.handles in
+    let ordered : IsOrdered nat_cmp entries = c.into_iter-handle-iterator.ensures.into_iter_gives.1 in
     let rest : c.loop-handle.handle-iterator ≡ [] = search rules in
     sym (append-nil c.loop-handle.rows.items) ∙ sym (ap (λ es. c.loop-handle.rows.items ++ es) rest) ∙ c.loop-handle.invariant
     ∙ rows_are entries ordered items sums

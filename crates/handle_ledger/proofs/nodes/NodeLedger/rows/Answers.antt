@@ -8,8 +8,8 @@ use Rattle.handle_ledger.specs.Nodes.{node_cmp}
 
 pub returns : goal.returns
 returns c = λ items sums.
-    let entries = c.args.self.now.nodes.entries in
-    let ordered : IsOrdered node_cmp entries = c.into_iter-key-iterator.ensures.into_iter_gives.5 in
+    let entries = c.args.self.now.nodes in
+    let ordered : IsOrdered node_cmp entries = c.into_iter-key-iterator.ensures.into_iter_gives.1 in
     let rest : c.loop-key.key-iterator ≡ [] = search rules in
     let whole : c.loop-key.rows.items ≡ map entry_row entries.entries
     = sym (append-nil c.loop-key.rows.items) ∙ sym (ap (λ es. c.loop-key.rows.items ++ map entry_row es) rest) ∙ c.loop-key.invariant in

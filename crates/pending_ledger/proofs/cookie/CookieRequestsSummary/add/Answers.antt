@@ -34,7 +34,7 @@ returns-in-Some c =
     record {
       dead = sums.dead ∙ sym (or-false (list_any is_death items)) ∙ ap (λ b. list_any is_death items || b) (sym (is_alive item event is))
           ∙ sym (list_any-append is_death items (item ∷ []));
-      handles = subst (SumsByKey nat_cmp OpensSums c.add.new.self.entries) (sym added)
+      handles = subst (SumsByKey nat_cmp OpensSums c.add.new.self) (sym added)
           (adds (handle_events items) sums.handles (subst (EachFits eq IsShort) added (handles_short eq (items ++ item ∷ []) fits)));
     })
     c.add.ensures
@@ -45,5 +45,5 @@ returns-in-None c = λ items sums fits.
     let is : handle_event item ≡ None = search rules in
     record {
       dead = sym (or_right (list_any is_death items) (list_any is_death (item ∷ [])) (is_gone item is)) ∙ sym (list_any-append is_death items (item ∷ []));
-      handles = subst (SumsByKey nat_cmp OpensSums c.empty.result.entries) (sym (handle_events-gone items item is)) c.empty.ensures;
+      handles = subst (SumsByKey nat_cmp OpensSums c.empty.result) (sym (handle_events-gone items item is)) c.empty.ensures;
     }

@@ -16,7 +16,7 @@ returns-then-later c = λ first second mine theirs fits.
     let some : list_any is_death second ≡ true = sym theirs.dead ∙ dead in
     record {
       dead = dead ∙ sym (or_right (list_any is_death first) (list_any is_death second) some) ∙ sym (list_any-append is_death first second);
-      handles = subst (SumsByKey nat_cmp OpensSums c.args.later.handles.entries) (sym (handle_events-anew first second some)) theirs.handles;
+      handles = subst (SumsByKey nat_cmp OpensSums c.args.later.handles) (sym (handle_events-anew first second some)) theirs.handles;
     }
 
 pub join-requires : goal.join-requires
@@ -42,7 +42,7 @@ returns c = λ first second mine theirs fits.
     record {
       dead = mine.dead ∙ sym (or-false (list_any is_death first)) ∙ ap (λ b. list_any is_death first || b) (sym none)
           ∙ sym (list_any-append is_death first second);
-      handles = subst (SumsByKey nat_cmp OpensSums c.in_ok-handles.handles.entries) (sym both)
+      handles = subst (SumsByKey nat_cmp OpensSums c.in_ok-handles.handles) (sym both)
           (c.in_ok-handles.ensures (handle_events first) (handle_events second) mine.handles theirs.handles
           (subst (EachFits eq IsShort) both (handles_short eq (first ++ second) fits)));
     }

@@ -6,8 +6,8 @@ use Rattle.pending_ledger.proofs.pending.Pending.outstanding.Goals as goal
 
 pub returns : goal.returns
 returns g c = λ items sums.
-    let entries = c.args.self.now.keys.entries in
-    let ordered : IsOrdered g.K.Ord.cmp entries = c.into_iter-key-iterator.ensures.into_iter_gives.5 in
+    let entries = c.args.self.now.keys in
+    let ordered : IsOrdered g.K.Ord.cmp entries = c.into_iter-key-iterator.ensures.into_iter_gives.1 in
     let rest : c.loop-key._key-iterator ≡ [] = search rules in
     let whole : c.loop-key.places.items ≡ gather opens_of entries.entries
     = sym (append-nil c.loop-key.places.items) ∙ sym (ap (λ es. c.loop-key.places.items ++ gather opens_of es) rest) ∙ c.loop-key.invariant in

@@ -21,8 +21,8 @@ loop-cookie-preserved c =
 
 pub returns : goal.returns
 returns c = λ items sums.
-    let entries = c.args.self.now.cookies.entries in
-    let ordered : IsOrdered nat_cmp entries = c.into_iter-cookie-iterator.ensures.into_iter_gives.5 in
+    let entries = c.args.self.now.cookies in
+    let ordered : IsOrdered nat_cmp entries = c.into_iter-cookie-iterator.ensures.into_iter_gives.1 in
     let rest : c.loop-cookie._cookie-iterator ≡ [] = search rules in
     let each : All HasOrder entries.entries = c.loop-cookie.invariant.ordered (subst (All HasOrder) (sym rest) (All-nil HasOrder)) in
     let whole : c.loop-cookie.places.items ≡ gather standing_places entries.entries

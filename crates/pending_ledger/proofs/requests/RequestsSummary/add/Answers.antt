@@ -22,7 +22,7 @@ returns c =
     let eq = eq_by_cmp nat_cmp in
     on_ok_weaker c.add.result
     (λ adds items sums fits. (
-      subst (SumsByKey nat_cmp CookieSums c.add.new.self.entries) (sym (cookies_more items c.args.item))
+      subst (SumsByKey nat_cmp CookieSums c.add.new.self) (sym (cookies_more items c.args.item))
           (adds (map by_cookie items) sums.0
           (subst (EachFits eq IsShort) (cookies_more items c.args.item) (cookies_short eq (items ++ c.args.item ∷ []) fits))),
       fits,

@@ -21,7 +21,7 @@ join-requires c =
 pub returns : goal.returns
 returns c = λ first second mine theirs fits.
     let eq = eq_by_cmp nat_cmp in (
-      subst (SumsByKey nat_cmp CookieSums c.in_ok-cookies.cookies.entries) (sym (cookies_both first second))
+      subst (SumsByKey nat_cmp CookieSums c.in_ok-cookies.cookies) (sym (cookies_both first second))
           (c.in_ok-cookies.ensures (map by_cookie first) (map by_cookie second) mine.0 theirs.0
           (subst (EachFits eq IsShort) (cookies_both first second) (cookies_short eq (first ++ second) fits))),
       fits,

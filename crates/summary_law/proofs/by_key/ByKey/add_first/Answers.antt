@@ -1,5 +1,6 @@
 use Rattle.std.proofs.Common.{List, ◌∷◌, ◌++◌, ◌≡◌, [], Option, subst}
 use Rattle.std.proofs.lemmas.Cmp.{eq_by_cmp_equiv}
+use Rattle.std.proofs.lemmas.Result.{on_ok_weaker}
 use Rattle.std.specs.BTreeMap.{get}
 use Rattle.std.specs.HashMap.Eq.{lookup_congr}
 use Rattle.std.specs.Ordering.{eq_by_cmp}
@@ -27,10 +28,12 @@ returns g c =
     let cmp = g.K.Ord.cmp in
     let eq = eq_by_cmp cmp in
     let sums = g.S.Summary.sums in
-    added_part eq laws sums g.S.Summary.fits (get cmp c.args.self.now.entries) (get cmp c.insert.new.self)
-    (λ x y e. lookup_congr eq laws.congr c.args.self.now.entries.entries x y e)
-    c.args.key c.args.inner c.add.new.self
-    (λ q. c.in_ok-insert.ensures.updates.0 q)
+    on_ok_weaker c.insert.result
+    (λ puts.
+    added_part eq laws sums g.S.Summary.fits (get cmp c.args.self.now) (get cmp c.insert.new.self)
+    (λ x y e. lookup_congr eq laws.congr c.args.self.now.entries x y e)
+    c.args.key c.args.inner c.add.new.self puts
     (λ front part fits.
     let nil : front ≡ [] = subst (λ (o : Option _). IsOwn sums o front) c.requires.missing part in
-    rw nil (c.in_ok-add.ensures [] c.empty-part.ensures (rw nil at fits)))
+    rw nil (c.in_ok-add.ensures [] c.empty-part.ensures (rw nil at fits))))
+    c.insert.ensures

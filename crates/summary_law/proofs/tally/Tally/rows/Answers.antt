@@ -7,8 +7,8 @@ use Rattle.summary_law.proofs.tally.Tally.rows.Goals as goal
 
 pub returns : goal.returns
 returns g c = λ items sums.
-    let entries = c.args.self.now.amounts.entries in
-    let ordered : IsOrdered g.K.Ord.cmp entries = c.into_iter-key-iterator.ensures.into_iter_gives.5 in
+    let entries = c.args.self.now.amounts in
+    let ordered : IsOrdered g.K.Ord.cmp entries = c.into_iter-key-iterator.ensures.into_iter_gives.1 in
     let rest : c.loop-key.key-iterator ≡ [] = search rules in
     let whole : c.loop-key.rows.items ≡ map row_of entries.entries
     = sym (append-nil c.loop-key.rows.items) ∙ sym (ap (λ es. c.loop-key.rows.items ++ map row_of es) rest) ∙ c.loop-key.invariant in
