@@ -351,9 +351,12 @@ class Scenario:
             self.how = "before"
         self.books = books_of.texts(folder) if (folder / "state").exists() else None
 
-    def is_in_rust(self):
-        """Whether its driver is the one in Rust, by the words of the books."""
-        return self.books is not None and "need_return false" in self.books["state"]
+    @property
+    def driver(self):
+        """The language of the driver, by the words of its books; None without books."""
+        if self.books is None:
+            return None
+        return "Rust" if "need_return false" in self.books["state"] else "C"
 
     def differences(self, texts=None):
         """The differences, and the sections that were looked at."""
@@ -446,12 +449,7 @@ WRONG_IN_RUST = {
     "deaths": ("state", r"(  has )(delivered dead binder)"),
     "clears": ("state", r"(  has )(cleared death notification)"),
 }
-
-
-def wrong_of(scenarios):
-    """Where the books of a guest can be made wrong, by its driver."""
-    in_rust = all(scenario.is_in_rust() for scenario in scenarios if scenario.books)
-    return WRONG_IN_RUST if in_rust else WRONG_IN_C
+WRONG = {"C": WRONG_IN_C, "Rust": WRONG_IN_RUST}	# where the books of each driver can be made wrong
 
 
 def wrong(text, section, where):
@@ -475,19 +473,22 @@ def wrong(text, section, where):
 
 
 def unfound(scenarios):
-    """For each section: in how many scenarios its books were made wrong, and in how many that was found."""
-    for section, where in wrong_of(scenarios).items():
-        tried = found = 0
-        for scenario in scenarios:
-            if tried == 3 or not scenario.report or not scenario.books or scenario.how in PARTIAL:
-                continue
-            texts = wrong(scenario.books, section, where)
-            if texts is None:
-                continue
-            right = scenario.differences()[0]
-            tried += 1
-            found += any(item[0] == section and item not in right for item in scenario.differences(texts)[0])
-        yield section, tried, found
+    """For each driver that has books here, and each section: in how many scenarios its books were made wrong, and in how
+    many that was found."""
+    for driver, sections in WRONG.items():
+        here = [scenario for scenario in scenarios if scenario.driver == driver]
+        for section, where in sections.items() if here else ():
+            tried = found = 0
+            for scenario in here:
+                if tried == 3 or not scenario.report or scenario.how in PARTIAL:
+                    continue
+                texts = wrong(scenario.books, section, where)
+                if texts is None:
+                    continue
+                right = scenario.differences()[0]
+                tried += 1
+                found += any(item[0] == section and item not in right for item in scenario.differences(texts)[0])
+            yield driver, section, tried, found
 
 
 # ---- the table
@@ -516,7 +517,10 @@ def main(auditor, folder, whole=""):
     words = (folder / "words").read_text().strip() if (folder / "words").exists() else ""
     print(f"kernel {kernel}{words and ', ' + words}, {len(scenarios)} captures")
     print(f"{'section':20}{'agree':>8}{'explained':>11}{'not':>6}{'wrong books found':>20}")
-    changes = {section: f"{found} of {tried}" for section, tried, found in unfound(scenarios)}
+    wrong_books = defaultdict(Counter)
+    for _, section, tried, found in unfound(scenarios):
+        wrong_books[section].update(tried=tried, found=found)
+    changes = {section: f"{counts['found']} of {counts['tried']}" for section, counts in wrong_books.items()}
     for section in sorted(set(table) | set(changes)):
         counts = table[section]
         print(f"{section:20}{counts['agree']:8}{counts['explained']:11}{counts['unexplained']:6}"

@@ -38,10 +38,10 @@ def judge(given, _, fail):
     reasons = explained()
     for scenario in scenarios:
         for fault in faults_of(scenario, reasons):
-            fail(f"{scenario.name}: {fault}")
-    for section, tried, found in unfound(scenarios):
+            fail(f"{scenario.folder.name}: {fault}")
+    for driver, section, tried, found in unfound(scenarios):
         if not tried or tried != found:
-            fail(f"wrong books of {section}: tried {tried}, found {found}")
+            fail(f"wrong books of the driver in {driver}, {section}: tried {tried}, found {found}")
 
 
 if __name__ == "__main__":
