@@ -1,2 +1,4 @@
+pub mod Content
+pub mod Frames
 pub mod Interface
 pub mod Service

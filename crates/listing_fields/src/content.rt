@@ -3,6 +3,7 @@
 ghost use Rattle.std.specs.Prelude.{◌≡◌, None, OnOk};
 ghost use Rattle.capture_frame.specs.Envelope.{placed_frame};
 ghost use Rattle.record_view.specs.Records.{records_of};
+ghost use Rattle.listing_fields.specs.Content.{records_left};
 
 use capture_frame::{Fault, Frame};
 use record_view::{Record, Records};
@@ -28,7 +29,9 @@ pub struct Content<'c> {
 
 impl<'c> Content<'c> {
     /// A reader of what the frame holds.
-    pub fn of(frame: Frame<'c>) -> Content<'c> {
+    pub fn of(frame: Frame<'c>) -> Content<'c>
+        ensures { records_left result ≡ (records_of (placed_frame frame.entry)).units }
+    {
         let mut entries = entries_of(frame);
         let ahead = next_of(&mut entries);
         Content {
@@ -40,12 +43,14 @@ impl<'c> Content<'c> {
 }
 
 impl<'c> Iterator for Content<'c> {
-    ghost use Rattle.std.specs.Iterator.{at_most};
-    ghost use Rattle.std.specs.Prelude.{length};
+    ghost use Rattle.std.specs.Iterator.{YieldsFirstBy, item_count};
+    ghost use Rattle.listing_fields.specs.Content.{record_of_item};
 
     type Item = Item<'c>;
 
-    ghost remaining = { λ s. at_most (length s.records.units) };
+    ghost next_gives = { YieldsFirstBy record_of_item records_left };
+
+    ghost remaining = { item_count records_left };
 
     fn next(&mut self) -> Option<Item<'c>> {
         match self.records.next_record() {

@@ -1,5 +1,9 @@
 //! What a frame and a record say: the thread, the number of the direction, `TF_ONE_WAY`.
 
+ghost use Rattle.std.specs.Prelude.{◌≡◌};
+ghost use Rattle.capture_frame.specs.Envelope.{placed_frame};
+ghost use Rattle.listing_fields.specs.Frames.{thread_of};
+
 use binder_code::{Kind, TransactionFlags};
 use bitflags::Flags;
 use capture_frame::{Direction, Frame, Thread};
@@ -7,7 +11,9 @@ use record_view::Record;
 use transaction_view::Transaction;
 
 /// The thread that made a frame's call.
-pub fn thread_of(frame: Frame<'_>) -> Thread {
+pub fn thread_of(frame: Frame<'_>) -> Thread
+    ensures { result ≡ thread_of (placed_frame frame.entry) }
+{
     Thread {
         process: frame.of_process(),
         number: frame.thread,

@@ -10,7 +10,7 @@ use crate::output::Output;
 use crate::side::Side;
 use crate::whole::{write_objects, write_whole};
 use audit_streams::{read_capture, write_text};
-use capture_frame::{FILE_HEADER, Fault, Frame, Frames};
+use capture_frame::{FILE_HEADER, Fault, Frame, Frames, PartFault};
 use listing_fields::{Content, Item, ListingError, Stopped};
 use std::alloc::{AllocError, Global};
 use std::io::{Read, Write};
@@ -163,9 +163,9 @@ fn list_all<S: Read + Drop, R: Read + Drop, W: Write>(
     let count = readers.len() as u64;
     let mut base = 0u64;
     let mut before = None;
-    let mut number = 0u64;
+    let mut number = 0u32;
     for mut reader in readers {
-        number = number.saturating_add(1);
+        number = number.checked_add(1).ok_or(ListingError::TooLarge)?;
         if base > LIMIT {
             return Err(ListingError::TooLarge);
         }
@@ -175,7 +175,8 @@ fn list_all<S: Read + Drop, R: Read + Drop, W: Write>(
             Err(Stopped::Found) => return Ok(Ended::Listed),
             Err(Stopped::Failed(error)) => return Err(error),
             Err(Stopped::Malformed(fault)) => {
-                push_fault(&mut output.text, fault, number, count)?;
+                let part = number;
+                push_fault(&mut output.text, PartFault { part, fault }, count)?;
                 return Ok(Ended::Malformed);
             }
         }
@@ -188,15 +189,15 @@ fn list_all<S: Read + Drop, R: Read + Drop, W: Write>(
 /// line has the number of the part.
 pub(crate) fn push_fault(
     text: &mut String,
-    fault: Fault,
-    part: u64,
+    found: PartFault,
     parts: u64,
 ) -> Result<(), AllocError> {
+    let PartFault { part, fault } = found;
     let kind = fault.kind;
     write!(text, "malformed {kind:?}")?;
     push_counted(text, " at ", fault.place)?;
     if parts > 1 {
-        push_counted(text, " in part ", part)?;
+        push_counted(text, " in part ", u64::from(part))?;
     }
     text.push_str("\n")
 }

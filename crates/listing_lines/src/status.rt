@@ -1,12 +1,16 @@
 //! From the words of a command line to two streams and a status.
 
+ghost use Rattle.std.specs.Prelude.{◌≡◌, ◌<◌, ◌^◌, length, map, vec_len, IfOk};
+ghost use Rattle.std.specs.List.{sum_by};
+ghost use Rattle.listing_tables.specs.Walk.{HasNoSteps};
+
 use crate::command_line::{AskedTables, WordsError, asked_of, files_of, matches_of, tables_of};
 use crate::help::HELP;
 use crate::parts::{FILE_LIMIT, list_parts, push_fault};
 use audit_streams::{read_parts, write_text};
 use clap::ArgMatches;
-use listing_fields::{ListingError, write_error};
-use listing_tables::{Ending, NAMES, Name, Tables, walk_capture};
+use listing_fields::{ListingError, Outcome, write_error};
+use listing_tables::{Ending, NAMES, Name, RowWriter, Streams, Tables, walk_capture};
 use std::alloc::{AllocError, Global};
 use std::env::Args;
 use std::fs::Files;
@@ -86,9 +90,10 @@ fn answer_tables<T: Files, W: Write, E: Write>(
 ) -> Result<u8, ListingError> {
     let readers = open_files(rt, alloc, files)?;
     let parts = read_parts(alloc, readers, FILE_LIMIT)?;
+    let slices = slices_of(alloc, parts.as_slice())?;
     // They are dropped here only: the drop is long to prove, and would be proved at each `?`.
     let mut tables = Tables::new(alloc);
-    let ended = write_asked(rt, alloc, asked, parts.as_slice(), &mut tables, out);
+    let ended = write_asked(rt, alloc, asked, slices.as_slice(), &mut tables, out);
     drop(tables);
     let ending = ended?;
     match asked {
@@ -97,15 +102,35 @@ fn answer_tables<T: Files, W: Write, E: Write>(
     }
 }
 
+/// The slices of the parts.
+fn slices_of<'p>(alloc: Global, parts: &'p [Vec<u8>]) -> Result<Vec<&'p [u8]>, ListingError>
+    ensures few { IfOk result (λ slices. vec_len slices < 2 ^ 32) }
+    ensures same { IfOk result (λ slices.
+        map (λ slice. slice.now) slices.items ≡ map (λ part. part.items) parts.now) }
+{
+    if parts.len() > u32::MAX as usize {
+        return Err(ListingError::TooLarge);
+    }
+    let mut slices = Vec::new(alloc);
+    for part in parts {
+        slices.push(part.as_slice())?;
+    }
+    Ok(slices)
+}
+
 /// Writes one table to the output, or all to their files.
 fn write_asked<T: Files, W: Write>(
     rt: &T,
     alloc: Global,
     asked: AskedTables<'_>,
-    parts: &[Vec<u8>],
+    parts: &[&[u8]],
     tables: &mut Tables,
     out: &mut W,
-) -> Result<Ending, ListingError> {
+) -> Result<Ending, ListingError>
+    requires few { length parts.now < 2 ^ 32 }
+    requires fits { sum_by length (map (λ part. part.now) parts.now) < 2 ^ 64 }
+    requires nothing { HasNoSteps tables.old }
+{
     match asked {
         AskedTables::One(name) => write_one(alloc, name, parts, tables, out),
         AskedTables::All(folder) => write_all(rt, alloc, folder, parts, tables),
@@ -117,18 +142,43 @@ fn write_asked<T: Files, W: Write>(
 fn write_one<W: Write>(
     alloc: Global,
     name: Name,
-    parts: &[Vec<u8>],
+    parts: &[&[u8]],
     tables: &mut Tables,
     out: &mut W,
-) -> Result<Ending, ListingError> {
-    let (mut one, mut other, mut third) = (sink(), sink(), sink());
+) -> Result<Ending, ListingError>
+    requires few { length parts.now < 2 ^ 32 }
+    requires fits { sum_by length (map (λ part. part.now) parts.now) < 2 ^ 64 }
+    requires nothing { HasNoSteps tables.old }
+{
     match name {
-        Name::Frame => walk_capture(alloc, parts, tables, out, &mut one, &mut other),
-        Name::Record => walk_capture(alloc, parts, tables, &mut one, out, &mut other),
-        Name::Object => walk_capture(alloc, parts, tables, &mut one, &mut other, out),
+        Name::Frame => walk_to(
+            alloc,
+            parts,
+            tables,
+            Streams::new(alloc, out, sink(), sink(), sink()),
+        ),
+        Name::Record => walk_to(
+            alloc,
+            parts,
+            tables,
+            Streams::new(alloc, sink(), out, sink(), sink()),
+        ),
+        Name::Object => walk_to(
+            alloc,
+            parts,
+            tables,
+            Streams::new(alloc, sink(), sink(), out, sink()),
+        ),
+        Name::Call => walk_to(
+            alloc,
+            parts,
+            tables,
+            Streams::new(alloc, sink(), sink(), sink(), out),
+        ),
         _ => {
-            let ending = walk_capture(alloc, parts, tables, &mut one, &mut other, &mut third)?;
-            tables.write(alloc, name, ending, out)?;
+            let nowhere = Streams::new(alloc, sink(), sink(), sink(), sink());
+            let ending = walk_to(alloc, parts, tables, nowhere)?;
+            write_table(tables, name, ending, RowWriter::new(alloc, out))?;
             Ok(ending)
         }
     }
@@ -139,27 +189,56 @@ fn write_all<T: Files>(
     rt: &T,
     alloc: Global,
     folder: &str,
-    parts: &[Vec<u8>],
+    parts: &[&[u8]],
     tables: &mut Tables,
-) -> Result<Ending, ListingError> {
-    let mut frames = create(rt, alloc, folder, "frame")?;
-    let mut records = create(rt, alloc, folder, "record")?;
-    let mut objects = create(rt, alloc, folder, "object")?;
-    let ending = walk_capture(
-        alloc,
-        parts,
-        tables,
-        &mut frames,
-        &mut records,
-        &mut objects,
-    )?;
+) -> Result<Ending, ListingError>
+    requires few { length parts.now < 2 ^ 32 }
+    requires fits { sum_by length (map (λ part. part.now) parts.now) < 2 ^ 64 }
+    requires nothing { HasNoSteps tables.old }
+{
+    let frames = create(rt, alloc, folder, "frame")?;
+    let records = create(rt, alloc, folder, "record")?;
+    let objects = create(rt, alloc, folder, "object")?;
+    let calls = create(rt, alloc, folder, "call")?;
+    let streams = Streams::new(alloc, frames, records, objects, calls);
+    let ending = walk_to(alloc, parts, tables, streams)?;
     for (word, name) in NAMES {
         if !name.is_streamed() {
-            let mut file = create(rt, alloc, folder, word)?;
-            tables.write(alloc, name, ending, &mut file)?;
+            let file = create(rt, alloc, folder, word)?;
+            write_table(tables, name, ending, RowWriter::new(alloc, file))?;
         }
     }
     Ok(ending)
+}
+
+/// Walks through the capture, and writes what is written while the walk goes on.
+fn walk_to<F: Write + Drop, R: Write + Drop, O: Write + Drop, C: Write + Drop>(
+    alloc: Global,
+    parts: &[&[u8]],
+    tables: &mut Tables,
+    streams: Streams<F, R, O, C>,
+) -> Result<Ending, ListingError>
+    requires few { length parts.now < 2 ^ 32 }
+    requires fits { sum_by length (map (λ part. part.now) parts.now) < 2 ^ 64 }
+    requires nothing { HasNoSteps tables.old }
+{
+    let mut streams = streams;
+    let ending = walk_capture(alloc, parts, tables, &mut streams)?;
+    streams.finish()?;
+    Ok(ending)
+}
+
+/// Writes a table of the capture that was walked through.
+fn write_table<W: Write + Drop>(
+    tables: &mut Tables,
+    name: Name,
+    ending: Ending,
+    rows: RowWriter<W>,
+) -> Outcome {
+    let mut rows = rows;
+    tables.write(name, ending, &mut rows)?;
+    rows.finish()?;
+    Ok(())
 }
 
 /// Creates the file of a table in a folder.
@@ -183,11 +262,11 @@ fn path_of(alloc: Global, folder: &str, name: &str) -> Result<String, AllocError
 
 /// Writes the line of the capture's fault, if it has one, and returns the status.
 fn tell_ending<W: Write>(alloc: Global, ending: Ending, out: &mut W) -> Result<u8, ListingError> {
-    let Some((fault, part)) = ending.fault else {
+    let Some(found) = ending.fault else {
         return Ok(0);
     };
     let mut text = String::new(alloc);
-    push_fault(&mut text, fault, part, ending.parts)?;
+    push_fault(&mut text, found, ending.parts)?;
     write_text(out, text.as_bytes())?;
     Ok(2)
 }

@@ -5,4 +5,7 @@ mod InLaws
 mod JudgingLaws
 mod LeakLaws
 mod ReplyLaws
+mod RowLaws
+mod StepLaws
 mod WaitingLaws
+mod WalkLaws

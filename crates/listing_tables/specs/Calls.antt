@@ -1,8 +1,7 @@
 -- The calls of the raw table call, by the definitions of call_stacks.
 use Rattle.std.specs.Prelude.{◌≡◌, ℕ, Bool, Option, Some, None, List, map, slice_get}
-use Rattle.std.specs.List.{filter_map, flat_map}
+use Rattle.std.specs.List.{filter_map}
 use Rattle.std.specs.Option.{option_map}
-use Rattle.std.specs.declared.vec.Vec.{Vec}
 use Rattle.call_stacks.specs.Calls.{Reads, bracket_read, bracketed_of, openers_of, refused_of, strays_in}
 use Rattle.call_stacks.specs.Matching.{is_closer}
 use Rattle.call_stacks.specs.Verdicts.{side_of}
@@ -60,10 +59,6 @@ strays_of steps = strays_in (bracketed_of step_reads steps)
 -- the error replies of such a thread that report a refused send
 abbrev pub refusals_of : List CallStep → List CallStep
 refusals_of steps = map (λ sent. sent.event) (refused_of (bracketed_of step_reads steps))
-
--- the calls of all threads, thread by thread; of each thread these records leave a mark
-abbrev pub rows_of_all : {A : Type 0} → List (Vec CallStep A) → List CallRow
-rows_of_all threads = flat_map (λ steps. rows_of steps.items) threads
 
 -- the place of a call of the table
 abbrev pub call_place : Call → ℕ

@@ -1,14 +1,17 @@
 //! The calls of each thread, from their openers to their closers.
 
 ghost use Rattle.std.specs.Bool.{OnTrue};
+ghost use Rattle.std.specs.Map.{values_of};
 ghost use Rattle.std.specs.List.Sorted.{IsPermutation, IsNonDecreasingBy};
 ghost use Rattle.std.specs.Prelude.{◌≡◌, ◌++◌, map, true, IfOk, OnOk};
 ghost use Rattle.summary_law.specs.Fits.{IsPlaced};
 ghost use Rattle.call_stacks.specs.Calls.{AreFindings};
-ghost use Rattle.listing_tables.specs.Calls.{step_place, step_reads, call_place, rows_of_all};
+ghost use Rattle.listing_tables.specs.Calls.{step_place, step_reads, call_place};
 ghost use Rattle.listing_tables.specs.Calls.{row_of_call, row_of_opener, rows_of, verdict_number};
+ghost use Rattle.listing_tables.specs.Steps.{rows_of_lists};
 
 use crate::numbered::{Numbered, narrow};
+use crate::steps::Steps;
 use binder_code::Kind;
 use call_stacks::{CallFindings, CallRecord, Calls, Opener, Verdict};
 use event_core::Bracket;
@@ -115,17 +118,15 @@ fn is_placed(steps: &[CallStep]) -> bool
 
 /// The calls of all threads, in the order of their places. Of each thread these are the records that
 /// leave a mark.
-pub(crate) fn all_calls(
-    alloc: Global,
-    threads: &[Vec<CallStep>],
-) -> Result<Numbered<Call>, ListingError>
+pub(crate) fn all_calls(alloc: Global, threads: &Steps) -> Result<Numbered<Call>, ListingError>
     ensures moved { IfOk result (λ calls.
-        IsPermutation (rows_of_all threads.now) (map row_of_call calls.all.items)) }
+        IsPermutation (rows_of_lists (values_of threads.now.entries.entries))
+        (map row_of_call calls.all.items)) }
     ensures sorted { IfOk result (λ calls. IsNonDecreasingBy call_place calls.all.items) }
 {
     let mut calls = Numbered::new(alloc);
-    for steps in threads {
-        take_calls(alloc, &mut calls, steps.as_slice())?;
+    for at in 0..threads.entries.len() {
+        take_calls(alloc, &mut calls, threads.entries[at].list.as_slice())?;
     }
     calls.all.sort_unstable_by_key(|call| call.place);
     Ok(calls)

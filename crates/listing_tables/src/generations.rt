@@ -304,7 +304,7 @@ impl Generations {
     }
 
     /// Writes the rows of the table generation.
-    pub(crate) fn write<W: Write>(&self, rows: &mut RowWriter<'_, W>) -> Outcome {
+    pub(crate) fn write<W: Write + Drop>(&self, rows: &mut RowWriter<W>) -> Outcome {
         let mut number = 0u64;
         for generation in &self.list.all {
             number = number.saturating_add(1);

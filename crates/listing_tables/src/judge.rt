@@ -1,11 +1,17 @@
 //! How far a capture goes: up to its end, or up to its first fault.
 
+ghost use Rattle.std.specs.Prelude.{◌≡◌, ◌<◌, ◌≤◌, ◌^◌, length, map, take, IfOk};
+ghost use Rattle.std.specs.List.{sum_by};
+ghost use Rattle.listing_tables.specs.Walk.{counted_frames, up_to_fault};
+
+use crate::numbered::sum;
 use crate::rows::{Column, RowWriter, columns};
 use crate::spans::number_at;
-use capture_frame::{FILE_HEADER, Fault, FaultKind, Frames};
-use listing_fields::Outcome;
+use capture_frame::{FILE_HEADER, FaultKind, FrameList, FrameSlice, PartCut, PartFault, cut_parts};
+use listing_fields::{ListingError, Outcome};
+use std::alloc::Global;
 use std::io::Write;
-use transaction_view::check_frame;
+use transaction_view::{check_frame, first_fault_parts};
 
 /// The layout of the tables.
 const LAYOUT: u64 = 5;
@@ -17,94 +23,122 @@ pub struct Ending {
     pub parts: u64,
     /// The length of the joined capture, or the place of its first fault in it.
     pub bytes: u64,
-    /// The first fault, and the number of its file.
-    pub fault: Option<(Fault, u64)>,
+    /// The first fault.
+    pub fault: Option<PartFault>,
     /// How many frames have a good header, up to the one with the fault.
-    pub(crate) frames: u64,
+    pub(crate) count: usize,
     /// The sequences of the first and of the last of them.
     pub(crate) span: Option<(u64, u64)>,
 }
 
+/// The frames of the parts with good headers, and how far the capture goes.
+pub(crate) fn frames_of<'c>(
+    alloc: Global,
+    parts: &[&'c [u8]],
+) -> Result<(FrameList<'c>, Ending), ListingError>
+    requires few { length parts.now < 2 ^ 32 }
+    requires fits { sum_by length (map (λ part. part.now) parts.now) < 2 ^ 64 }
+    ensures few { IfOk result (λ found. found.1.count ≤ length found.0) }
+    ensures counted { IfOk result (λ found. take found.1.count found.0
+        ≡ counted_frames (map (λ part. part.now) parts.now)) }
+{
+    match cut_parts(alloc, parts) {
+        Ok(frames) => judged(frames, parts),
+        Err(PartCut::Memory) => Err(ListingError::Memory),
+        Err(PartCut::Bad { found: _, before }) => judged(before, parts),
+    }
+}
+
+/// The frames, and how far the capture goes in whose parts they are.
+fn judged<'c>(
+    frames: FrameList<'c>,
+    parts: &[&[u8]],
+) -> Result<(FrameList<'c>, Ending), ListingError>
+    requires { length parts.now < 2 ^ 32 }
+    ensures same { IfOk result (λ found. found.0 ≡ frames.entry) }
+    ensures few { IfOk result (λ found. found.1.count ≤ length frames.entry) }
+    ensures counted { IfOk result (λ found.
+        take found.1.count frames.entry ≡ up_to_fault frames.entry) }
+{
+    let count = count_up_to_fault(&frames.as_slice());
+    let fault = first_fault_parts(parts);
+    let ending = Ending {
+        parts: parts.len() as u64,
+        bytes: bytes_up_to(parts, fault)?,
+        fault,
+        count,
+        span: span_of(&frames.as_slice(), count),
+    };
+    Ok((frames, ending))
+}
+
+/// How many frames there are up to the first one whose content has a fault, with that one.
+fn count_up_to_fault(frames: &FrameSlice<'_, '_>) -> usize
+    ensures few { result ≤ length frames.now }
+    ensures counted { take result frames.now ≡ up_to_fault frames.now }
+{
+    for number in 0..frames.len() {
+        if check_frame(frames.get(number)).is_some() {
+            return number + 1;
+        }
+    }
+    frames.len()
+}
+
+/// The sequences of the first and of the last of the first `count` frames.
+fn span_of(frames: &FrameSlice<'_, '_>, count: usize) -> Option<(u64, u64)>
+    requires { count ≤ length frames.now }
+{
+    if count == 0 {
+        return None;
+    }
+    let first = frames.get(0);
+    let last = frames.get(count - 1);
+    Some((first.sequence, last.sequence))
+}
+
+/// The length of the joined capture, or the place in it of this fault.
+fn bytes_up_to(parts: &[&[u8]], fault: Option<PartFault>) -> Result<u64, ListingError> {
+    let mut bytes = 0u64;
+    for at in 0..parts.len() {
+        if let Some(found) = fault
+            && found.part as usize == at + 1
+        {
+            return sum(bytes, found.fault.place);
+        }
+        bytes = sum(bytes, parts[at].len().saturating_sub(FILE_HEADER) as u64)?;
+    }
+    sum(bytes, FILE_HEADER as u64)
+}
+
 impl Ending {
-    /// How far the capture in these parts goes.
-    pub(crate) fn of(parts: &[Vec<u8>]) -> Ending {
-        let mut ending = Ending {
-            parts: parts.len() as u64,
-            bytes: 0,
-            fault: None,
-            frames: 0,
-            span: None,
-        };
-        let mut number = 0u64;
-        for part in parts {
-            number = number.saturating_add(1);
-            if let Err(fault) = ending.judge(part.as_slice()) {
-                ending.bytes = ending.bytes.saturating_add(fault.place);
-                ending.fault = Some((fault, number));
-                return ending;
-            }
-            ending.bytes = ending.bytes.saturating_add(after_header(part.as_slice()));
-        }
-        ending.bytes = ending.bytes.saturating_add(FILE_HEADER as u64);
-        ending
-    }
-
-    /// Goes through a part. The place of a fault is the one in the part.
-    fn judge(&mut self, part: &[u8]) -> Result<(), Fault> {
-        let before = match self.span {
-            Some((_, last)) => Some(last),
-            None => None,
-        };
-        let mut frames = Frames::after(part, 0, before)?;
-        while let Some(frame) = frames.next_frame()? {
-            self.count(frame.sequence);
-            if let Some(fault) = check_frame(frame) {
-                return Err(fault);
-            }
-        }
-        Ok(())
-    }
-
-    fn count(&mut self, sequence: u64) {
-        self.frames = self.frames.saturating_add(1);
-        self.span = match self.span {
-            Some((first, _)) => Some((first, sequence)),
-            None => Some((sequence, sequence)),
-        };
-    }
-
     /// How many sequences between the first and the last frame have no frame.
     fn missing(self) -> u64 {
         match self.span {
             Some((first, last)) => last
                 .wrapping_sub(first)
                 .wrapping_add(1)
-                .wrapping_sub(self.frames),
+                .wrapping_sub(self.count as u64),
             None => 0,
         }
     }
 
     /// Writes the row of the table capture, with this many records.
-    pub(crate) fn write<W: Write>(self, records: u64, rows: &mut RowWriter<'_, W>) -> Outcome {
+    pub(crate) fn write<W: Write + Drop>(self, records: u64, rows: &mut RowWriter<W>) -> Outcome {
         rows.push(&columns! {
             layout: LAYOUT,
             parts: self.parts,
             bytes: self.bytes,
-            frames: self.frames,
+            frames: self.count as u64,
             records: records,
             first_seq: self.span.map(|(first, _)| first),
             last_seq: self.span.map(|(_, last)| last),
             missing: self.missing(),
-            fault: self.fault.map(|(fault, _)| fault_number(fault.kind)),
-            fault_place: self.fault.map(|(fault, _)| fault.place),
-            fault_part: self.fault.map(|(_, part)| part),
+            fault: self.fault.map(|found| fault_number(found.fault.kind)),
+            fault_place: self.fault.map(|found| found.fault.place),
+            fault_part: self.fault.map(|found| found.part),
         })
     }
-}
-
-/// How many bytes of a part come after its file header.
-pub(crate) fn after_header(part: &[u8]) -> u64 {
-    part.len().saturating_sub(FILE_HEADER) as u64
 }
 
 /// The number of a kind of fault in the list of docs/ENVELOPE.md.

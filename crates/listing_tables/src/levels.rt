@@ -131,10 +131,10 @@ impl Levels {
     }
 
     /// Writes the rows of the table level, for this many processes.
-    pub(crate) fn write<W: Write>(
+    pub(crate) fn write<W: Write + Drop>(
         &mut self,
         processes: u32,
-        rows: &mut RowWriter<'_, W>,
+        rows: &mut RowWriter<W>,
     ) -> Outcome {
         self.slices
             .sort_unstable_by_key(|slice| (slice.upid, slice.number, slice.resource));
@@ -147,11 +147,11 @@ impl Levels {
 
     /// Writes the rows of a process, whose slices begin at the index `next`, and returns the index
     /// after them.
-    fn write_process<W: Write>(
+    fn write_process<W: Write + Drop>(
         &self,
         upid: u32,
         next: usize,
-        rows: &mut RowWriter<'_, W>,
+        rows: &mut RowWriter<W>,
     ) -> Result<usize, ListingError> {
         let mut next = next;
         let mut held = [0u64; 5];

@@ -23,10 +23,12 @@ mod rows;
 mod seen;
 mod slices;
 mod spans;
+mod steps;
 mod tables;
 mod waiting;
 mod walk;
 
 pub use judge::Ending;
+pub use rows::RowWriter;
 pub use tables::{NAMES, Name, Tables, name_of};
-pub use walk::walk_capture;
+pub use walk::{Streams, walk_capture};

@@ -2,10 +2,8 @@
 //! records that leave a mark, thread by thread; messages; generations of handles; and what each
 //! process holds.
 
-ghost use Rattle.listing_tables.specs.Calls.{AreColumns};
-
 use crate::buffers::{Buffer, Buffers, Reference, References};
-use crate::calls::{Call, CallStep, all_calls, verdict_number};
+use crate::calls::Call;
 use crate::generations::{Effect, Generations};
 use crate::handed::{Handed, HandedOver, Node, Object};
 use crate::held::HeldCounts;
@@ -13,18 +11,17 @@ use crate::keys::key_of;
 use crate::levels::{Levels, Resource};
 use crate::messages::{Detail, Message, Messages, Path, Sent, Settled, unknown_path};
 use crate::numbered::Numbered;
-use crate::rows::{Column, RowWriter, columns};
 use crate::seen::Seen;
 use crate::spans::{Owner, Spans};
+use crate::steps::is_oneway;
 use binder_code::Kind;
 use call_stacks::Verdict;
 use capture_frame::Frame;
-use event_core::{Strength, mark_of};
-use listing_fields::{EachObject, Item, ListingError, Named, Outcome, is_oneway, is_reply};
+use event_core::Strength;
+use listing_fields::{EachObject, Item, ListingError, Named, Outcome};
 use object_view::Sort;
 use std::alloc::Global;
 use std::collections::VecDeque;
-use std::io::Write;
 use transaction_view::{Entry, Transaction};
 
 /// TF_UPDATE_TXN.
@@ -33,8 +30,6 @@ const UPDATES: u32 = 0x40;
 /// What has come of the records so far.
 #[derive(Drop)]
 pub(crate) struct Lists {
-    /// Of each thread, the records that leave a mark.
-    steps: Vec<Vec<CallStep>>,
     /// Of each thread, the sends that wait to be confirmed, by their index.
     waiting: Vec<VecDeque<u32>>,
     pub messages: Messages,
@@ -64,7 +59,6 @@ impl Lists {
     /// Nothing yet.
     pub(crate) fn new(alloc: Global) -> Lists {
         Lists {
-            steps: Vec::new(alloc),
             waiting: Vec::new(alloc),
             messages: Messages::new(alloc),
             buffers: Buffers::new(alloc),
@@ -81,8 +75,7 @@ impl Lists {
     pub(crate) fn add_frame(&mut self, frame: Frame<'_>, owner: Owner) -> Outcome {
         self.levels.go_to(frame.sequence);
         self.seen.add_frame(frame, owner)?;
-        if self.steps.len() as u64 == u64::from(owner.utid.saturating_sub(1)) {
-            self.steps.push(Vec::new(self.alloc))?;
+        if self.waiting.len() as u64 == u64::from(owner.utid.saturating_sub(1)) {
             self.waiting.push(VecDeque::new(self.alloc))?;
         }
         Ok(())
@@ -91,9 +84,8 @@ impl Lists {
     /// Takes a record, and what it names.
     pub(crate) fn add_item(&mut self, origin: Origin, item: Item<'_>, named: Named) -> Outcome {
         let kind = item.record.kind;
-        let oneway = is_oneway(item.record) && !is_reply(kind);
+        let oneway = is_oneway(item.record);
         let generation = self.name_handle(origin, kind, named.handle)?;
-        self.add_step(origin, kind, oneway)?;
         let Some(transaction) = Transaction::of(item.record) else {
             return self.settle(origin, kind, named);
         };
@@ -105,24 +97,6 @@ impl Lists {
         };
         let key = key_of(transaction, item.entry, origin.device);
         self.add_message(origin, kind, oneway, key, detail)
-    }
-
-    /// Keeps a record for the calls of its thread, if it leaves a mark.
-    fn add_step(&mut self, origin: Origin, kind: Kind, oneway: bool) -> Outcome {
-        if mark_of(kind, oneway).is_none() {
-            return Ok(());
-        }
-        let before = self.messages.list.next()?;
-        let at = origin.utid.saturating_sub(1) as usize;
-        if let Some(steps) = self.steps.as_mut_slice().get_mut(at) {
-            steps.push(CallStep {
-                place: origin.place,
-                before,
-                kind,
-                oneway,
-            })?;
-        }
-        Ok(())
     }
 
     fn add_message(
@@ -367,11 +341,10 @@ impl Lists {
         self.levels.lower(origin.upid, Resource::Bytes, buffer.size)
     }
 
-    /// Finds the calls, once all records are there, and what follows from them. Then the messages
-    /// can be paired.
-    pub(crate) fn finish(&mut self, spans: &Spans) -> Outcome {
-        self.calls = all_calls(self.alloc, self.steps.as_slice())?;
-        self.steps.clear();
+    /// Takes the calls, once all records are there, and finds what follows from them. Then the
+    /// messages can be paired.
+    pub(crate) fn finish(&mut self, calls: Numbered<Call>, spans: &Spans) -> Outcome {
+        self.calls = calls;
         for index in 0..self.calls.next()? {
             self.link(index);
         }
@@ -391,38 +364,6 @@ impl Lists {
         {
             message.call = Some(index);
         }
-    }
-
-    /// Writes the rows of the table call.
-    pub(crate) fn write_calls<W: Write>(&self, rows: &mut RowWriter<'_, W>) -> Outcome {
-        for call in &self.calls.all {
-            if let Some(opener) = self.messages.list.get(call.opener) {
-                rows.push(&self.call_columns(call, &opener))?;
-            }
-        }
-        Ok(())
-    }
-
-    fn call_columns(&self, call: &Call, opener: &Message) -> [Column<'static>; 9]
-        ensures { AreColumns call.now result }
-    {
-        columns! {
-            place: call.place,
-            seq: opener.sequence,
-            utid: opener.utid,
-            served: u64::from(call.served),
-            depth: call.depth,
-            parent: call.parent,
-            verdict: verdict_number(call.verdict),
-            closer: call.end(),
-            dur_seq: self.closed_after(call, opener.sequence),
-        }
-    }
-
-    /// How many sequences after this one a call is closed.
-    fn closed_after(&self, call: &Call, sequence: u64) -> Option<u64> {
-        let closer = self.messages.list.get(call.closer?.message)?;
-        Some(closer.sequence.wrapping_sub(sequence))
     }
 
     /// Goes through the messages again, now that their calls are known.

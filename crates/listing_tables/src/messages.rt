@@ -1,9 +1,12 @@
 //! What threads send and get: the records that open and close calls, and what became of them.
 
+ghost use Rattle.std.specs.Prelude.{OnOk};
 ghost use Rattle.listing_tables.specs.Buffers.{AreBufferColumns};
+ghost use Rattle.listing_tables.specs.Calls.{AreColumns};
+ghost use Rattle.listing_tables.specs.Columns.{AddsRows};
 
 use crate::buffers::{Buffer, Buffers};
-use crate::calls::Call;
+use crate::calls::{Call, verdict_number};
 use crate::handed::Node;
 use crate::numbered::{Numbered, narrow};
 use crate::rows::{Column, RowWriter, columns};
@@ -175,8 +178,46 @@ impl Messages {
         Some(message.place)
     }
 
+    /// Writes the rows of the table call.
+    pub(crate) fn write_calls<W: Write + Drop>(
+        &self,
+        calls: &Numbered<Call>,
+        rows: &mut RowWriter<W>,
+    ) -> Outcome
+        ensures { OnOk result (AddsRows AreColumns rows.old rows.new calls.now.all.items) }
+    {
+        for index in 0..calls.next()? {
+            let call = calls.at(index)?;
+            let opener = self.list.at(call.opener)?;
+            rows.push(&self.call_columns(&call, &opener))?;
+        }
+        Ok(())
+    }
+
+    fn call_columns(&self, call: &Call, opener: &Message) -> [Column<'static>; 9]
+        ensures { AreColumns call.now result }
+    {
+        columns! {
+            place: call.place,
+            seq: opener.sequence,
+            utid: opener.utid,
+            served: u64::from(call.served),
+            depth: call.depth,
+            parent: call.parent,
+            verdict: verdict_number(call.verdict),
+            closer: call.end(),
+            dur_seq: self.closed_after(call, opener.sequence),
+        }
+    }
+
+    /// How many sequences after this one a call is closed.
+    fn closed_after(&self, call: &Call, sequence: u64) -> Option<u64> {
+        let closer = self.list.get(call.closer?.message)?;
+        Some(closer.sequence.wrapping_sub(sequence))
+    }
+
     /// Writes the rows of the table send.
-    pub(crate) fn write_sends<W: Write>(&self, rows: &mut RowWriter<'_, W>) -> Outcome {
+    pub(crate) fn write_sends<W: Write + Drop>(&self, rows: &mut RowWriter<W>) -> Outcome {
         for message in &self.list.all {
             if let Detail::Sent(sent) = message.detail {
                 let partner = self.place_of(message.partner);
@@ -187,11 +228,11 @@ impl Messages {
     }
 
     /// Writes the rows of the table delivery.
-    pub(crate) fn write_deliveries<W: Write>(
+    pub(crate) fn write_deliveries<W: Write + Drop>(
         &self,
         buffers: &Buffers,
         calls: &Numbered<Call>,
-        rows: &mut RowWriter<'_, W>,
+        rows: &mut RowWriter<W>,
     ) -> Outcome {
         for message in &self.list.all {
             if let Detail::Delivered(index) = message.detail

@@ -42,12 +42,12 @@ impl Names {
     }
 
     /// Writes the rows of the table interface.
-    pub(crate) fn write_interfaces<W: Write>(&self, rows: &mut RowWriter<'_, W>) -> Outcome {
+    pub(crate) fn write_interfaces<W: Write + Drop>(&self, rows: &mut RowWriter<W>) -> Outcome {
         write_names(self.alloc, &self.interfaces, rows)
     }
 
     /// Writes the rows of the table service.
-    pub(crate) fn write_services<W: Write>(&self, rows: &mut RowWriter<'_, W>) -> Outcome {
+    pub(crate) fn write_services<W: Write + Drop>(&self, rows: &mut RowWriter<W>) -> Outcome {
         write_names(self.alloc, &self.services, rows)
     }
 }
@@ -68,10 +68,10 @@ fn number_in(
     Ok(Some(number))
 }
 
-fn write_names<W: Write>(
+fn write_names<W: Write + Drop>(
     alloc: Global,
     names: &IndexSet<Vec<u8>>,
-    rows: &mut RowWriter<'_, W>,
+    rows: &mut RowWriter<W>,
 ) -> Outcome {
     let mut number = 0u64;
     let mut letters = Vec::new(alloc);

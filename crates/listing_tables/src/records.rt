@@ -1,5 +1,9 @@
 //! The tables frame, record and object, which are written while the walk goes on.
 
+ghost use Rattle.capture_frame.specs.Envelope.{placed_frame};
+ghost use Rattle.listing_fields.specs.Content.{record_of_item};
+ghost use Rattle.listing_tables.specs.Walk.{BeginsWith, frame_begin, record_begin};
+
 use crate::rows::{Column, RowWriter, columns, signed};
 use binder_code::Kind;
 use capture_frame::{Direction, Frame, u32_at};
@@ -15,7 +19,9 @@ use transaction_view::Transaction;
 const STATUS_CODE: u32 = 0x08;
 
 /// The row of a frame with this many records.
-pub(crate) fn frame_columns(frame: Frame<'_>, utid: u32, records: u64) -> [Column<'static>; 7] {
+pub(crate) fn frame_columns(frame: Frame<'_>, utid: u32, records: u64) -> [Column<'static>; 7]
+    ensures { BeginsWith (frame_begin (placed_frame frame.entry)) result }
+{
     columns! {
         seq: frame.sequence,
         place: frame.place,
@@ -35,7 +41,9 @@ pub(crate) fn record_columns(
     named: Named,
     interface: Option<u64>,
     service: Option<u64>,
-) -> [Column<'static>; 21] {
+) -> [Column<'static>; 21]
+    ensures { BeginsWith (record_begin (placed_frame frame.entry) (record_of_item item.entry)) result }
+{
     let record = item.record;
     let sent = Transaction::of(record);
     columns! {
@@ -92,7 +100,7 @@ fn kind_number(record: Record<'_>, direction: Direction) -> u64 {
 }
 
 /// Writes a row for each object of a record's attachment, up to the first bad one.
-pub(crate) fn write_objects<W: Write>(rows: &mut RowWriter<'_, W>, item: Item<'_>) -> Outcome {
+pub(crate) fn write_objects<W: Write + Drop>(rows: &mut RowWriter<W>, item: Item<'_>) -> Outcome {
     let Some(entry) = item.entry else {
         return Ok(());
     };

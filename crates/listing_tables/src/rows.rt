@@ -1,26 +1,41 @@
 //! The rows that are written.
 
-ghost use Rattle.std.specs.Prelude.{◌≡◌};
-ghost use Rattle.listing_tables.specs.Columns.{column_of};
+ghost use Rattle.std.specs.Prelude.{◌≡◌, ◌≤◌, ◌++◌, length, IfOk, OnOk};
+ghost use Rattle.std.specs.Int.{w64, to_le_bytes};
+ghost use Rattle.std.specs.Io.KnownBytes.{Appends, Keeps};
+ghost use Rattle.listing_tables.specs.Columns.{column_of, column_bytes, mask_of, row_bytes};
 ghost use Rattle.listing_tables.specs.declared.rows.Column.TheVariants.{Number};
 
-use listing_fields::{Outcome, write_error};
+use listing_fields::{ListingError, Outcome, write_error};
 use std::alloc::Global;
 use std::io::Write;
+use std::marker::Model;
 
 /// How many bytes are collected before they are written.
 const PIECE: usize = 65_536;
 
-/// Collects the rows of a table, and writes many of them at a time.
+/// Collects the rows of a table, and writes many of them at a time. In contracts the value is what
+/// the writer has together with what is still to be written, where that is known.
 #[derive(Drop)]
-pub struct RowWriter<'w, W: Write> {
+pub struct RowWriter<W: Write + Drop> {
     /// What is not written yet.
     bytes: Vec<u8>,
-    writer: &'w mut W,
+    writer: W,
 }
 
-impl<'w, W: Write> RowWriter<'w, W> {
-    pub fn new(alloc: Global, writer: &'w mut W) -> RowWriter<'w, W> {
+impl<W: Write + Drop> Model for RowWriter<W> {
+    ghost use Rattle.std.specs.Io.KnownBytes.{append_known};
+    ghost use Rattle.std.specs.Prelude.{ℕ, List, Option};
+
+    ghost Value = { Option (List ℕ) };
+
+    ghost view = { λ r. append_known (W.contents r.writer) r.bytes.items };
+}
+
+impl<W: Write + Drop> RowWriter<W> {
+    pub fn new(alloc: Global, writer: W) -> RowWriter<W>
+        ensures { Keeps (W.contents writer) result }
+    {
         RowWriter {
             bytes: Vec::new(alloc),
             writer,
@@ -28,54 +43,94 @@ impl<'w, W: Write> RowWriter<'w, W> {
     }
 
     /// Takes a row: a mask, and then the columns that are not NULL. The mask has a bit for each of
-    /// them, the lowest bit for the first column. There are 64 columns at most.
-    pub(crate) fn push(&mut self, columns: &[Column<'_>]) -> Outcome {
-        self.push_number(mask_of(columns))?;
-        for column in columns {
-            match *column {
-                Column::Null => {}
-                Column::Number(number) => self.push_number(number)?,
-                Column::Text(text) => {
-                    self.push_number(text.len() as u64)?;
-                    self.bytes.extend_from_slice(text)?;
-                }
-            }
-        }
+    /// them, the lowest bit for the first column.
+    pub(crate) fn push(&mut self, columns: &[Column<'_>]) -> Outcome
+        requires { length columns.now ≤ 63 }
+        ensures { OnOk result (Appends self.old self.new (row_bytes columns.now)) }
+    {
+        push_row(&mut self.bytes, columns)?;
         if self.bytes.len() < PIECE {
             return Ok(());
         }
         self.write_out()
     }
 
-    fn push_number(&mut self, number: u64) -> Outcome {
-        self.bytes.extend_from_slice(&number.to_le_bytes())?;
-        Ok(())
-    }
-
-    /// Writes what is not written yet.
-    pub(crate) fn flush(&mut self) -> Outcome {
-        self.write_out()?;
-        self.writer.flush().map_err(|error| write_error(&error))
-    }
-
-    fn write_out(&mut self) -> Outcome {
+    fn write_out(&mut self) -> Outcome
+        ensures { OnOk result (Keeps self.old self.new) }
+    {
         let written = self.writer.write_all(self.bytes.as_slice());
         self.bytes.clear();
         written.map_err(|error| write_error(&error))
     }
+
+    /// Writes what is not written yet, and gives the writer back.
+    pub fn finish(self) -> Result<W, ListingError>
+        ensures { IfOk result (λ writer. Keeps self (W.contents writer)) }
+    {
+        let RowWriter { bytes, mut writer } = self;
+        match write_whole(&mut writer, bytes.as_slice()) {
+            Ok(()) => Ok(writer),
+            Err(error) => Err(error),
+        }
+    }
+}
+
+fn write_whole<W: Write>(writer: &mut W, bytes: &[u8]) -> Outcome
+    ensures { OnOk result (Appends (W.contents writer.old) (W.contents writer.new) bytes.now) }
+{
+    writer
+        .write_all(bytes)
+        .map_err(|error| write_error(&error))?;
+    writer.flush().map_err(|error| write_error(&error))
+}
+
+fn push_row(bytes: &mut Vec<u8>, columns: &[Column<'_>]) -> Outcome
+    requires { length columns.now ≤ 63 }
+    ensures { OnOk result (bytes.new.items ≡ bytes.old.items ++ row_bytes columns.now) }
+{
+    push_number(bytes, mask_of(columns))?;
+    for column in columns {
+        push_column(bytes, *column)?;
+    }
+    Ok(())
+}
+
+fn push_column(bytes: &mut Vec<u8>, column: Column<'_>) -> Outcome
+    ensures { OnOk result (bytes.new.items ≡ bytes.old.items ++ column_bytes column.entry) }
+{
+    match column {
+        Column::Null => Ok(()),
+        Column::Number(number) => push_number(bytes, number),
+        Column::Text(text) => {
+            push_number(bytes, text.len() as u64)?;
+            bytes.extend_from_slice(text)?;
+            Ok(())
+        }
+    }
+}
+
+fn push_number(bytes: &mut Vec<u8>, number: u64) -> Outcome
+    ensures { OnOk result (bytes.new.items ≡ bytes.old.items ++ to_le_bytes w64 number) }
+{
+    bytes.extend_from_slice(&number.to_le_bytes())?;
+    Ok(())
 }
 
 /// Which columns are not NULL.
-fn mask_of(columns: &[Column<'_>]) -> u64 {
-    let mut mask = 0u64;
-    let mut bit = 1u64;
-    for column in columns {
-        if !matches!(*column, Column::Null) {
-            mask |= bit;
+fn mask_of(columns: &[Column<'_>]) -> u64
+    requires { length columns.now ≤ 63 }
+    ensures { result ≡ mask_of columns.now }
+{
+    match columns.split_first() {
+        Some((first, others)) => {
+            let rest = 2 * mask_of(others);
+            match *first {
+                Column::Null => rest,
+                Column::Number(_) | Column::Text(_) => rest + 1,
+            }
         }
-        bit = bit.wrapping_mul(2);
+        None => 0,
     }
-    mask
 }
 
 /// What a row has in a column. A text is ASCII.

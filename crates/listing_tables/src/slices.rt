@@ -37,7 +37,7 @@ impl Slices {
     }
 
     /// Writes the rows of the table slice.
-    pub(crate) fn write<W: Write>(&self, rows: &mut RowWriter<'_, W>) -> Outcome {
+    pub(crate) fn write<W: Write + Drop>(&self, rows: &mut RowWriter<W>) -> Outcome {
         for number in 0..SLICES {
             rows.push(&columns! {
                 slice: number as u64,

@@ -90,7 +90,7 @@ impl Spans {
     }
 
     /// Writes the rows of the table process.
-    pub(crate) fn write_processes<W: Write>(&self, rows: &mut RowWriter<'_, W>) -> Outcome {
+    pub(crate) fn write_processes<W: Write + Drop>(&self, rows: &mut RowWriter<W>) -> Outcome {
         for (process, span) in self.processes.iter() {
             rows.push(&columns! {
                 upid: span.upid,
@@ -105,7 +105,7 @@ impl Spans {
     }
 
     /// Writes the rows of the table thread.
-    pub(crate) fn write_threads<W: Write>(&self, rows: &mut RowWriter<'_, W>) -> Outcome {
+    pub(crate) fn write_threads<W: Write + Drop>(&self, rows: &mut RowWriter<W>) -> Outcome {
         let mut utid = 0u64;
         for (thread, span) in self.threads.iter() {
             utid = utid.saturating_add(1);

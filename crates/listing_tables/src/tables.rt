@@ -1,16 +1,26 @@
 //! The tables of a capture.
 
+ghost use Rattle.std.specs.Prelude.{◌≡◌, List, OnOk};
+ghost use Rattle.capture_frame.specs.Envelope.{placed_frame};
+ghost use Rattle.record_view.specs.State.{placed_record};
+ghost use Rattle.listing_tables.specs.Steps.{AddsMarked, IsKept, KeepsAll, Marked, WritesCalls, marked_of};
+ghost use Rattle.listing_tables.specs.Walk.{HasNoSteps};
+
+use crate::calls::all_calls;
 use crate::judge::Ending;
 use crate::lists::{Lists, Origin};
 use crate::names::Names;
-use crate::numbered::narrow;
+use crate::numbered::{narrow, sum};
 use crate::rows::RowWriter;
 use crate::slices::Slices;
 use crate::spans::{Owner, Spans};
+use crate::steps::{Steps, add_step};
 use capture_frame::Frame;
 use listing_fields::{Item, ListingError, Named, Outcome};
 use std::alloc::Global;
 use std::io::Write;
+use std::mem;
+use summary_law::Summary;
 
 /// The tables.
 #[derive(Clone, Copy)]
@@ -62,7 +72,7 @@ pub fn name_of(word: &str) -> Option<Name> {
 impl Name {
     /// Whether the table is written while the walk goes on.
     pub fn is_streamed(self) -> bool {
-        matches!(self, Name::Frame | Name::Record | Name::Object)
+        matches!(self, Name::Frame | Name::Record | Name::Object | Name::Call)
     }
 }
 
@@ -71,28 +81,36 @@ impl Name {
 pub struct Tables {
     spans: Spans,
     pub(crate) names: Names,
+    steps: Steps,
     lists: Lists,
     records: u64,
 }
 
 impl Tables {
     /// Nothing yet.
-    pub fn new(alloc: Global) -> Tables {
+    pub fn new(alloc: Global) -> Tables
+        ensures { HasNoSteps result }
+    {
         Tables {
             spans: Spans::new(alloc),
             names: Names::new(alloc),
+            steps: Steps::empty(alloc),
             lists: Lists::new(alloc),
             records: 0,
         }
     }
 
     /// Begins a walk through a capture that goes this far.
-    pub(crate) fn begin(&mut self, ending: Ending) {
+    pub(crate) fn begin(&mut self, ending: Ending)
+        ensures { self.new.steps ≡ self.old.steps }
+    {
         self.lists.levels.set_span(ending.span.unwrap_or((0, 0)));
     }
 
     /// Takes a frame, before its records.
-    pub(crate) fn add_frame(&mut self, frame: Frame<'_>) -> Result<Owner, ListingError> {
+    pub(crate) fn add_frame(&mut self, frame: Frame<'_>) -> Result<Owner, ListingError>
+        ensures { self.new.steps ≡ self.old.steps }
+    {
         let owner = self.spans.add(frame)?;
         self.lists.add_frame(frame, owner)?;
         Ok(owner)
@@ -105,10 +123,17 @@ impl Tables {
         owner: Owner,
         item: Item<'_>,
         named: Named,
-    ) -> Outcome {
-        self.records = self.records.saturating_add(1);
+    ) -> Outcome
+        requires { IsKept self.old.steps.entries.entries }
+        ensures { OnOk result (AddsMarked self.old.steps.entries.entries
+            self.new.steps.entries.entries
+            (marked_of (placed_frame frame.entry) (placed_record item.entry.«record»))) }
+    {
+        self.records = sum(self.records, 1)?;
         self.spans
             .add_record(owner.utid, frame.direction, item.record.place);
+        let before = self.lists.messages.list.next()?;
+        add_step(&mut self.steps, frame, item.record, before)?;
         let origin = Origin {
             place: narrow(item.record.place)?,
             sequence: frame.sequence,
@@ -120,41 +145,38 @@ impl Tables {
         self.lists.add_item(origin, item, named)
     }
 
-    /// Finds what is known only when all records are there.
-    pub(crate) fn finish(&mut self, alloc: Global) -> Outcome {
-        self.lists.finish(&self.spans)?;
+    /// Finds what is known only when all records are there, and writes the rows of the table call.
+    pub(crate) fn finish<W: Write + Drop>(
+        &mut self,
+        alloc: Global,
+        rows: &mut RowWriter<W>,
+    ) -> Outcome
+        ensures { OnOk result ((marked : List Marked) →
+            KeepsAll self.old.steps.entries.entries marked →
+            WritesCalls rows.old rows.new marked) }
+    {
+        let calls = all_calls(alloc, &mem::replace(&mut self.steps, Steps::empty(alloc)))?;
+        self.lists.messages.write_calls(&calls, rows)?;
+        self.lists.finish(calls, &self.spans)?;
         self.lists.pair(alloc)
     }
 
     /// Writes a table of the capture that was walked through, and that goes this far. Nothing is
     /// written of a table that is written while the walk goes on.
-    pub fn write<W: Write>(
-        &mut self,
-        alloc: Global,
-        name: Name,
-        ending: Ending,
-        writer: &mut W,
-    ) -> Outcome {
-        let mut rows = RowWriter::new(alloc, writer);
-        self.write_rows(name, ending, &mut rows)?;
-        rows.flush()
-    }
-
-    fn write_rows<W: Write>(
+    pub fn write<W: Write + Drop>(
         &mut self,
         name: Name,
         ending: Ending,
-        rows: &mut RowWriter<'_, W>,
+        rows: &mut RowWriter<W>,
     ) -> Outcome {
         let lists = &mut self.lists;
         match name {
-            Name::Frame | Name::Record | Name::Object => Ok(()),
+            Name::Frame | Name::Record | Name::Object | Name::Call => Ok(()),
             Name::Capture => ending.write(self.records, rows),
             Name::Process => self.spans.write_processes(rows),
             Name::Thread => self.spans.write_threads(rows),
             Name::Interface => self.names.write_interfaces(rows),
             Name::Service => self.names.write_services(rows),
-            Name::Call => lists.write_calls(rows),
             Name::Generation => lists.generations.write(rows),
             Name::Send => lists.messages.write_sends(rows),
             Name::Delivery => {

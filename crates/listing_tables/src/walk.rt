@@ -1,125 +1,152 @@
 //! The one walk through a capture that feeds all tables.
 
-ghost use Rattle.std.specs.Prelude.{◌+◌, ◌<◌, ◌^◌, length};
+ghost use Rattle.std.specs.Prelude.{◌≡◌, ◌<◌, ◌≤◌, ◌^◌, ◌∷◌, [], length, map, take, IfOk, OnOk};
+ghost use Rattle.std.specs.Io.KnownBytes.{Keeps};
+ghost use Rattle.std.specs.List.{flat_map, sum_by};
+ghost use Rattle.capture_frame.specs.Envelope.{placed_frame};
+ghost use Rattle.listing_fields.specs.Content.{record_of_item};
+ghost use Rattle.listing_tables.specs.Columns.{AddsRows};
+ghost use Rattle.listing_tables.specs.Walk.{BeginsWith, HasNoSteps, counted_frames, frame_begin, record_begin, record_begins};
+ghost use Rattle.listing_tables.specs.Steps.{AddsMarked, IsKept, WritesCalls, marked_in, marked_of};
 
-use crate::judge::{Ending, after_header};
+use crate::judge::{Ending, frames_of};
+use crate::numbered::sum;
 use crate::records::{frame_columns, record_columns, write_objects};
 use crate::rows::RowWriter;
 use crate::spans::Owner;
 use crate::tables::Tables;
-use capture_frame::{Frame, Frames};
+use capture_frame::{Frame, FrameSlice};
 use listing_fields::{Content, Item, ListingError, Outcome, named_of};
 use std::alloc::Global;
 use std::io::Write;
 
 /// The writers of the tables that are written while the walk goes on.
 #[derive(Drop)]
-struct Streams<'w, F: Write, R: Write, O: Write> {
-    frames: RowWriter<'w, F>,
-    records: RowWriter<'w, R>,
-    objects: RowWriter<'w, O>,
+pub struct Streams<F: Write + Drop, R: Write + Drop, O: Write + Drop, C: Write + Drop> {
+    pub frames: RowWriter<F>,
+    pub records: RowWriter<R>,
+    pub objects: RowWriter<O>,
+    pub calls: RowWriter<C>,
 }
 
-/// How far the walk is.
-#[derive(Clone, Copy)]
-struct Walked {
-    /// How many bytes after their file headers the parts so far have.
-    base: u64,
-    /// The sequence of the last frame.
-    last: Option<u64>,
-    /// How many frames are left.
-    left: u64,
+impl<F: Write + Drop, R: Write + Drop, O: Write + Drop, C: Write + Drop> Streams<F, R, O, C> {
+    pub fn new(alloc: Global, frames: F, records: R, objects: O, calls: C) -> Streams<F, R, O, C>
+        ensures frames { Keeps (F.contents frames) result.frames }
+        ensures records { Keeps (R.contents records) result.records }
+        ensures calls { Keeps (C.contents calls) result.calls }
+    {
+        Streams {
+            frames: RowWriter::new(alloc, frames),
+            records: RowWriter::new(alloc, records),
+            objects: RowWriter::new(alloc, objects),
+            calls: RowWriter::new(alloc, calls),
+        }
+    }
+
+    /// Writes what is not written yet.
+    pub fn finish(self) -> Outcome {
+        let Streams {
+            frames,
+            records,
+            objects,
+            calls,
+        } = self;
+        frames.finish()?;
+        records.finish()?;
+        objects.finish()?;
+        calls.finish()?;
+        Ok(())
+    }
 }
 
 /// Walks through the capture that has these parts, up to its first fault. The rows of frames, records
 /// and objects are written as they come; of the other tables everything is kept.
-pub fn walk_capture<F: Write, R: Write, O: Write>(
+pub fn walk_capture<F: Write + Drop, R: Write + Drop, O: Write + Drop, C: Write + Drop>(
     alloc: Global,
-    parts: &[Vec<u8>],
+    parts: &[&[u8]],
     tables: &mut Tables,
-    frames: &mut F,
-    records: &mut R,
-    objects: &mut O,
-) -> Result<Ending, ListingError> {
-    let ending = Ending::of(parts);
+    streams: &mut Streams<F, R, O, C>,
+) -> Result<Ending, ListingError>
+    requires few { length parts.now < 2 ^ 32 }
+    requires fits { sum_by length (map (λ part. part.now) parts.now) < 2 ^ 64 }
+    requires nothing { HasNoSteps tables.old }
+    ensures frames { OnOk result (AddsRows BeginsWith streams.old.frames streams.new.frames
+        (map frame_begin (counted_frames (map (λ part. part.now) parts.now)))) }
+    ensures records { OnOk result (AddsRows BeginsWith streams.old.records streams.new.records
+        (flat_map record_begins (counted_frames (map (λ part. part.now) parts.now)))) }
+    ensures calls { OnOk result (WritesCalls streams.old.calls streams.new.calls
+        (flat_map marked_in (counted_frames (map (λ part. part.now) parts.now)))) }
+{
+    let (frames, ending) = frames_of(alloc, parts)?;
     tables.begin(ending);
-    let mut streams = Streams {
-        frames: RowWriter::new(alloc, frames),
-        records: RowWriter::new(alloc, records),
-        objects: RowWriter::new(alloc, objects),
-    };
-    walk_parts(parts, ending.frames, tables, &mut streams)?;
-    tables.finish(alloc)?;
+    walk_frames(&frames.as_slice(), ending.count, tables, streams)?;
+    tables.finish(alloc, &mut streams.calls)?;
     Ok(ending)
 }
 
-fn walk_parts<F: Write, R: Write, O: Write>(
-    parts: &[Vec<u8>],
-    frames: u64,
+/// Walks through the first `count` frames.
+fn walk_frames<F: Write + Drop, R: Write + Drop, O: Write + Drop, C: Write + Drop>(
+    frames: &FrameSlice<'_, '_>,
+    count: usize,
     tables: &mut Tables,
-    streams: &mut Streams<'_, F, R, O>,
-) -> Outcome {
-    let mut walked = Walked {
-        base: 0,
-        last: None,
-        left: frames,
-    };
-    for part in parts {
-        walk_part(part.as_slice(), &mut walked, tables, streams)?;
+    streams: &mut Streams<F, R, O, C>,
+) -> Outcome
+    requires kept { IsKept tables.old.steps.entries.entries }
+    requires few { count ≤ length frames.now }
+    ensures frames { OnOk result (AddsRows BeginsWith streams.old.frames streams.new.frames
+        (map frame_begin (take count frames.now))) }
+    ensures records { OnOk result (AddsRows BeginsWith streams.old.records streams.new.records
+        (flat_map record_begins (take count frames.now))) }
+    ensures calls { streams.new.calls ≡ streams.old.calls }
+    ensures marked { OnOk result (AddsMarked tables.old.steps.entries.entries
+        tables.new.steps.entries.entries (flat_map marked_in (take count frames.now))) }
+{
+    for number in 0..count {
+        walk_frame(frames.get(number), tables, streams)?;
     }
-    streams.frames.flush()?;
-    streams.records.flush()?;
-    streams.objects.flush()
-}
-
-fn walk_part<F: Write, R: Write, O: Write>(
-    part: &[u8],
-    walked: &mut Walked,
-    tables: &mut Tables,
-    streams: &mut Streams<'_, F, R, O>,
-) -> Outcome {
-    // No capture is this long: what is read is within the limit.
-    if walked.base > u64::MAX / 2 || part.len() as u64 > u64::MAX / 2 {
-        return Err(ListingError::TooLarge);
-    }
-    let Ok(mut frames) = Frames::after(part, walked.base, walked.last) else {
-        return Ok(());
-    };
-    for _ in 0..walked.left {
-        let Ok(Some(frame)) = frames.next_frame() else {
-            break;
-        };
-        walk_frame(frame, tables, streams)?;
-        walked.last = Some(frame.sequence);
-        walked.left = walked.left.saturating_sub(1);
-    }
-    walked.base = walked.base.saturating_add(after_header(part));
     Ok(())
 }
 
-fn walk_frame<F: Write, R: Write, O: Write>(
+fn walk_frame<F: Write + Drop, R: Write + Drop, O: Write + Drop, C: Write + Drop>(
     frame: Frame<'_>,
     tables: &mut Tables,
-    streams: &mut Streams<'_, F, R, O>,
-) -> Outcome {
+    streams: &mut Streams<F, R, O, C>,
+) -> Outcome
+    requires { IsKept tables.old.steps.entries.entries }
+    ensures frames { OnOk result (AddsRows BeginsWith streams.old.frames streams.new.frames
+        (frame_begin (placed_frame frame.entry) ∷ [])) }
+    ensures records { OnOk result (AddsRows BeginsWith streams.old.records streams.new.records
+        (record_begins (placed_frame frame.entry))) }
+    ensures calls { streams.new.calls ≡ streams.old.calls }
+    ensures marked { OnOk result (AddsMarked tables.old.steps.entries.entries
+        tables.new.steps.entries.entries (marked_in (placed_frame frame.entry))) }
+{
     let owner = tables.add_frame(frame)?;
-    let mut records = 0u64;
+    let mut count = 0u64;
     for item in Content::of(frame) {
         walk_item(frame, owner, item, tables, streams)?;
-        records = records.saturating_add(1);
+        count = sum(count, 1)?;
     }
     streams
         .frames
-        .push(&frame_columns(frame, owner.utid, records))
+        .push(&frame_columns(frame, owner.utid, count))
 }
 
-fn walk_item<F: Write, R: Write, O: Write>(
+fn walk_item<F: Write + Drop, R: Write + Drop, O: Write + Drop, C: Write + Drop>(
     frame: Frame<'_>,
     owner: Owner,
     item: Item<'_>,
     tables: &mut Tables,
-    streams: &mut Streams<'_, F, R, O>,
-) -> Outcome {
+    streams: &mut Streams<F, R, O, C>,
+) -> Outcome
+    requires { IsKept tables.old.steps.entries.entries }
+    ensures frames { streams.new.frames ≡ streams.old.frames }
+    ensures records { OnOk result (AddsRows BeginsWith streams.old.records streams.new.records
+        (record_begin (placed_frame frame.entry) (record_of_item item.entry) ∷ [])) }
+    ensures calls { streams.new.calls ≡ streams.old.calls }
+    ensures marked { OnOk result (AddsMarked tables.old.steps.entries.entries
+        tables.new.steps.entries.entries (marked_of (placed_frame frame.entry) (record_of_item item.entry))) }
+{
     let named = named_of(item.record);
     let interface = tables.names.interface(item)?;
     let service = tables.names.service(item)?;

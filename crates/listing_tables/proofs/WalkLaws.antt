@@ -1,0 +1,88 @@
+-- Rows that are added to a writer, one after another; and the frames up to the first whose content has a fault.
+use Rattle.std.proofs.Common.{◌≡◌, ℕ, suc, ◌+◌, ◌<◌, All, length, drop, get_or, List, ◌∷◌, ◌++◌, [], take, Option, Some, None, is_some, true, false, refl, ap, sym, subst, ◌∙◌, append_assoc}
+use Rattle.std.proofs.lemmas.Bool.{true≢false}
+use Rattle.std.proofs.lemmas.Grind.{flat_map-append}
+use Rattle.std.proofs.lemmas.List.{append-nil, take-append-drop, take_more}
+use Rattle.std.proofs.lemmas.List.Elements.{recursion_from_All}
+use Rattle.std.proofs.Math.Seq.{drop-cons}
+use Rattle.std.specs.Io.KnownBytes.{Appends}
+use Rattle.std.specs.List.{AllByRecursion, AllZip, flat_map}
+use Rattle.listing_tables.specs.Columns.{AddsRows, row_bytes}
+use Rattle.listing_tables.specs.declared.rows.Column.{Column}
+use Rattle.capture_frame.specs.declared.fault.Fault.{Fault}
+use Rattle.capture_frame.specs.Envelope.{PlacedFrame}
+use Rattle.transaction_view.specs.Grammar.{content_fault, IsGood}
+use Rattle.listing_tables.specs.Walk.{unless_fault, up_to_fault}
+
+appends_none : (known : Option (List ℕ)) → Appends known known []
+appends_none None = tt
+appends_none (Some xs) = sym (append-nil xs)
+
+appends_more : (a b c : Option (List ℕ)) (p q : List ℕ) → Appends a b p → Appends b c q → Appends a c (p ++ q)
+appends_more None b c p q first second = tt
+appends_more (Some xs) None c p q first second = absurd first
+appends_more (Some xs) (Some ys) None p q first second = absurd second
+appends_more (Some xs) (Some ys) (Some zs) p q first second = second ∙ ap (λ l. l ++ q) first ∙ append_assoc xs p q
+
+zip_more : {A B : Type 0} (R : A → B → Type 0) (xs : List A) (rs : List B) (ys : List A) (ss : List B) → AllZip R xs rs → AllZip R ys ss
+    → AllZip R (xs ++ ys) (rs ++ ss)
+zip_more R [] [] ys ss first second = second
+zip_more R [] (r ∷ rs) ys ss first second = absurd first
+zip_more R (x ∷ xs) [] ys ss first second = absurd first
+zip_more R (x ∷ xs) (r ∷ rs) ys ss first second = (first.0, zip_more R xs rs ys ss first.1 second)
+
+module _ {A : Type 0} (IsRow : A → List Column → Type 0) where
+  -- no row is added
+  pub no_rows : (known : Option (List ℕ)) → AddsRows IsRow known known []
+  no_rows known = record { rows = []; are_rows = tt; are = appends_none known }
+
+  -- a row is added
+  pub one_row : (old new : Option (List ℕ)) (thing : A) (row : List Column) → IsRow thing row → Appends old new (row_bytes row)
+      → AddsRows IsRow old new (thing ∷ [])
+  one_row old new thing row is added = record {
+    rows = row ∷ [];
+    are_rows = (is, tt);
+    are = subst (Appends old new) (sym (append-nil (row_bytes row))) added;
+  }
+
+  -- rows are added, and then others
+  pub more_rows : (a b c : Option (List ℕ)) (xs ys : List A) → AddsRows IsRow a b xs → AddsRows IsRow b c ys → AddsRows IsRow a c (xs ++ ys)
+  more_rows a b c xs ys first second = record {
+    rows = first.rows ++ second.rows;
+    are_rows = zip_more IsRow xs first.rows ys second.rows first.are_rows second.are_rows;
+    are = subst (Appends a c) (sym (flat_map-append row_bytes first.rows second.rows))
+        (appends_more a b c (flat_map row_bytes first.rows) (flat_map row_bytes second.rows) first.are second.are);
+  }
+
+-- good frames come before the others
+after_good : (xs ys : List PlacedFrame) → AllByRecursion IsGood xs → up_to_fault (xs ++ ys) ≡ xs ++ up_to_fault ys
+after_good [] ys good = refl
+after_good (x ∷ xs) ys good =
+    ap (λ fault. x ∷ unless_fault fault (up_to_fault (xs ++ ys))) good.0 ∙ ap (λ l. x ∷ l) (after_good xs ys good.1)
+
+-- if all frames are good, all count
+pub all_good : (frames : List PlacedFrame) → All IsGood frames → frames ≡ up_to_fault frames
+all_good frames good =
+    sym (append-nil frames) ∙ sym (after_good frames [] (recursion_from_All IsGood frames good)) ∙ ap up_to_fault (append-nil frames)
+
+-- the frames after a fault do not count
+stops : (fault : Option Fault) (frames : List PlacedFrame) → is_some fault ≡ true → unless_fault fault frames ≡ []
+stops (Some fault) frames is = refl
+stops None frames is = absurd (true≢false (sym is))
+
+-- after good frames comes one whose content has a fault
+pub one_bad : (frames : List PlacedFrame) (i : ℕ) (d : PlacedFrame) → i < length frames → All IsGood (take i frames)
+    → is_some (content_fault (get_or frames i d)) ≡ true → take (i + 1) frames ≡ up_to_fault frames
+one_bad frames i d inside good bad =
+    let last = get_or frames i d in
+    let others = drop (suc i) frames in
+    let rest : up_to_fault (last ∷ others) ≡ last ∷ [] = ap (λ l. last ∷ l) (stops (content_fault last) (up_to_fault others) bad) in
+    take_more frames i d inside ∙ ap (λ l. take i frames ++ l) (sym rest)
+    ∙ sym (after_good (take i frames) (last ∷ others) (recursion_from_All IsGood (take i frames) good))
+    ∙ ap (λ l. up_to_fault (take i frames ++ l)) (sym (drop-cons frames i d inside))
+    ∙ ap up_to_fault (take-append-drop i frames)
+
+-- there is no fault
+pub no_fault : (fault : Option Fault) → is_some fault ≡ false → fault ≡ None
+no_fault None is = refl
+no_fault (Some fault) is = absurd (true≢false is)

@@ -1,0 +1,17 @@
+use Rattle.std.proofs.Common.{◌≡◌, map}
+use Rattle.std.specs.List.{flat_map}
+use Rattle.capture_frame.specs.Envelope.{placed_frame}
+use Rattle.listing_fields.specs.Content.{record_of_item}
+use Rattle.listing_tables.specs.Columns.{AddsRows}
+use Rattle.listing_tables.specs.Steps.{AddsMarked, marked_of}
+use Rattle.listing_tables.specs.Walk.{BeginsWith, record_begin}
+use Rattle.listing_tables.proofs.walk.walk_frame.Given as goal
+
+abbrev pub invariant-loop-item : goal.invariant-loop-item
+invariant-loop-item g l = record {
+  frames : l.streams.frames ≡ l.fn.streams.frames;
+  records : AddsRows BeginsWith l.fn.streams.records l.streams.records (map (record_begin (placed_frame l.frame)) (map record_of_item l.yielded));
+  calls : l.streams.calls ≡ l.fn.streams.calls;
+  marked : AddsMarked l.fn.tables.steps.entries.entries l.tables.steps.entries.entries
+      (flat_map (marked_of (placed_frame l.frame)) (map record_of_item l.yielded));
+}

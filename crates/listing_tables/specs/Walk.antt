@@ -1,0 +1,48 @@
+-- The frames and the records of a capture that the raw tables have, and the rows that are written of them.
+use Rattle.std.specs.Prelude.{ℕ, ◌≡◌, List, [], ◌∷◌, map, take, Option, Some, None}
+use Rattle.capture_frame.specs.Cut.{cut_of}
+use Rattle.capture_frame.specs.declared.fault.Fault.{Fault}
+use Rattle.capture_frame.specs.Envelope.{PlacedFrame}
+use Rattle.capture_frame.specs.Parts.{joined_frames}
+use Rattle.capture_frame.specs.Units.{Placed}
+use Rattle.record_view.specs.Records.{RecordText, records_of}
+use Rattle.transaction_view.specs.Grammar.{content_fault}
+use Rattle.listing_tables.specs.declared.rows.Column.{Column}
+use Rattle.listing_tables.specs.declared.rows.Column.TheVariants.{Number}
+use Rattle.listing_tables.specs.declared.tables.Tables.{Tables}
+use Rattle.listing_tables.specs.Steps.{KeepsAll}
+
+-- these frames, unless there is a fault before them
+abbrev pub unless_fault : Option Fault → List PlacedFrame → List PlacedFrame
+unless_fault None frames = frames
+unless_fault (Some fault) frames = []
+
+-- the frames up to the first one whose content has a fault, and that one
+abbrev pub up_to_fault : List PlacedFrame → List PlacedFrame
+up_to_fault [] = []
+up_to_fault (frame ∷ frames) = frame ∷ unless_fault (content_fault frame) (up_to_fault frames)
+
+-- The frames of these parts that count: those before the first fault of a header, up to the first one whose content has
+-- a fault, and that one. All records of these frames count that come before the fault.
+abbrev pub counted_frames : List (List ℕ) → List PlacedFrame
+counted_frames parts = up_to_fault (joined_frames (cut_of parts).frames)
+
+-- what the row of a frame begins with: its sequence and its place
+abbrev pub frame_begin : PlacedFrame → List Column
+frame_begin frame = Number frame.unit.sequence ∷ Number frame.place ∷ []
+
+-- what the row of a record begins with: its place, and the sequence of its frame
+abbrev pub record_begin : PlacedFrame → Placed RecordText → List Column
+record_begin frame there = Number there.place ∷ Number frame.unit.sequence ∷ []
+
+-- what the rows of a frame's records begin with
+abbrev pub record_begins : PlacedFrame → List (List Column)
+record_begins frame = map (record_begin frame) (records_of frame).units
+
+-- the row begins with these columns
+abbrev pub BeginsWith : List Column → List Column → Type 0
+BeginsWith begin row = take 2 row ≡ begin
+
+-- no record has left a mark yet
+abbrev pub HasNoSteps : Tables → Type 0
+HasNoSteps tables = KeepsAll tables.steps.entries.entries []
