@@ -146,10 +146,12 @@ def answers_to_calls_from_before(s, lines, answers, writes=False, early=False, l
 @case("P1:1", kind="outgoing", early=True)
 def reply_to_a_call_from_before(s, kind, reads=False, early=False):
     service, _ = begun(s, "", thread(100, transaction_of(kind)), early)
+    server = service.main
     if reads:
-        service.main.reads(record(BR_SPAWN_LOOPER))
-    service.main.writes(REPLY)
-    service.main.reads(DONE)
+        server = service.thread(101)
+        server.reads(record(BR_SPAWN_LOOPER))
+    server.writes(REPLY)
+    server.reads(DONE)
 
 
 @case("P2:1", had=[0x7238], frees=[0x7238])
