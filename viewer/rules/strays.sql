@@ -1,6 +1,6 @@
 -- S: strays, and calls that are crossed. M3: sends that an error reply may have ended.
--- needs: database/schema.sql: book_call, finding, raw_call, raw_record, raw_send, raw_thread; ages.sql: begun,
---   process_life; rule.sql: lossy
+-- needs: database/schema.sql: book_call, finding, raw_call, raw_frame, raw_record, raw_send, raw_thread; ages.sql:
+--   begun, process_life; rule.sql: lossy
 -- makes: temporary tables: first_crossed, begun_call; indexes: first_crossed_of
 
 CREATE TEMP TABLE first_crossed AS
@@ -16,13 +16,15 @@ WHERE rule IS NULL AND what = 'crossed' AND c.place = finding.place;
 UPDATE finding SET rule = 'S2', note = 'refused at ' || s.refused FROM raw_send s
 WHERE rule IS NULL AND section = 'strays' AND s.place = finding.place AND s.refused IS NOT NULL;
 -- Of a thread that had calls open when the recording began, as many closers are theirs. It is known of a thread without
--- a frame before the copy of the books.
+-- a frame before the copy of the books. But a thread that reads first may have been in a write since before the
+-- recording, and have sent a call after the copy that no frame has.
 CREATE TEMP TABLE begun_call AS
-SELECT f.id, t.first_seq > b.after AS known, (SELECT count(*) FROM book_call c WHERE c.moment = 'begin'
-    AND c.utid = f.utid AND c.side = iif(r.kind IN (:BC_REPLY, :BC_REPLY_SG), 'served', 'made')) AS n,
-  row_number() OVER (PARTITION BY f.utid, r.kind IN (:BC_REPLY, :BC_REPLY_SG) ORDER BY f.place) AS nth
-FROM finding f JOIN raw_record r USING (place) JOIN raw_thread t ON t.utid = f.utid JOIN begun b ON b.upid = f.upid
-WHERE f.rule IS NULL AND f.section = 'strays';
+SELECT s.id, t.first_seq > b.after AND (s.side = 'served' OR q.direction = :WRITE) AS known,
+  (SELECT count(*) FROM book_call c WHERE (c.moment, c.utid, c.side) = ('begin', s.utid, s.side)) AS n,
+  row_number() OVER (PARTITION BY s.utid, s.side ORDER BY s.place) AS nth
+FROM (SELECT f.id, f.upid, f.utid, f.place, iif(r.kind IN (:BC_REPLY, :BC_REPLY_SG), 'served', 'made') AS side
+    FROM finding f JOIN raw_record r USING (place) WHERE f.rule IS NULL AND f.section = 'strays') s
+  JOIN raw_thread t ON t.utid = s.utid JOIN raw_frame q ON q.seq = t.first_seq JOIN begun b ON b.upid = s.upid;
 UPDATE finding SET rule = CASE
   WHEN EXISTS (SELECT 1 FROM first_crossed c WHERE c.utid = finding.utid AND c.closer < finding.place) THEN 'S3'
   WHEN EXISTS (SELECT 1 FROM begun_call b WHERE b.id = finding.id AND b.nth <= b.n) THEN 'P2'

@@ -113,21 +113,27 @@ def request_from_before(s, had, early=False, again=False):
 
 
 @case("P2:1", lines=["outgoing"], answers=1)
-@case("P2:1 S4:1", lines=["outgoing"], answers=2)
+@case("P2:1 P1:1", lines=["outgoing"], answers=2)
+@case("P2:1 S4:1", lines=["outgoing"], answers=2, writes=True)
 @case("P2:2", lines=["outgoing", "outgoing"], answers=2)
 @case("P2:1", lines=["pending"], answers=1)
 @case("P2:1", lines=["error"], answers=1)
-@case("S4:1", lines=["incoming"], answers=1)
-@case("S4:1", lines=[], answers=1)
-@case("P1:1", lines=[], answers=1, early=True)
+@case("P1:1", lines=["incoming"], answers=1)
+@case("S4:1", lines=["incoming"], answers=1, writes=True)
+@case("P1:1", lines=[], answers=1)
+@case("S4:1", lines=[], answers=1, writes=True)
+@case("P1:1", lines=[], answers=1, writes=True, early=True)
 @case("P2:1", lines=["outgoing"], answers=1, early=True)
 @case("M1:1", lines=[], answers=1, lost=True)
-def answers_to_calls_from_before(s, lines, answers, early=False, lost=False):
+def answers_to_calls_from_before(s, lines, answers, writes=False, early=False, lost=False):
+    """If the client reads first, it may have been in a write since before the recording, which the book lacks too."""
     told = ["transaction error: 29189" if kind == "error" else transaction_of(kind, int(kind != "pending"))
             for kind in lines]
     _, client = begun(s, thread(200, *told), early=early)
     if lost:
         s.loses(client)
+    if writes:
+        client.main.writes(ENTER)
     for _ in range(answers):
         address = client.address()
         client.main.reads(Sent(None, 0, 0, b"", b"").record(BR_REPLY, 0, address))
@@ -136,11 +142,16 @@ def answers_to_calls_from_before(s, lines, answers, early=False, lost=False):
 
 @case("P2:1", kind="incoming")
 @case("S4:1", kind="outgoing")
+@case("S4:1", kind="outgoing", reads=True)
 @case("P1:1", kind="outgoing", early=True)
-def reply_to_a_call_from_before(s, kind, early=False):
+def reply_to_a_call_from_before(s, kind, reads=False, early=False):
     service, _ = begun(s, "", thread(100, transaction_of(kind)), early)
-    service.main.writes(REPLY)
-    service.main.reads(DONE)
+    server = service.main
+    if reads:
+        server = service.thread(101)
+        server.reads(record(BR_SPAWN_LOOPER))
+    server.writes(REPLY)
+    server.reads(DONE)
 
 
 @case("P2:1", had=[0x7238], frees=[0x7238])
