@@ -38,7 +38,7 @@ store= arm64= rust= sanitize= blind=
 acceleration='-accel tcg,thread=single -cpu max'
 series=(6.1 6.12 newest)
 only=()
-stored_of_rust=(clean leaks objects deaths threads oneway errors freeze before cut outsider two-drivers)
+stored_of_rust=(clean leaks objects deaths oneway before cut fork outsider two-drivers)
 # shellcheck source=checks/recorder/guests.sh
 source "$root/checks/recorder/guests.sh"
 # shellcheck source=checks/recorder/rust_kernel.sh

@@ -79,6 +79,8 @@ def groups_of(database: sqlite3.Connection) -> list[tuple[str, ...]]:
 
 
 def groups_due(scenario: str) -> list[tuple[str, ...]]:
+    """The groups of a stored capture. One of the driver in Rust, NAME-rust, has those of NAME, or lines of its own."""
     lines = (CHECKS / "recorder/driver/verdicts.txt").read_text().splitlines()
     rows = [line.split("\t") for line in lines if not line.startswith("#")]
-    return sorted(tuple(row[2:]) for row in rows if row[0] == scenario)
+    name = scenario if any(row[0] == scenario for row in rows) else scenario.removesuffix("-rust")
+    return sorted(tuple(row[2:]) for row in rows if row[0] == name)
