@@ -6,10 +6,12 @@ mod failure;
 mod parts;
 mod reading;
 mod run_error;
+mod stretches;
 mod writing;
 
 pub use crate::failure::Failure;
 pub use crate::parts::read_parts;
 pub use crate::reading::read_capture;
 pub use crate::run_error::RunError;
+pub use crate::stretches::{Stretches, read_stretches};
 pub use crate::writing::write_text;

@@ -1,5 +1,5 @@
 -- The frames of a capture in parts, up to the first fault (docs/ENVELOPE.md).
-use Rattle.std.specs.Prelude.{ℕ, suc, ◌==◌, nat_eq, nat_le, Bool, if◌then◌else◌, List, [], ◌∷◌, ◌++◌, length, drop, Option, Some, None, Result, Ok, Err}
+use Rattle.std.specs.Prelude.{◌≡◌, ℕ, suc, ◌==◌, nat_eq, nat_le, Bool, if◌then◌else◌, List, [], ◌∷◌, ◌++◌, length, drop, Option, Some, None, Result, Ok, Err, ⊤}
 use Rattle.std.specs.List.{starts_with, flat_map}
 use Rattle.std.specs.Option.{option_map}
 use Rattle.capture_frame.specs.declared.fault.Fault.{Fault}
@@ -74,6 +74,20 @@ parts_read parser last (part ∷ parts) =
 abbrev pub joined_frames : List FrameText → List PlacedFrame
 joined_frames frames = placed frame_width file_header_length frames
 
--- the joined capture, of version 2: one file header, and then what follows the file header of each part
+-- the joined capture of this version: one file header, and then what follows the file header of each part
+abbrev pub joined_as : Version → List (List ℕ) → List ℕ
+joined_as version parts = file_header version ++ flat_map (λ part. drop file_header_length part) parts
+
+-- the joined capture, of version 2
 abbrev pub joined : List (List ℕ) → List ℕ
-joined parts = file_header Two ++ flat_map (λ part. drop file_header_length part) parts
+joined parts = joined_as Two parts
+
+-- what is a frame in this other version is one in this version
+abbrev pub Takes : Version → Version → Type 0
+Takes Two other = ⊤
+Takes One One = ⊤
+Takes One Two = ⊥
+
+-- a good file header of the part names a version whose frames this version takes
+abbrev pub TakesPart : Version → List ℕ → Type 0
+TakesPart version part = (named : Version) → header_at part ≡ Ok named → Takes version named

@@ -22,7 +22,7 @@ pub use fault::{Fault, FaultKind, PartFault};
 pub use frame::Frame;
 pub use frame_list::{FrameList, FrameSlice};
 pub use frames::Frames;
-pub use header::FILE_HEADER;
+pub use header::{FILE_HEADER, check_header};
 pub use number::{u32_at, u64_at};
 pub use process::{Process, Thread};
 pub use version::Version;

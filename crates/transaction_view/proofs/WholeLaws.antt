@@ -232,7 +232,7 @@ first_good place (Ok other) frame is =
       | Some fault ↦ λ bad. λ same. absurd (cc)
     ] refl is
 
--- a frame that is good with its content is so at every place, in version 2, and before more bytes
+-- a frame that is good with its content is so at every place, in every version that takes its own, and before more bytes
 pub whole_wide : IsWide whole_parser
 whole_wide = record {
   widths = record {
@@ -240,9 +240,9 @@ whole_wide = record {
     fits = λ before place bytes frame is. frame_widths.fits before place bytes frame (first_good place (at_place place (frame_at before bytes)) frame is).0;
   };
   after = λ before frame. refl;
-  stays = λ before place other bytes more frame is.
+  stays = λ version before place other bytes more frame takes is.
       let both = first_good place (at_place place (frame_at before bytes)) frame is in
       ap (λ (found : Result FrameText FaultKind). with_content other (at_place other found))
-      (frame_stays before bytes more frame (found_there place (frame_at before bytes) frame both.0))
+      (frame_stays version before bytes more frame takes (found_there place (frame_at before bytes) frame both.0))
       ∙ ap (λ (c : Option Fault). unless c frame) (good_anywhere place other frame both.1);
 }

@@ -5,7 +5,8 @@ ghost use Rattle.std.specs.List.{flat_map};
 ghost use Rattle.capture_frame.specs.declared.fault.Fault.{Fault};
 ghost use Rattle.capture_frame.specs.Calls.{Calls, GiveInOrder};
 ghost use Rattle.capture_frame.specs.Envelope.{FrameText, PlacedFrame, attachments_place, commands_place, frame_bytes};
-ghost use Rattle.capture_frame.specs.Parts.{joined};
+ghost use Rattle.capture_frame.specs.Parts.{header_at, joined, joined_as};
+ghost use Rattle.capture_frame.specs.declared.version.Version.{Version};
 ghost use Rattle.capture_frame.specs.ReadOn.{Parsed};
 ghost use Rattle.capture_frame.specs.Readers.{GivesUnit, last_result};
 ghost use Rattle.capture_frame.specs.Units.{IsBytes, units_of};
@@ -34,10 +35,14 @@ pub fn printed()
         ≡ flat_map (entry_bytes (commands_place frame.place)) (units_of (entries_of frame).units) }
 {}
 
-/// Parts without a fault are, frame by frame, their joined capture.
+/// Parts without a fault are, frame by frame, their joined capture; and if all of them are of one
+/// version, that of this version too.
 pub fn joined_parts()
     ensures { (parts : List (List ℕ)) → (wholes_of parts).fault ≡ None →
         frames_of_parts parts ≡ frames_of_parts (joined parts ∷ []) }
+    ensures of_one_version { (version : Version) (parts : List (List ℕ)) →
+        All (λ part. header_at part ≡ Ok version) parts → (wholes_of parts).fault ≡ None →
+        frames_of_parts parts ≡ frames_of_parts (joined_as version parts ∷ []) }
 {}
 
 /// Call a reader again and again. It gives the entries ahead in order, each with its place, and

@@ -1,0 +1,348 @@
+//! Reads a capture in stretches, by several threads at once.
+ghost use Rattle.std.specs.Prelude.{◌≡◌, ◌<◌, ◌≤◌, ◌+◌, ◌-◌, ◌^◌, ◌++◌, ℕ, List, length, map, drop, take, Ok, Option, All, IfOk, IfErr, IfSome, IsTrue, vec_len};
+ghost use Rattle.std.specs.List.{flat_map};
+ghost use Rattle.std.specs.Thread.{IsSync};
+ghost use Rattle.capture_frame.specs.Envelope.{file_header};
+ghost use Rattle.capture_frame.specs.Parts.{header_at};
+ghost use Rattle.audit_streams.specs.Parts.{bytes_of};
+ghost use Rattle.audit_streams.specs.Stretches.{ArePartsOf, AreStretchesOf, IsStretch, IsStretchError};
+
+use crate::run_error::RunError;
+use capture_frame::{FILE_HEADER, Frames, Version, check_header};
+use std::alloc::Global;
+use std::thread;
+use std::thread::Threads;
+
+/// How many bytes are looked through for the beginning of a frame.
+const WINDOW: usize = 65_536;
+
+/// So many frames in a row are taken for frames.
+const IN_A_ROW: usize = 8;
+
+/// What can be read from any place on, by several threads at once.
+pub trait Stretches {
+    /// All its bytes, if a contract can say which these are.
+    ghost known: { Self → Option (List ℕ) };
+
+    /// Its bytes from `start` on: `most` of them, or fewer where it ends.
+    fn bytes(&self, alloc: Global, start: u64, most: usize) -> Result<Vec<u8>, RunError>
+        ensures bytes { IfOk result (λ bytes. IsStretch (known self.now) start most bytes.items) }
+        ensures faults { IfErr result IsStretchError };
+}
+
+/// The bytes from `start` on that are before `end`.
+#[derive(Clone, Copy)]
+struct Stretch {
+    start: u64,
+    end: u64,
+}
+
+/// Reads a capture by several threads at once, each a stretch of it, as parts of a capture: each
+/// stretch follows the file header of the capture. `size` is how many bytes the capture seems to
+/// have; it is read to its end all the same. None if it has no good file header, or if the parts
+/// would pass the limit together.
+///
+/// A stretch begins where a frame seems to begin, so that each part is good if the capture is. That
+/// is a guess, and nothing rests on it.
+pub fn read_stretches<T: Threads + Sync, F: Stretches + Sync>(
+    rt: &T,
+    alloc: Global,
+    file: &F,
+    size: u64,
+    limit: usize,
+    threads: u64,
+) -> Result<Option<Vec<Vec<u8>>>, RunError>
+    requires { limit < 2 ^ 62 }
+    ensures read { IfOk result (λ found. IfSome found (λ parts.
+        AreStretchesOf limit (F.known file.now) (map (λ part. part.items) parts.items))) }
+    ensures faults { IfErr result IsStretchError }
+{
+    let head = file.bytes(alloc, 0, FILE_HEADER)?;
+    let Some(version) = version_of(head.as_slice()) else {
+        return Ok(None);
+    };
+    let most = limit as u64;
+    if size < FILE_HEADER as u64 || most < size {
+        return Ok(None);
+    }
+    let first = Stretch {
+        start: FILE_HEADER as u64,
+        end: size,
+    };
+    let rest = Stretch {
+        start: size,
+        end: most + 1,
+    };
+    let parts = read_side_by_side(rt, alloc, file, head.as_slice(), first, threads)?;
+    let rest = part_of(alloc, file, head.as_slice(), rest)?;
+    let parts = with_rest(parts, rest)?;
+    match of_one_capture(parts, version, limit) {
+        Some(parts) => Ok(Some(parts)),
+        None => Ok(None),
+    }
+}
+
+/// The parts, if the file headers of all of them name this version, and if they are within the limit
+/// together.
+fn of_one_capture(parts: Vec<Vec<u8>>, version: Version, limit: usize) -> Option<Vec<Vec<u8>>>
+    ensures same { IfSome result (λ all. all.items ≡ parts.items) }
+    ensures version { IfSome result (λ all.
+        All (λ part. header_at part ≡ Ok version) (map (λ part. part.items) all.items)) }
+    ensures within { IfSome result (λ all.
+        16 + bytes_of (map (λ part. part.items) all.items) ≤ limit) }
+{
+    if are_of(parts.as_slice(), version) && are_within(parts.as_slice(), limit) {
+        return Some(parts);
+    }
+    None
+}
+
+/// The version that a file header names, if it is good.
+fn version_of(part: &[u8]) -> Option<Version>
+    ensures named { IfSome result (λ version. header_at part.now ≡ Ok version) }
+    ensures printed { IfSome result (λ version. take 16 part.now ≡ file_header version) }
+{
+    match check_header(part) {
+        Ok(version) => Some(version),
+        Err(_) => None,
+    }
+}
+
+/// Whether the file header of a part names this version.
+fn is_of(part: &[u8], version: Version) -> bool
+    ensures { IsTrue result → header_at part.now ≡ Ok version }
+{
+    matches!(
+        (version_of(part), version),
+        (Some(Version::One), Version::One) | (Some(Version::Two), Version::Two)
+    )
+}
+
+/// Whether the file headers of all parts name this version.
+fn are_of(parts: &[Vec<u8>], version: Version) -> bool
+    ensures { IsTrue result →
+        All (λ part. header_at part ≡ Ok version) (map (λ part. part.items) parts.now) }
+{
+    for part in parts {
+        if !is_of(part.as_slice(), version) {
+            return false;
+        }
+    }
+    true
+}
+
+/// Whether the parts are within the limit together, with one more file header.
+fn are_within(parts: &[Vec<u8>], limit: usize) -> bool
+    ensures { IsTrue result → 16 + bytes_of (map (λ part. part.items) parts.now) ≤ limit }
+{
+    if limit < FILE_HEADER {
+        return false;
+    }
+    let mut left = limit - FILE_HEADER;
+    for part in parts {
+        if left < part.len() {
+            return false;
+        }
+        left -= part.len();
+    }
+    true
+}
+
+/// Reads a stretch by several threads at once: the stretch and the threads are halved as long as
+/// there are two threads. The parts come in order.
+fn read_side_by_side<T: Threads + Sync, F: Stretches + Sync>(
+    rt: &T,
+    alloc: Global,
+    file: &F,
+    head: &[u8],
+    stretch: Stretch,
+    threads: u64,
+) -> Result<Vec<Vec<u8>>, RunError>
+    requires after { 16 ≤ stretch.start }
+    requires some { stretch.start ≤ stretch.end }
+    requires fits { stretch.end < 2 ^ 63 }
+    ensures read { IfOk result (λ parts. ArePartsOf (F.known file.now) stretch.start
+        (stretch.end - stretch.start) (map (λ part. part.items) parts.items)) }
+    ensures faults { IfErr result IsStretchError }
+{
+    if threads < 2 {
+        return one_part(alloc, file, head, stretch);
+    }
+    let some = threads / 2;
+    let others = threads - some;
+    let Some(seam) = seam_in(alloc, file, head, stretch)? else {
+        return one_part(alloc, file, head, stretch);
+    };
+    let front = Stretch {
+        start: stretch.start,
+        end: seam,
+    };
+    let back = Stretch {
+        start: seam,
+        end: stretch.end,
+    };
+    let (first, second) = thread::join(
+        rt,
+        || -> Result<Vec<Vec<u8>>, RunError>
+            requires { IsSync T.row × IsSync F.row × (16 ≤ front.start)
+                × (front.start ≤ front.end) × (front.end < 2 ^ 63) }
+            ensures { IfOk result (λ parts. ArePartsOf (F.known file.entry.now) front.start
+                (front.end - front.start) (map (λ part. part.items) parts.items))
+                × IfErr result IsStretchError }
+        { read_side_by_side(rt, alloc, file, head, front, some) },
+        || -> Result<Vec<Vec<u8>>, RunError>
+            requires { IsSync T.row × IsSync F.row × (16 ≤ back.start)
+                × (back.start ≤ back.end) × (back.end < 2 ^ 63) }
+            ensures { IfOk result (λ parts. ArePartsOf (F.known file.entry.now) back.start
+                (back.end - back.start) (map (λ part. part.items) parts.items))
+                × IfErr result IsStretchError }
+        { read_side_by_side(rt, alloc, file, head, back, others) },
+    );
+    both_halves(file, first, second, front, back)
+}
+
+/// What both halves have read, or the error of one.
+fn both_halves<F: Stretches>(
+    file: &F,
+    first: Result<Vec<Vec<u8>>, RunError>,
+    second: Result<Vec<Vec<u8>>, RunError>,
+    front: Stretch,
+    back: Stretch,
+) -> Result<Vec<Vec<u8>>, RunError>
+    requires next { (front.start ≤ front.end) × (back.start ≡ front.end)
+        × (back.start ≤ back.end) }
+    requires first { IfOk first (λ parts. ArePartsOf (F.known file.now) front.start
+        (front.end - front.start) (map (λ part. part.items) parts.items)) }
+    requires second { IfOk second (λ parts. ArePartsOf (F.known file.now) back.start
+        (back.end - back.start) (map (λ part. part.items) parts.items)) }
+    requires faults { IfErr first IsStretchError × IfErr second IsStretchError }
+    ensures read { IfOk result (λ parts. ArePartsOf (F.known file.now) front.start
+        (back.end - front.start) (map (λ part. part.items) parts.items)) }
+    ensures faults { IfErr result IsStretchError }
+{
+    let mut all = first?;
+    let mut others = second?;
+    all.append(&mut others).map_err(|_| RunError::Memory)?;
+    Ok(all)
+}
+
+/// A list of one part, which is the whole stretch.
+fn one_part<F: Stretches>(
+    alloc: Global,
+    file: &F,
+    head: &[u8],
+    stretch: Stretch,
+) -> Result<Vec<Vec<u8>>, RunError>
+    requires after { 16 ≤ stretch.start }
+    requires some { stretch.start ≤ stretch.end }
+    requires fits { stretch.end < 2 ^ 63 }
+    ensures read { IfOk result (λ parts. ArePartsOf (F.known file.now) stretch.start
+        (stretch.end - stretch.start) (map (λ part. part.items) parts.items)) }
+    ensures faults { IfErr result IsStretchError }
+{
+    let part = part_of(alloc, file, head, stretch)?;
+    let mut parts = Vec::new(alloc);
+    parts.push(part).map_err(|_| RunError::Memory)?;
+    Ok(parts)
+}
+
+/// A stretch as a part. The bytes before it make room for its file header.
+fn part_of<F: Stretches>(
+    alloc: Global,
+    file: &F,
+    head: &[u8],
+    stretch: Stretch,
+) -> Result<Vec<u8>, RunError>
+    requires after { 16 ≤ stretch.start }
+    requires some { stretch.start ≤ stretch.end }
+    requires fits { stretch.end < 2 ^ 63 }
+    ensures read { IfOk result (λ part. IsStretch (F.known file.now) stretch.start
+        (stretch.end - stretch.start) (drop 16 part.items)) }
+    ensures faults { IfErr result IsStretchError }
+{
+    let most = (stretch.end - stretch.start) as usize + FILE_HEADER;
+    let mut part = file.bytes(alloc, stretch.start - FILE_HEADER as u64, most)?;
+    put_header(part.as_mut_slice(), head);
+    Ok(part)
+}
+
+/// Puts a file header over the first bytes, if there are as many.
+fn put_header(bytes: &mut [u8], head: &[u8])
+    ensures after { drop 16 bytes.new ≡ drop 16 bytes.old }
+    ensures long { length bytes.new ≡ length bytes.old }
+{
+    if bytes.len() < FILE_HEADER || head.len() != FILE_HEADER {
+        return;
+    }
+    let (front, _) = bytes.split_at_mut(FILE_HEADER);
+    front.copy_from_slice(head);
+}
+
+/// The parts, and the rest of the capture as one more if there is any.
+fn with_rest(parts: Vec<Vec<u8>>, rest: Vec<u8>) -> Result<Vec<Vec<u8>>, RunError>
+    ensures read { IfOk result (λ all. (vec_len parts ≤ vec_len all)
+        × (flat_map (drop 16) (map (λ part. part.items) all.items)
+        ≡ flat_map (drop 16) (map (λ part. part.items) parts.items) ++ drop 16 rest.items)) }
+    ensures faults { IfErr result IsStretchError }
+{
+    let mut all = parts;
+    if FILE_HEADER < rest.len() {
+        all.push(rest).map_err(|_| RunError::Memory)?;
+    }
+    Ok(all)
+}
+
+/// Where a frame seems to begin after the middle of the stretch, if one is found.
+fn seam_in<F: Stretches>(
+    alloc: Global,
+    file: &F,
+    head: &[u8],
+    stretch: Stretch,
+) -> Result<Option<u64>, RunError>
+    requires after { 16 ≤ stretch.start }
+    requires some { stretch.start ≤ stretch.end }
+    requires fits { stretch.end < 2 ^ 63 }
+    ensures within { IfOk result (λ found. IfSome found (λ seam.
+        (stretch.start ≤ seam) × (seam ≤ stretch.end))) }
+    ensures faults { IfErr result IsStretchError }
+{
+    let middle = stretch.start + (stretch.end - stretch.start) / 2;
+    let before = middle - FILE_HEADER as u64;
+    let mut window = file.bytes(alloc, before, WINDOW)?;
+    let Some(at) = guess(window.as_mut_slice(), head) else {
+        return Ok(None);
+    };
+    let seam = before + at as u64;
+    if stretch.end < seam {
+        return Ok(None);
+    }
+    Ok(Some(seam))
+}
+
+/// Where frames seem to begin in these bytes. What is before that place is written over.
+fn guess(bytes: &mut [u8], head: &[u8]) -> Option<usize>
+    ensures { IfSome result (λ at. (16 ≤ at) × (at ≤ length bytes.old)) }
+{
+    for at in FILE_HEADER..bytes.len() {
+        let rest = &mut bytes[at - FILE_HEADER..];
+        put_header(rest, head);
+        if seem_frames(rest) {
+            return Some(at);
+        }
+    }
+    None
+}
+
+/// Whether a capture begins with so many good frame headers.
+fn seem_frames(capture: &[u8]) -> bool {
+    let Ok(mut frames) = Frames::new(capture) else {
+        return false;
+    };
+    for _ in 0..IN_A_ROW {
+        match frames.next_frame() {
+            Ok(Some(_)) => {}
+            Ok(None) | Err(_) => return false,
+        }
+    }
+    true
+}
