@@ -40,8 +40,9 @@ pub fn cut<'c>(alloc: Global, capture: &'c [u8]) -> Result<Vec<Frame<'c>>, Cut<'
 
 /// All frames of all parts of a capture, in order, each at its place in the joined capture.
 /// Otherwise the first fault of the parts as far as the headers say, with the frames before it; or
-/// `Memory`, about which the contract says nothing. There must be fewer than 2^32 parts, and their
-/// lengths together must fit 64 bits.
+/// `Memory`, about which the contract says nothing. `Memory` is the answer too where a frame begins
+/// at 2^32 or later. The programs never meet this: they read at most 1 GiB. There must be fewer than
+/// 2^32 parts, and their lengths together must fit 64 bits.
 pub fn cut_parts<'c>(alloc: Global, parts: &[&'c [u8]]) -> Result<FrameList<'c>, PartCut<'c>>
     requires few { length parts.now < 2 ^ 32 }
     requires fits { sum_by length (map (λ part. part.now) parts.now) < 2 ^ 64 }
@@ -82,7 +83,7 @@ pub fn cut_parts<'c>(alloc: Global, parts: &[&'c [u8]]) -> Result<FrameList<'c>,
 /// it is added to the places of the part's frames, and not to the place of a fault.
 fn push_part<'c>(
     row: &mut Vec<PartBytes<'c>>,
-    places: &mut Vec<u64>,
+    places: &mut Vec<u32>,
     part: &'c [u8],
     base: u64,
     before: Option<u64>,
@@ -112,7 +113,10 @@ fn push_part<'c>(
         match reader.next_frame() {
             Ok(Some(frame)) => {
                 last = Some(frame.sequence);
-                if places.push(frame.place).is_err() {
+                let Ok(place) = u32::try_from(frame.place) else {
+                    return Err(Stopped::Memory);
+                };
+                if places.push(place).is_err() {
                     return Err(Stopped::Memory);
                 }
             }

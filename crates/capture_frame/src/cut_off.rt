@@ -5,7 +5,7 @@ use crate::frame_list::FrameList;
 /// Why not all frames of a capture are given.
 #[derive(Drop)]
 pub enum Cut<'c> {
-    /// A growth of memory was refused.
+    /// A growth of memory was refused, or a frame begins at 2^32 or later.
     Memory,
     /// The capture has a fault.
     Bad {
@@ -19,7 +19,7 @@ pub enum Cut<'c> {
 /// Why not all frames of parts are given.
 #[derive(Drop)]
 pub enum PartCut<'c> {
-    /// A growth of memory was refused.
+    /// A growth of memory was refused, or a frame begins at 2^32 or later.
     Memory,
     /// A part has a fault.
     Bad {

@@ -19,12 +19,12 @@ pub(crate) struct PartBytes<'c> {
 }
 
 /// The frames of a capture that is read in parts, in order. Only the place of each frame is kept,
-/// in eight bytes; the frame is read again from the capture when it is asked for. In contracts the
+/// in four bytes; the frame is read again from the capture when it is asked for. In contracts the
 /// value is the list of frames: what each says, and where it begins (`PlacedFrame`).
 #[derive(Drop)]
 pub struct FrameList<'c> {
     parts: Vec<PartBytes<'c>>,
-    places: Vec<u64>,
+    places: Vec<u32>,
 }
 
 impl<'c> Model for FrameList<'c> {
@@ -43,7 +43,7 @@ impl<'c> FrameList<'c> {
     ghost use Rattle.capture_frame.specs.FrameList.{AreKept, bodies, frames_at};
 
     /// The frames at these places of the parts.
-    pub(crate) fn of(parts: Vec<PartBytes<'c>>, places: Vec<u64>) -> FrameList<'c>
+    pub(crate) fn of(parts: Vec<PartBytes<'c>>, places: Vec<u32>) -> FrameList<'c>
         requires { AreKept parts.items places.items }
         ensures { result ≡ frames_at (bodies parts.entry.items) places.items }
     {
@@ -65,7 +65,7 @@ impl<'c> FrameList<'c> {
 #[derive(Drop)]
 pub struct FrameSlice<'f, 'c> {
     parts: &'f [PartBytes<'c>],
-    places: &'f [u64],
+    places: &'f [u32],
 }
 
 impl<'f, 'c> Model for FrameSlice<'f, 'c> {
@@ -107,7 +107,7 @@ impl<'f, 'c> FrameSlice<'f, 'c> {
             result ≡ frame.place }
     {
         let places = self.places;
-        places[number]
+        u64::from(places[number])
     }
 
     /// The frame with this number, from 0. It is read again.
@@ -116,7 +116,7 @@ impl<'f, 'c> FrameSlice<'f, 'c> {
         ensures { slice_get self.now number ≡ Some (placed_frame result) }
     {
         let places = self.places;
-        let place = places[number];
+        let place = u64::from(places[number]);
         let bytes = bytes_from(self.parts, place);
         // It was judged when it was listed, so its fields are read alone.
         frame_of(bytes, place)
@@ -169,9 +169,9 @@ impl<'f, 'c> FrameSlice<'f, 'c> {
         ensures { IsSplitAt self.now place result }
     {
         self.places.partition_point(
-            |start: &u64| -> bool
+            |start: &u32| -> bool
                 ensures { result ≡ leb start.now place }
-            { *start <= place },
+            { u64::from(*start) <= place },
         )
     }
 

@@ -7,7 +7,8 @@ use Rattle.capture_frame.proofs.all_frames.push_part.Goals as goal
 pub loop-frame-preserved : goal.loop-frame-preserved
 loop-frame-preserved c =
     let some : c.in-Ok-Some.field-0 ≡ Some c.in-Ok-Some.frame = cc in
-    let items : c.push-in-Ok-Some.new.self.items ≡ c.loop-frame.places.items ++ c.in-Ok-Some.frame.place ∷ [] = rw c.if-is_err-2.ensures.negation at c.push-in-Ok-Some.ensures.items in
+    let items : c.push-in-Ok-Some.new.self.items ≡ c.loop-frame.places.items ++ c.in-Ok-Some.frame.place ∷ []
+    = rw (c.if-is_err-2.ensures.negation, c.in-Ok-try_from.ensures.1) at c.push-in-Ok-Some.ensures.items in
     subst (λ (l : List ℕ). HasPushed c.args.part.now c.args.base c.args.before (Some c.in-Ok-Some.frame.sequence) c.next_frame.new.self c.args.places.now.items l)
     (sym items)
     (pushed_next c.args.part.now c.args.base c.args.before c.loop-frame.last c.loop-frame.reader c.next_frame.new.self c.args.places.now.items
