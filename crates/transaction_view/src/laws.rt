@@ -38,7 +38,7 @@ pub fn printed()
 /// Parts without a fault are, frame by frame, their joined capture; and if all of them are of one
 /// version, that of this version too.
 pub fn joined_parts()
-    ensures { (parts : List (List ℕ)) → (wholes_of parts).fault ≡ None →
+    ensures joined { (parts : List (List ℕ)) → (wholes_of parts).fault ≡ None →
         frames_of_parts parts ≡ frames_of_parts (joined parts ∷ []) }
     ensures of_one_version { (version : Version) (parts : List (List ℕ)) →
         All (λ part. header_at part ≡ Ok version) parts → (wholes_of parts).fault ≡ None →
