@@ -1,5 +1,5 @@
 //! What the auditor answers to a command line.
-use audit_program::program;
+use audit_program::{SharedFiles, program};
 use std::alloc::{AllocError, Global};
 use std::fs::Files;
 use std::io;
@@ -29,7 +29,7 @@ impl Answer {
 }
 
 /// The answer to the words of this line, which are separated by one tab each.
-pub(crate) fn answer_to<T: Files + Threads + Sync>(
+pub(crate) fn answer_to<T: Files + SharedFiles + Threads + Sync>(
     rt: &T,
     alloc: Global,
     line: &str,

@@ -1,5 +1,6 @@
 //! A case: a command line, or a capture that is audited with several numbers of workers and pieces.
 use crate::answers::{Answer, answer_to};
+use audit_program::SharedFiles;
 use std::alloc::{AllocError, Global};
 use std::fs::Files;
 use std::io;
@@ -15,7 +16,7 @@ const PIECES: &[u64] = &[1, 2, 3, 4, 5, 6, 7, 8, 256];
 /// Prints a line and the answer to it. If the line is `all` and one or more files, each after a
 /// tab, a report is made with each of `WORKERS` and each of `PIECES`. The first answer is printed,
 /// and then `differs` if they are not alike.
-pub(crate) fn run_case<T: Files + Threads + Sync, W: Write>(
+pub(crate) fn run_case<T: Files + SharedFiles + Threads + Sync, W: Write>(
     rt: &T,
     alloc: Global,
     line: &str,
@@ -29,7 +30,7 @@ pub(crate) fn run_case<T: Files + Threads + Sync, W: Write>(
     }
 }
 
-fn run_all<T: Files + Threads + Sync, W: Write>(
+fn run_all<T: Files + SharedFiles + Threads + Sync, W: Write>(
     rt: &T,
     alloc: Global,
     file: &str,
@@ -44,7 +45,7 @@ fn run_all<T: Files + Threads + Sync, W: Write>(
 }
 
 /// Whether each number of workers and each piece gives this answer.
-fn all_give<T: Files + Threads + Sync>(
+fn all_give<T: Files + SharedFiles + Threads + Sync>(
     rt: &T,
     alloc: Global,
     file: &str,
@@ -61,7 +62,7 @@ fn all_give<T: Files + Threads + Sync>(
     Ok(alike)
 }
 
-fn report<T: Files + Threads + Sync>(
+fn report<T: Files + SharedFiles + Threads + Sync>(
     rt: &T,
     alloc: Global,
     file: &str,

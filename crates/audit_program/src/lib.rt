@@ -7,3 +7,4 @@ pub mod laws;
 mod status;
 
 pub use crate::status::{Ending, ended, program, program_on};
+pub use audit_streams::SharedFiles;

@@ -8,7 +8,7 @@ ghost use Rattle.audit_program.specs.Program.{EndsOn, HostProgramEnds, ProgramEn
 
 use crate::answers::answer_words;
 use audit_run::{HostFiles, Store};
-use audit_streams::{Failure, RunError};
+use audit_streams::{Failure, RunError, SharedFiles};
 use std::alloc::{AllocError, Global};
 use std::env::Args;
 use std::fs::Files;
@@ -28,7 +28,7 @@ pub struct Ending {
 
 /// `program_on` the files of the system: does what the words ask for, and gives the status that the
 /// process must end with.
-pub fn program<T: Files + Threads + Sync, W: Write, E: Write>(
+pub fn program<T: Files + SharedFiles + Threads + Sync, W: Write, E: Write>(
     rt: &T,
     alloc: Global,
     words: &[String],
@@ -74,7 +74,7 @@ fn ended_by<E: Write>(failure: Failure, err: &mut E) -> Ending
 
 /// `program` on the words of the process, as the system gave them. If the system could not give
 /// them, the status is that of `Memory` or of `Usage`.
-pub fn ended<T: Files + Threads + Sync, W: Write, E: Write>(
+pub fn ended<T: Files + SharedFiles + Threads + Sync, W: Write, E: Write>(
     rt: &T,
     alloc: Global,
     words: io::Result<Args>,
@@ -101,7 +101,7 @@ fn words_failure(kind: ErrorKind) -> Failure
 }
 
 /// `program` on words that are not yet in a list.
-fn program_on_args<T: Files + Threads + Sync, W: Write, E: Write>(
+fn program_on_args<T: Files + SharedFiles + Threads + Sync, W: Write, E: Write>(
     rt: &T,
     alloc: Global,
     words: Args,

@@ -1,2 +1,3 @@
 pub mod AnswerLaws
 pub mod RunLaws
+pub mod StretchRunLaws

@@ -80,6 +80,13 @@ open_next name_of bytes_of remaining files readers reader i default inside each 
     rw (take_more files i default inside, map-append name_of (take i files) (get_or files i default ∷ []))
     (has_next bytes_of remaining (map name_of (take i files)) readers (name_of (get_or files i default)) reader each one)
 
+-- there are as many readers as files
+pub a_reader_each : {F R : Type 0} (name_of : F → List ℕ) (bytes_of : List ℕ → Option (List ℕ)) (remaining : R → Option (List ℕ)) (files : List F)
+    (readers : List R) → AllZip HasLeft (map bytes_of (map name_of files)) (map remaining readers) → length readers ≡ length files
+a_reader_each name_of bytes_of remaining files readers each =
+    sym (length-map readers remaining) ∙ AllZip-long HasLeft (map bytes_of (map name_of files)) (map remaining readers) each
+    ∙ length-map (map name_of files) bytes_of ∙ length-map files name_of
+
 -- there are as many parts as readers
 pub a_part_each : {R : Type 0} (remaining : R → Option (List ℕ)) (readers : List R) (parts : List (Vec ℕ Global))
     → AllZip IsAllOf (map remaining readers) (map (λ (part : Vec ℕ Global). part.items) parts) → length parts ≡ length readers

@@ -1,8 +1,9 @@
 -- What reading gives of a capture in several parts, one from each reader or from each file.
-use Rattle.std.specs.Prelude.{ℕ, List, All, Option, Result, Ok, Err, ⊤}
+use Rattle.std.specs.Prelude.{ℕ, List, [], ◌∷◌, All, Option, Result, Ok, Err, ⊤}
 use Rattle.capture_frame.specs.Units.{IsBytes}
 use Rattle.audit_join.specs.declared.limits.TheConstants.{CAPTURE_LIMIT}
 use Rattle.audit_streams.specs.Parts.{AreRead, ArePastLimit}
+use Rattle.audit_streams.specs.Stretches.{AreStretchesOf}
 use Rattle.audit_streams.specs.declared.run_error.RunError.{RunError}
 use Rattle.audit_streams.specs.declared.run_error.RunError.TheVariants.{Memory, TooLarge, Read, Write, Open}
 
@@ -23,6 +24,11 @@ ReadersGive had (Err Open) = ⊥
 abbrev pub FilesGive : List (Option (List ℕ)) → Result (List (List ℕ)) RunError → Type 0
 FilesGive had (Err Open) = ⊤
 FilesGive had given = ReadersGive had given
+
+-- parts that were read as stretches of the one file, if there is one file, with these bytes
+abbrev pub AreOfOneFile : List (Option (List ℕ)) → List (List ℕ) → Type 0
+AreOfOneFile (had ∷ []) parts = AreStretchesOf CAPTURE_LIMIT had parts
+AreOfOneFile _ parts = ⊥
 
 -- an error that opening files may end with: `Memory` or `Open`
 abbrev pub IsOpeningError : RunError → Type 0

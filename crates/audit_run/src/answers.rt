@@ -1,17 +1,20 @@
 //! Answers a question about a capture whose parts come from readers or from files.
-ghost use Rattle.std.specs.Prelude.{◌<◌, ◌^◌, length, map, vec_len, IfErr, IfOk, IsOkUnless};
+ghost use Rattle.std.specs.Prelude.{◌<◌, ◌^◌, length, map, vec_len, IfErr, IfOk, IfSome, IsOkUnless};
 ghost use Rattle.std.specs.List.{AllZip};
 ghost use Rattle.transaction_view.specs.Grammar.{frames_of_parts};
-ghost use Rattle.audit_run.specs.PartRuns.{FilesGive, IsOpeningError, ReadersGive};
+ghost use Rattle.audit_join.specs.declared.limits.TheConstants.{CAPTURE_LIMIT};
+ghost use Rattle.audit_streams.specs.Stretches.{AreStretchesOf, IsStretchError};
+ghost use Rattle.audit_run.specs.PartRuns.{AreOfOneFile, FilesGive, IsOpeningError, ReadersGive};
 ghost use Rattle.audit_run.specs.Question.{answer_to, names_of, reading_status};
 ghost use Rattle.audit_run.specs.Run.{RunEnds};
 ghost use Rattle.audit_run.specs.Store.{HasLeft};
 
 use crate::part_runs::{run_first_fault_parts, run_parts};
 use crate::store::Store;
+use crate::stretch_runs::report_stretches;
 use crate::written::PartsWritten;
-use audit_join::Piece;
-use audit_streams::RunError;
+use audit_join::{CAPTURE_LIMIT, Piece};
+use audit_streams::{RunError, SharedFiles, read_stretches};
 use claim_board::{NoGate, Workers};
 use std::alloc::Global;
 use std::io::{Read, Write};
@@ -50,7 +53,60 @@ pub fn answer_files<T: Threads + Sync, S: Store, W: Write>(
         (W.contents out.old) (W.contents out.new) result }
 {
     let readers = open_files(alloc, store, request.files)?;
-    answer(rt, alloc, request.question, readers, out)
+    let parts = read_together(rt, alloc, store, request)?;
+    match (request.question, parts) {
+        (Question::Report { workers, piece }, Some(parts)) => {
+            report_stretches(rt, alloc, parts, out, workers, piece)
+        }
+        _ => answer(rt, alloc, request.question, readers, out),
+    }
+}
+
+/// Reads the one file that a report is asked of by all workers at once, as parts. None if it is to
+/// be read by its reader.
+fn read_together<T: Threads + Sync, S: Store>(
+    rt: &T,
+    alloc: Global,
+    store: &S,
+    request: Request<'_>,
+) -> Result<Option<Vec<Vec<u8>>>, RunError>
+    ensures read { IfOk result (λ found. IfSome found (λ parts.
+        AreOfOneFile (map (S.bytes_of store.now) (names_of request.entry))
+        (map (λ part. part.items) parts.items))) }
+    ensures faults { IfErr result IsStretchError }
+{
+    let Question::Report { workers, piece: _ } = request.question else {
+        return Ok(None);
+    };
+    if request.files.len() != 1 || workers.get() == 1 {
+        return Ok(None);
+    }
+    read_file(rt, alloc, store, request.files[0], workers.get())
+}
+
+/// Reads a file by so many threads at once, as parts.
+fn read_file<T: Threads + Sync, S: Store>(
+    rt: &T,
+    alloc: Global,
+    store: &S,
+    name: &str,
+    threads: u64,
+) -> Result<Option<Vec<Vec<u8>>>, RunError>
+    ensures read { IfOk result (λ found. IfSome found (λ parts. AreStretchesOf CAPTURE_LIMIT
+        (S.bytes_of store.now name.now) (map (λ part. part.items) parts.items))) }
+    ensures faults { IfErr result IsStretchError }
+{
+    let Some(files) = store.shared() else {
+        return Ok(None);
+    };
+    let Some(found) = files.find(name) else {
+        return Ok(None);
+    };
+    match read_stretches(rt, alloc, files, name, found, CAPTURE_LIMIT, threads) {
+        // No more files may be open, or the name has become that of another file.
+        Err(RunError::Open) => Ok(None),
+        read => read,
+    }
 }
 
 /// Opens these files in order. Memory for the list of all of them is taken first.

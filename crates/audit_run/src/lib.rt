@@ -6,6 +6,7 @@ mod answers;
 mod part_runs;
 mod runs;
 mod store;
+mod stretch_runs;
 mod written;
 
 pub use crate::answers::{Question, Request, answer, answer_files};
@@ -14,5 +15,7 @@ pub use crate::runs::{run, run_first_fault, run_gated, write_first_fault};
 pub use crate::store::{HostFiles, Store};
 pub use crate::written::{PartsWritten, Written};
 pub use audit_join::{CAPTURE_LIMIT, Piece};
-pub use audit_streams::{RunError, read_capture, read_parts, write_text};
+pub use audit_streams::{
+    FoundFile, RunError, SharedFiles, read_capture, read_parts, read_stretches, write_text,
+};
 pub use claim_board::{Gate, NoGate, Workers};

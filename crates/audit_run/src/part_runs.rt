@@ -78,7 +78,7 @@ pub fn run_first_fault_parts<R: Read + Drop, W: Write>(
 
 /// An empty list with room for the slices of this many parts. The room is taken before anything is
 /// read. So once the parts are read, looking for their first fault asks for no memory.
-fn room_for<'p>(alloc: Global, parts: usize) -> Result<Vec<&'p [u8]>, RunError>
+pub(crate) fn room_for<'p>(alloc: Global, parts: usize) -> Result<Vec<&'p [u8]>, RunError>
     ensures empty { IfOk result (λ room. room.items ≡ []) }
     ensures room { IfOk result (λ room. vec_capacity room ≡ parts) }
     ensures memory { IsOkUnless result RunError.Memory }
@@ -97,7 +97,7 @@ fn read_within<R: Read + Drop>(alloc: Global, readers: Vec<R>) -> Result<Vec<Vec
 }
 
 /// Puts the slice of each part into the list, which is empty and has room for them.
-fn slices_of<'p>(room: Vec<&'p [u8]>, parts: &'p [Vec<u8>]) -> Vec<&'p [u8]>
+pub(crate) fn slices_of<'p>(room: Vec<&'p [u8]>, parts: &'p [Vec<u8>]) -> Vec<&'p [u8]>
     requires empty { room.items ≡ [] }
     requires room { length parts.now ≤ vec_capacity room }
     ensures slices { map (λ slice. slice.now) result.items ≡ map (λ part. part.items) parts.now }
@@ -151,7 +151,7 @@ pub(crate) fn write_parts<T: Threads + Sync, W: Write, G: Gate + Sync>(
 }
 
 /// The report on parts.
-fn report_on<T: Threads + Sync, G: Gate + Sync>(
+pub(crate) fn report_on<T: Threads + Sync, G: Gate + Sync>(
     rt: &T,
     alloc: Global,
     parts: &[&[u8]],

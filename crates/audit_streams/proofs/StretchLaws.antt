@@ -1,16 +1,21 @@
 -- Laws of stretches.
-use Rattle.std.proofs.Common.{◌≡◌, ℕ, ◌+◌, ◌-◌, ◌<◌, ◌≤◌, List, [], ◌∷◌, ◌++◌, length, take, drop, Option, Some, None, refl, sym, ap, ap₂, subst, ◌∙◌, length-append, length-drop, length-take, drop-drop, arith}
+use Rattle.std.proofs.Common.{◌≡◌, ℕ, ◌+◌, ◌-◌, ◌<◌, ◌≤◌, ◌⊎◌, inl, inr, List, [], ◌∷◌, ◌++◌, length, get_or, take, drop, All, Option, Some, None, refl, sym, ap, ap₂, subst, ◌∙◌, append_assoc, length-append, length-drop, length-take, drop-drop, arith}
 use Rattle.std.specs.Prelude.{IfSome}
 use Rattle.std.specs.List.{flat_map, sum_by}
-use Rattle.std.proofs.Math.Seq.{take-add}
-use Rattle.std.proofs.lemmas.List.{drop-take, take_all, take-append-drop, take-take}
+use Rattle.std.proofs.Math.Seq.{get_or-append_right, take-add}
+use Rattle.std.proofs.lemmas.Bool.{cases_lt}
+use Rattle.std.proofs.lemmas.List.{drop-take, get_or_append_left, take_all, take-append-drop, take-take}
 use Rattle.std.proofs.lemmas.List.Concat.{flat_map-append, flat_map-cons}
+use Rattle.std.proofs.lemmas.List.Elements.{All-head, All-tail}
 use Rattle.std.proofs.lemmas.List.Sums.{sum_by-cons}
 use Rattle.capture_frame.specs.declared.version.Version.{Version}
 use Rattle.capture_frame.specs.Envelope.{file_header}
 use Rattle.capture_frame.specs.Parts.{joined_as}
+use Rattle.capture_frame.specs.Units.{IsBytes}
+use Rattle.capture_frame.proofs.HeaderLaws.{header_long, header_printed, length-file_header}
+use Rattle.capture_frame.proofs.NumberLaws.{IsBytes-drop}
 use Rattle.audit_streams.specs.Parts.{bytes_of}
-use Rattle.audit_streams.specs.Stretches.{ArePartsOf, IsStretch}
+use Rattle.audit_streams.specs.Stretches.{ArePartsOf, IsPartOf, IsStretch}
 
 -- what the parts have after their file headers
 abbrev bodies : List (List ℕ) → List ℕ
@@ -73,3 +78,51 @@ joined_all (Some all) version head front rest parts size limit some less within 
     let short : length (take (limit - 15) (drop 16 all)) < limit - 15 = omega (arith, within, bodies_short parts, ap length read) in
     let begin : file_header version ≡ take 16 all = sym printed ∙ ap (take 16) is ∙ take-take 16 16 all (omega arith) in
     ap₂ (λ (x y : List ℕ). x ++ y) begin (read ∙ all_taken (limit - 15) (drop 16 all) short) ∙ take-append-drop 16 all
+
+-- ---- the joined capture
+
+abbrev IsByteAt : List ℕ → ℕ → Type 0
+IsByteAt bytes i = get_or bytes i 0 < 256
+
+byte_of_both : (xs ys : List ℕ) (i : ℕ) → IsBytes xs → IsBytes ys → (i < length xs) ⊎ (length xs ≤ i) → IsByteAt (xs ++ ys) i
+byte_of_both xs ys i mine others (inl within) = subst (λ (b : ℕ). b < 256) (sym (get_or_append_left xs ys 0 i within)) (mine i)
+byte_of_both xs ys i mine others (inr past) = subst (λ (b : ℕ). b < 256) (sym (get_or-append_right xs ys i 0 past)) (others (i - length xs))
+
+bytes_of_both : (xs ys : List ℕ) → IsBytes xs → IsBytes ys → IsBytes (xs ++ ys)
+bytes_of_both xs ys mine others i = byte_of_both xs ys i mine others (cases_lt i (length xs))
+
+bodies_are_bytes : (version : Version) (parts : List (List ℕ)) → All (IsPartOf version) parts → IsBytes (bodies parts)
+bodies_are_bytes version [] same = λ i. omega arith
+bodies_are_bytes version (part ∷ parts) same =
+    subst IsBytes (sym (flat_map-cons (drop 16) part parts))
+    (bytes_of_both (drop 16 part) (bodies parts) (IsBytes-drop 16 part (All-head (IsPartOf version) part parts same).1)
+    (bodies_are_bytes version parts (All-tail (IsPartOf version) part parts same)))
+
+-- the joined capture is the first part, and then what the others have after their file headers
+pub joined_from_first : (version : Version) (part : List ℕ) (parts : List (List ℕ)) → IsPartOf version part
+    → joined_as version (part ∷ parts) ≡ part ++ bodies parts
+joined_from_first version part parts is =
+    ap (λ (t : List ℕ). file_header version ++ t) (flat_map-cons (drop 16) part parts) ∙ sym (append_assoc (file_header version) (drop 16 part) (bodies parts))
+    ∙ ap (λ (t : List ℕ). (t ++ drop 16 part) ++ bodies parts) (sym (header_printed part version is.1 is.0))
+    ∙ ap (λ (t : List ℕ). t ++ bodies parts) (take-append-drop 16 part)
+
+-- it consists of bytes
+pub joined_bytes : (version : Version) (parts : List (List ℕ)) → 1 ≤ length parts → All (IsPartOf version) parts → IsBytes (joined_as version parts)
+joined_bytes version [] some same = absurd (omega (arith, some))
+joined_bytes version (part ∷ parts) some same =
+    let first = All-head (IsPartOf version) part parts same in
+    subst IsBytes (sym (joined_from_first version part parts first))
+    (bytes_of_both part (bodies parts) first.1 (bodies_are_bytes version parts (All-tail (IsPartOf version) part parts same)))
+
+-- and has no more of them than the parts and one more file header
+pub joined_short : (version : Version) (parts : List (List ℕ)) → length (joined_as version parts) ≤ 16 + bytes_of parts
+joined_short version parts =
+    let short = bodies_short parts in
+    omega (arith, short, length-append (file_header version) (bodies parts), length-file_header version)
+
+-- there are no more parts than bytes in them
+pub few_parts : (version : Version) (parts : List (List ℕ)) → All (IsPartOf version) parts → length parts ≤ bytes_of parts
+few_parts version [] same = omega arith
+few_parts version (part ∷ parts) same =
+    let more = few_parts version parts (All-tail (IsPartOf version) part parts same) in
+    omega (arith, more, header_long part version (All-head (IsPartOf version) part parts same).0, sum_by-cons length part parts)

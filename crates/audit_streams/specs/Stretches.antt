@@ -3,6 +3,7 @@ use Rattle.std.specs.Prelude.{◌≡◌, ℕ, ◌+◌, ◌-◌, ◌≤◌, List,
 use Rattle.std.specs.List.{flat_map}
 use Rattle.capture_frame.specs.declared.version.Version.{Version}
 use Rattle.capture_frame.specs.Parts.{header_at, joined_as}
+use Rattle.capture_frame.specs.Units.{IsBytes}
 use Rattle.audit_streams.specs.Parts.{bytes_of}
 use Rattle.audit_streams.specs.declared.run_error.RunError.{RunError}
 use Rattle.audit_streams.specs.declared.run_error.RunError.TheVariants.{Memory, TooLarge, Read, Write, Open}
@@ -15,11 +16,15 @@ IsStretch known start most bytes = IfSome known (λ all. bytes ≡ take most (dr
 abbrev pub ArePartsOf : Option (List ℕ) → ℕ → ℕ → List (List ℕ) → Type 0
 ArePartsOf known start most parts = (1 ≤ length parts) × IsStretch known start most (flat_map (drop 16) parts)
 
+-- the part consists of bytes, and its file header names this version
+abbrev pub IsPartOf : Version → List ℕ → Type 0
+IsPartOf version part = (header_at part ≡ Ok version) × IsBytes part
+
 -- parts that were read as stretches of one capture: their file headers name one version, and their joined capture of
 -- this version, which is within the limit, is all there is to read, if that is known
 pub record AreStretchesOf (limit : ℕ) (known : Option (List ℕ)) (parts : List (List ℕ)) : Type 0 where
   pub version : Version
-  pub same : All (λ part. header_at part ≡ Ok version) parts
+  pub same : All (IsPartOf version) parts
   pub some : 1 ≤ length parts
   pub within : 16 + bytes_of parts ≤ limit
   pub are : IfSome known (λ all. joined_as version parts ≡ all)

@@ -3,6 +3,7 @@
 #![tactic(auto)]
 
 mod failure;
+mod host_files;
 mod parts;
 mod reading;
 mod run_error;
@@ -13,5 +14,5 @@ pub use crate::failure::Failure;
 pub use crate::parts::read_parts;
 pub use crate::reading::read_capture;
 pub use crate::run_error::RunError;
-pub use crate::stretches::{Stretches, read_stretches};
+pub use crate::stretches::{FoundFile, SharedFiles, read_stretches};
 pub use crate::writing::write_text;

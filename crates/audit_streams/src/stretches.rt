@@ -5,7 +5,7 @@ ghost use Rattle.std.specs.Thread.{IsSync};
 ghost use Rattle.capture_frame.specs.Envelope.{file_header};
 ghost use Rattle.capture_frame.specs.Parts.{header_at};
 ghost use Rattle.audit_streams.specs.Parts.{bytes_of};
-ghost use Rattle.audit_streams.specs.Stretches.{ArePartsOf, AreStretchesOf, IsStretch, IsStretchError};
+ghost use Rattle.audit_streams.specs.Stretches.{ArePartsOf, AreStretchesOf, IsPartOf, IsStretch, IsStretchError};
 
 use crate::run_error::RunError;
 use capture_frame::{FILE_HEADER, Frames, Version, check_header};
@@ -19,62 +19,89 @@ const WINDOW: usize = 65_536;
 /// So many frames in a row are taken for frames.
 const IN_A_ROW: usize = 8;
 
-/// What can be read from any place on, by several threads at once.
-pub trait Stretches {
-    /// All its bytes, if a contract can say which these are.
-    ghost known: { Self → Option (List ℕ) };
+/// A file, as it was found.
+#[derive(Clone, Copy)]
+pub struct FoundFile {
+    /// How many bytes it has.
+    pub size: u64,
+    /// The device that it is on.
+    pub device: u64,
+    /// Its number there.
+    pub node: u64,
+}
 
-    /// Its bytes from `start` on: `most` of them, or fewer where it ends.
-    fn bytes(&self, alloc: Global, start: u64, most: usize) -> Result<Vec<u8>, RunError>
-        ensures bytes { IfOk result (λ bytes. IsStretch (known self.now) start most bytes.items) }
+/// Files that several threads may read at once, each a stretch of its own.
+pub trait SharedFiles {
+    /// All bytes of the file of this name, if a contract can say which these are.
+    ghost known: { Self → List ℕ → Option (List ℕ) };
+
+    /// The file of this name, if it can be read from any place on, and is worth it.
+    fn find(&self, name: &str) -> Option<FoundFile>;
+
+    /// The bytes of a file from `start` on: `most` of them, or fewer where it ends. `Open` if it
+    /// can't be opened, or if the name has become that of another file.
+    fn bytes(
+        &self,
+        alloc: Global,
+        name: &str,
+        found: FoundFile,
+        start: u64,
+        most: usize,
+    ) -> Result<Vec<u8>, RunError>
+        ensures bytes { IfOk result (λ bytes.
+            IsStretch (known self.now name.now) start most bytes.items) }
         ensures faults { IfErr result IsStretchError };
 }
 
-/// The bytes from `start` on that are before `end`.
+/// The bytes of a file from `start` on that are before `end`.
 #[derive(Clone, Copy)]
 struct Stretch {
+    found: FoundFile,
     start: u64,
     end: u64,
 }
 
-/// Reads a capture by several threads at once, each a stretch of it, as parts of a capture: each
-/// stretch follows the file header of the capture. `size` is how many bytes the capture seems to
-/// have; it is read to its end all the same. None if it has no good file header, or if the parts
-/// would pass the limit together.
+/// Reads a file by several threads at once, each a stretch of it, as parts of a capture: each stretch
+/// follows the file header of the capture. It is read to its end, even if it has grown since it was
+/// found. None if it has no good file header, or if the parts would pass the limit together.
 ///
 /// A stretch begins where a frame seems to begin, so that each part is good if the capture is. That
 /// is a guess, and nothing rests on it.
-pub fn read_stretches<T: Threads + Sync, F: Stretches + Sync>(
+pub fn read_stretches<T: Threads + Sync, F: SharedFiles + Sync>(
     rt: &T,
     alloc: Global,
-    file: &F,
-    size: u64,
+    files: &F,
+    name: &str,
+    found: FoundFile,
     limit: usize,
     threads: u64,
 ) -> Result<Option<Vec<Vec<u8>>>, RunError>
     requires { limit < 2 ^ 62 }
     ensures read { IfOk result (λ found. IfSome found (λ parts.
-        AreStretchesOf limit (F.known file.now) (map (λ part. part.items) parts.items))) }
+        AreStretchesOf limit (F.known files.now name.now) (map (λ part. part.items) parts.items))) }
     ensures faults { IfErr result IsStretchError }
 {
-    let head = file.bytes(alloc, 0, FILE_HEADER)?;
+    let head = files.bytes(alloc, name, found, 0, FILE_HEADER)?;
     let Some(version) = version_of(head.as_slice()) else {
         return Ok(None);
     };
+    let size = found.size;
     let most = limit as u64;
     if size < FILE_HEADER as u64 || most < size {
         return Ok(None);
     }
     let first = Stretch {
+        found,
         start: FILE_HEADER as u64,
         end: size,
     };
     let rest = Stretch {
+        found,
         start: size,
         end: most + 1,
     };
-    let parts = read_side_by_side(rt, alloc, file, head.as_slice(), first, threads)?;
-    let rest = part_of(alloc, file, head.as_slice(), rest)?;
+    let parts = read_side_by_side(rt, alloc, files, name, head.as_slice(), first, threads)?;
+    let rest = part_of(alloc, files, name, head.as_slice(), rest)?;
     let parts = with_rest(parts, rest)?;
     match of_one_capture(parts, version, limit) {
         Some(parts) => Ok(Some(parts)),
@@ -87,7 +114,7 @@ pub fn read_stretches<T: Threads + Sync, F: Stretches + Sync>(
 fn of_one_capture(parts: Vec<Vec<u8>>, version: Version, limit: usize) -> Option<Vec<Vec<u8>>>
     ensures same { IfSome result (λ all. all.items ≡ parts.items) }
     ensures version { IfSome result (λ all.
-        All (λ part. header_at part ≡ Ok version) (map (λ part. part.items) all.items)) }
+        All (IsPartOf version) (map (λ part. part.items) all.items)) }
     ensures within { IfSome result (λ all.
         16 + bytes_of (map (λ part. part.items) all.items) ≤ limit) }
 {
@@ -110,7 +137,7 @@ fn version_of(part: &[u8]) -> Option<Version>
 
 /// Whether the file header of a part names this version.
 fn is_of(part: &[u8], version: Version) -> bool
-    ensures { IsTrue result → header_at part.now ≡ Ok version }
+    ensures { IsTrue result → IsPartOf version part.now }
 {
     matches!(
         (version_of(part), version),
@@ -121,7 +148,7 @@ fn is_of(part: &[u8], version: Version) -> bool
 /// Whether the file headers of all parts name this version.
 fn are_of(parts: &[Vec<u8>], version: Version) -> bool
     ensures { IsTrue result →
-        All (λ part. header_at part ≡ Ok version) (map (λ part. part.items) parts.now) }
+        All (IsPartOf version) (map (λ part. part.items) parts.now) }
 {
     for part in parts {
         if !is_of(part.as_slice(), version) {
@@ -150,10 +177,11 @@ fn are_within(parts: &[Vec<u8>], limit: usize) -> bool
 
 /// Reads a stretch by several threads at once: the stretch and the threads are halved as long as
 /// there are two threads. The parts come in order.
-fn read_side_by_side<T: Threads + Sync, F: Stretches + Sync>(
+fn read_side_by_side<T: Threads + Sync, F: SharedFiles + Sync>(
     rt: &T,
     alloc: Global,
-    file: &F,
+    files: &F,
+    name: &str,
     head: &[u8],
     stretch: Stretch,
     threads: u64,
@@ -161,23 +189,25 @@ fn read_side_by_side<T: Threads + Sync, F: Stretches + Sync>(
     requires after { 16 ≤ stretch.start }
     requires some { stretch.start ≤ stretch.end }
     requires fits { stretch.end < 2 ^ 63 }
-    ensures read { IfOk result (λ parts. ArePartsOf (F.known file.now) stretch.start
+    ensures read { IfOk result (λ parts. ArePartsOf (F.known files.now name.now) stretch.start
         (stretch.end - stretch.start) (map (λ part. part.items) parts.items)) }
     ensures faults { IfErr result IsStretchError }
 {
     if threads < 2 {
-        return one_part(alloc, file, head, stretch);
+        return one_part(alloc, files, name, head, stretch);
     }
     let some = threads / 2;
     let others = threads - some;
-    let Some(seam) = seam_in(alloc, file, head, stretch)? else {
-        return one_part(alloc, file, head, stretch);
+    let Some(seam) = seam_in(alloc, files, name, head, stretch)? else {
+        return one_part(alloc, files, name, head, stretch);
     };
     let front = Stretch {
+        found: stretch.found,
         start: stretch.start,
         end: seam,
     };
     let back = Stretch {
+        found: stretch.found,
         start: seam,
         end: stretch.end,
     };
@@ -186,24 +216,25 @@ fn read_side_by_side<T: Threads + Sync, F: Stretches + Sync>(
         || -> Result<Vec<Vec<u8>>, RunError>
             requires { IsSync T.row × IsSync F.row × (16 ≤ front.start)
                 × (front.start ≤ front.end) × (front.end < 2 ^ 63) }
-            ensures { IfOk result (λ parts. ArePartsOf (F.known file.entry.now) front.start
+            ensures { IfOk result (λ parts. ArePartsOf (F.known files.entry.now name.entry.now) front.start
                 (front.end - front.start) (map (λ part. part.items) parts.items))
                 × IfErr result IsStretchError }
-        { read_side_by_side(rt, alloc, file, head, front, some) },
+        { read_side_by_side(rt, alloc, files, name, head, front, some) },
         || -> Result<Vec<Vec<u8>>, RunError>
             requires { IsSync T.row × IsSync F.row × (16 ≤ back.start)
                 × (back.start ≤ back.end) × (back.end < 2 ^ 63) }
-            ensures { IfOk result (λ parts. ArePartsOf (F.known file.entry.now) back.start
+            ensures { IfOk result (λ parts. ArePartsOf (F.known files.entry.now name.entry.now) back.start
                 (back.end - back.start) (map (λ part. part.items) parts.items))
                 × IfErr result IsStretchError }
-        { read_side_by_side(rt, alloc, file, head, back, others) },
+        { read_side_by_side(rt, alloc, files, name, head, back, others) },
     );
-    both_halves(file, first, second, front, back)
+    both_halves(files, name, first, second, front, back)
 }
 
 /// What both halves have read, or the error of one.
-fn both_halves<F: Stretches>(
-    file: &F,
+fn both_halves<F: SharedFiles>(
+    files: &F,
+    name: &str,
     first: Result<Vec<Vec<u8>>, RunError>,
     second: Result<Vec<Vec<u8>>, RunError>,
     front: Stretch,
@@ -211,12 +242,12 @@ fn both_halves<F: Stretches>(
 ) -> Result<Vec<Vec<u8>>, RunError>
     requires next { (front.start ≤ front.end) × (back.start ≡ front.end)
         × (back.start ≤ back.end) }
-    requires first { IfOk first (λ parts. ArePartsOf (F.known file.now) front.start
+    requires first { IfOk first (λ parts. ArePartsOf (F.known files.now name.now) front.start
         (front.end - front.start) (map (λ part. part.items) parts.items)) }
-    requires second { IfOk second (λ parts. ArePartsOf (F.known file.now) back.start
+    requires second { IfOk second (λ parts. ArePartsOf (F.known files.now name.now) back.start
         (back.end - back.start) (map (λ part. part.items) parts.items)) }
     requires faults { IfErr first IsStretchError × IfErr second IsStretchError }
-    ensures read { IfOk result (λ parts. ArePartsOf (F.known file.now) front.start
+    ensures read { IfOk result (λ parts. ArePartsOf (F.known files.now name.now) front.start
         (back.end - front.start) (map (λ part. part.items) parts.items)) }
     ensures faults { IfErr result IsStretchError }
 {
@@ -227,41 +258,49 @@ fn both_halves<F: Stretches>(
 }
 
 /// A list of one part, which is the whole stretch.
-fn one_part<F: Stretches>(
+fn one_part<F: SharedFiles>(
     alloc: Global,
-    file: &F,
+    files: &F,
+    name: &str,
     head: &[u8],
     stretch: Stretch,
 ) -> Result<Vec<Vec<u8>>, RunError>
     requires after { 16 ≤ stretch.start }
     requires some { stretch.start ≤ stretch.end }
     requires fits { stretch.end < 2 ^ 63 }
-    ensures read { IfOk result (λ parts. ArePartsOf (F.known file.now) stretch.start
+    ensures read { IfOk result (λ parts. ArePartsOf (F.known files.now name.now) stretch.start
         (stretch.end - stretch.start) (map (λ part. part.items) parts.items)) }
     ensures faults { IfErr result IsStretchError }
 {
-    let part = part_of(alloc, file, head, stretch)?;
+    let part = part_of(alloc, files, name, head, stretch)?;
     let mut parts = Vec::new(alloc);
     parts.push(part).map_err(|_| RunError::Memory)?;
     Ok(parts)
 }
 
 /// A stretch as a part. The bytes before it make room for its file header.
-fn part_of<F: Stretches>(
+fn part_of<F: SharedFiles>(
     alloc: Global,
-    file: &F,
+    files: &F,
+    name: &str,
     head: &[u8],
     stretch: Stretch,
 ) -> Result<Vec<u8>, RunError>
     requires after { 16 ≤ stretch.start }
     requires some { stretch.start ≤ stretch.end }
     requires fits { stretch.end < 2 ^ 63 }
-    ensures read { IfOk result (λ part. IsStretch (F.known file.now) stretch.start
+    ensures read { IfOk result (λ part. IsStretch (F.known files.now name.now) stretch.start
         (stretch.end - stretch.start) (drop 16 part.items)) }
     ensures faults { IfErr result IsStretchError }
 {
     let most = (stretch.end - stretch.start) as usize + FILE_HEADER;
-    let mut part = file.bytes(alloc, stretch.start - FILE_HEADER as u64, most)?;
+    let mut part = files.bytes(
+        alloc,
+        name,
+        stretch.found,
+        stretch.start - FILE_HEADER as u64,
+        most,
+    )?;
     put_header(part.as_mut_slice(), head);
     Ok(part)
 }
@@ -293,9 +332,10 @@ fn with_rest(parts: Vec<Vec<u8>>, rest: Vec<u8>) -> Result<Vec<Vec<u8>>, RunErro
 }
 
 /// Where a frame seems to begin after the middle of the stretch, if one is found.
-fn seam_in<F: Stretches>(
+fn seam_in<F: SharedFiles>(
     alloc: Global,
-    file: &F,
+    files: &F,
+    name: &str,
     head: &[u8],
     stretch: Stretch,
 ) -> Result<Option<u64>, RunError>
@@ -308,7 +348,7 @@ fn seam_in<F: Stretches>(
 {
     let middle = stretch.start + (stretch.end - stretch.start) / 2;
     let before = middle - FILE_HEADER as u64;
-    let mut window = file.bytes(alloc, before, WINDOW)?;
+    let mut window = files.bytes(alloc, name, stretch.found, before, WINDOW)?;
     let Some(at) = guess(window.as_mut_slice(), head) else {
         return Ok(None);
     };

@@ -5,7 +5,9 @@ use crate::no_answer::{NoAnswer, Printed};
 use crate::told;
 use audit_join::{AuditError, CAPTURE_LIMIT, Findings, Piece, audit, audit_one};
 use audit_program::program;
-use audit_run::{HostFiles, Question, Request, answer_files, run, run_first_fault, run_gated};
+use audit_run::{
+    HostFiles, Question, Request, SharedFiles, answer_files, run, run_first_fault, run_gated,
+};
 use audit_streams::read_capture;
 use claim_board::{NoGate, Workers};
 use report_text::{rows, text};
@@ -145,7 +147,7 @@ fn files_of(alloc: Global, line: &str) -> Result<Vec<&str>, AllocError> {
     Ok(files)
 }
 
-impl<T: Files + Threads + Sync> Given<'_, T> {
+impl<T: Files + SharedFiles + Threads + Sync> Given<'_, T> {
     /// The bytes are a command line. Status 3 says that memory was refused.
     pub(crate) fn programmed<W: Write, E: Write>(&self, out: &mut W, err: &mut E) -> Printed {
         let Ok(line) = str::from_utf8(self.bytes) else {

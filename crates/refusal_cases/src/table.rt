@@ -7,7 +7,7 @@ use crate::runs::Shown;
 use crate::sums::Way;
 use crate::{events, jobs, ledgers, parts, pieces, runs};
 use audit_join::CAPTURE_LIMIT;
-use audit_run::Question;
+use audit_run::{Question, SharedFiles};
 use audit_streams::read_capture;
 use claim_board::Workers;
 use std::alloc::Global;
@@ -33,7 +33,7 @@ macro_rules! by_name {
 
 /// Makes the call that the first line of the input names, on the bytes after that line, and prints
 /// its answer. Without input it lists the names.
-pub(crate) fn answer<T: Files + Threads + Sync, R: Read, W: Write, E: Write>(
+pub(crate) fn answer<T: Files + SharedFiles + Threads + Sync, R: Read, W: Write, E: Write>(
     rt: &T,
     alloc: Global,
     input: &mut R,
@@ -112,7 +112,7 @@ impl<T: Threads + Sync> Given<'_, T> {
     }
 }
 
-impl<T: Files + Threads + Sync> Given<'_, T> {
+impl<T: Files + SharedFiles + Threads + Sync> Given<'_, T> {
     /// The calls from a capture, or a command line, to a text.
     fn of_captures<W: Write, E: Write>(&self, name: &str, out: &mut W, err: &mut E) -> Printed {
         let (one, four) = (Workers::new(1).unwrap(), Workers::new(4).unwrap());

@@ -1,7 +1,7 @@
-use Rattle.std.proofs.Common.{◌≡◌, All, Ok, take}
-use Rattle.capture_frame.specs.Parts.{header_at}
+use Rattle.std.proofs.Common.{All, take}
+use Rattle.audit_streams.specs.Stretches.{IsPartOf}
 use Rattle.audit_streams.proofs.stretches.are_of.Given as goal
 
--- the file headers of the first parts name the version
+-- the first parts are of the version
 abbrev pub invariant-loop-part : goal.invariant-loop-part
-invariant-loop-part l = All (λ part. header_at part.items ≡ Ok l.version) (take l.part-index l.fn.parts)
+invariant-loop-part l = All (λ part. IsPartOf l.version part.items) (take l.part-index l.fn.parts)

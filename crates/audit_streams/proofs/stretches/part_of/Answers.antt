@@ -6,7 +6,7 @@ use Rattle.audit_streams.proofs.stretches.part_of.Goals as goal
 
 pub returns-clause-read : goal.returns-clause-read
 returns-clause-read g c =
-    let known = g.F.Stretches.known c.args.file.now in
+    let known = g.F.SharedFiles.known c.args.files.now c.args.name.now in
     let stretch = c.args.stretch in
     let part = c.in_ok-part.part in
     let value = c.as_mut_slice.ensures.value in

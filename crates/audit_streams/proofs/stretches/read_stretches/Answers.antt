@@ -15,10 +15,18 @@ returns-in-Some-of_one_capture-clause-read g c =
     record {
       version = c.in-Some.version;
       same = c.in-Some-of_one_capture.ensures.version;
-      some = omega (arith, c.in_ok-parts-2.ensures.read.0, c.in_ok-parts.ensures.read.0, c.in_ok-parts.parts.ok.0, c.in_ok-parts-2.parts.ok.0,
-          length-map c.in_ok-parts.parts.items (λ part. part.items), length-map kept (λ part. part.items), ap length same);
+      some = omega (
+        arith,
+        c.in_ok-parts-2.ensures.read.0,
+        c.in_ok-parts.ensures.read.0,
+        c.in_ok-parts.parts.ok.0,
+        c.in_ok-parts-2.parts.ok.0,
+        length-map c.in_ok-parts.parts.items (λ part. part.items),
+        length-map kept (λ part. part.items),
+        ap length same,
+      );
       within = within;
-      are = joined_all (g.F.Stretches.known c.args.file.now) c.in-Some.version c.in_ok-head.head.items front
-          _ (map (λ part. part.items) kept) c.args.size c.args.limit (omega (arith, c.if-size.false)) (omega (arith, c.if-most-size.false)) within
+      are = joined_all (g.F.SharedFiles.known c.args.files.now c.args.name.now) c.in-Some.version c.in_ok-head.head.items front
+          _ (map (λ part. part.items) kept) c.args.found.size c.args.limit (omega (arith, c.if-size.false)) (omega (arith, c.if-most-size.false)) within
           c.in_ok-head.ensures.bytes (ap (take 16) (sym c.as_slice.ensures.value) ∙ c.in-Some.ensures.printed) c.in_ok-parts.ensures.read c.in_ok-rest.ensures.read bodies;
     }
