@@ -13,11 +13,13 @@ use Rattle.event_core.specs.Events.{EventRead, events_of_frames}
 use Rattle.event_core.specs.Handles.{HandleItem}
 use Rattle.event_core.specs.declared.strength.Strength.{Strength}
 use Rattle.event_core.specs.declared.strength.Strength.TheVariants.{Strong, Weak}
-use Rattle.handle_ledger.specs.Handles.{handle_count}
+use Rattle.handle_ledger.specs.Handles.{handle_change, handle_count}
 use Rattle.handle_ledger.specs.Held.{Held, handles_of, held_count, held_row}
+use Rattle.handle_ledger.specs.Rows.{change_at}
 use Rattle.handle_ledger.specs.declared.held_row.HeldRow.{HeldRow}
 use Rattle.process_ledgers.specs.Items.{handle_item_of}
 use Rattle.process_ledgers.specs.Processes.{items_of_process, processes_of}
+use Rattle.summary_law.specs.Count.{is_lower, is_raise}
 use Rattle.summary_law.proofs.Members.{In}
 use Rattle.audit_findings.specs.EventCounts.{HasValue, times_in}
 use Rattle.audit_findings.specs.HandleRows.{IsHandleRow, changes_handle, gives_back, handle_value, names_handle, takes}
@@ -27,8 +29,8 @@ use Rattle.audit_findings.specs.Places.{RiseInPlace}
 use Rattle.audit_findings.specs.RowsInTurn.{AreRowsInTurn}
 use Rattle.summary_law.proofs.FilterLaws.{count_by-map}
 use Rattle.audit_findings.proofs.EventCountLaws.{items_value, value_once}
-use Rattle.audit_findings.proofs.HandleValues.{change, handle_lower, handle_named, handle_raise}
-use Rattle.audit_findings.proofs.HeldObjects.{both_strengths, held_is, strong_held, weak_held}
+use Rattle.audit_findings.proofs.HandleValues.{handle_effects, handle_named, if_handle}
+use Rattle.audit_findings.proofs.HeldObjects.{all_held, both_strengths, held_is}
 use Rattle.audit_findings.proofs.KeyRows.{count_items, counted_in, in_counted, rows_exact, rows_rising}
 
 module _ (events : List EventRead) (rise : RiseInPlace events) (process : Process) where
@@ -40,8 +42,10 @@ module _ (events : List EventRead) (rise : RiseInPlace events) (process : Proces
 
   counts : (handle : ℕ) (strength : Strength) → HasValue (handle_value process handle strength) events (handle_count items handle strength)
   counts handle strength =
-      items_value handle_item_of (change handle strength) (names_handle (takes strength) handle) (names_handle (gives_back strength) handle)
-      (λ e. handle_raise handle strength e.kind e.payload) (λ e. handle_lower handle strength e.kind e.payload) process events
+      let does = handle_change strength in
+      items_value handle_item_of (change_at nat_cmp does handle) (names_handle (takes strength) handle) (names_handle (gives_back strength) handle)
+      (λ e. if_handle handle is_raise refl does e.kind e.payload (takes strength e.kind) (handle_effects strength e.kind).0)
+      (λ e. if_handle handle is_lower refl does e.kind e.payload (gives_back strength e.kind) (handle_effects strength e.kind).1) process events
 
   -- how often a handle is listed
   named : (handle : ℕ) → count_by (λ k. eqb k handle) (handles_of items held)
@@ -67,8 +71,8 @@ module _ (events : List EventRead) (rise : RiseInPlace events) (process : Proces
     listed = subst (λ (n : ℕ). 0 < n) (named handle) (counted_in (λ k. eqb k handle) handle (eq-eqb handle handle refl) (handles_of items held) there);
     strong = counts handle Strong;
     weak = counts handle Weak;
-    held_strong = strong_held events rise process handle;
-    held_weak = weak_held events rise process handle;
+    held_strong = all_held events rise process handle false;
+    held_weak = all_held events rise process handle true;
   }
 
   whole : (row : HeldRow) → IsHandleRow events process row → In row.handle (handles_of items held) × (held_row items held row.handle ≡ row)
@@ -76,8 +80,8 @@ module _ (events : List EventRead) (rise : RiseInPlace events) (process : Proces
       let handle = row.handle in
       let strong = value_once (handle_value process handle Strong) events (handle_count items handle Strong) row.taken.strong (counts handle Strong) is.strong in
       let weak = value_once (handle_value process handle Weak) events (handle_count items handle Weak) row.taken.weak (counts handle Weak) is.weak in
-      let held_strong : held_count held handle false ≡ row.held_strong = strong_held events rise process handle ∙ sym is.held_strong in
-      let held_weak : held_count held handle true ≡ row.held_weak = weak_held events rise process handle ∙ sym is.held_weak in
+      let held_strong : held_count held handle false ≡ row.held_strong = all_held events rise process handle false ∙ sym is.held_strong in
+      let held_weak : held_count held handle true ≡ row.held_weak = all_held events rise process handle true ∙ sym is.held_weak in
       let listed : 0 < count_by (λ k. eqb k handle) (handles_of items held)
       = subst (λ (n : ℕ). 0 < n)
       (sym (named handle ∙ ap₂ (λ (a b : ℕ). times_in process (names_handle changes_handle handle) events + a + b) held_strong held_weak)) is.listed in (

@@ -1,11 +1,12 @@
 -- The rows of handles of a process: its leaked deliveries, chosen from all events; and lists, one after another.
 use Rattle.std.proofs.Common.{◌≡◌, ◌||◌, ◌<◌, ◌+◌, ℕ, suc, Bool, true, false, eqb, List, [], ◌∷◌, ◌++◌, length, map, take, Some, Vec, Global, inl, inr, refl, sym, ap, subst, ◌∙◌, arith, get_or}
 use Rattle.std.proofs.Math.Seq.{take-suc}
-use Rattle.std.specs.Prelude.{◌==◌, filter, slice_get, slice_index_or}
+use Rattle.std.specs.Prelude.{◌==◌, filter, slice_get}
 use Rattle.std.specs.List.{flat_map, list_any}
+use Rattle.std.specs.Option.{option_map}
 use Rattle.std.proofs.lemmas.Bool.{eq-eqb, eqb-true}
 use Rattle.std.proofs.lemmas.Grind.{flat_map-append}
-use Rattle.std.proofs.lemmas.List.{append-nil, get_or-map, map-append}
+use Rattle.std.proofs.lemmas.List.{append-nil, get_or-map, length-map}
 use Rattle.capture_frame.specs.Process.{same_process}
 use Rattle.capture_frame.specs.declared.process.Process.{Process}
 use Rattle.capture_frame.specs.Envelope.{PlacedFrame}
@@ -25,7 +26,7 @@ use Rattle.audit_findings.specs.Places.{EventTest, RiseInPlace, passing_in, plac
 use Rattle.audit_findings.proofs.EventLists.{place_of_event}
 use Rattle.audit_findings.proofs.Kept.{in_kept, kept_in, one_there}
 use Rattle.audit_findings.proofs.Rising.{rising_kept}
-use Rattle.std.proofs.lemmas.Option.{get_or_from_slice_get, slice_get_within}
+use Rattle.std.proofs.lemmas.Option.{get_or_from_slice_get, slice_get-map, slice_get_within}
 
 -- ---- some of the events, chosen from all by their places
 
@@ -87,35 +88,47 @@ module _ (test : EventTest) (process : Process) (events : List EventRead) (rise 
 
 -- ---- the entry of a process by its number
 
-key_is : {X Y : Type 0} (key : X → Y) (xs : List X) (n : ℕ) (x : X) (d : Y) → slice_get xs n ≡ Some x → slice_index_or (map key xs) n d ≡ key x
-key_is key xs n x d is =
-    get_or-map key xs n x d (slice_get_within xs n x is) ∙ ap key (get_or_from_slice_get xs n x x is)
-
 -- the entry with this number is that of the process with this number
 pub entry_at : (processes : Processes) (frames : List PlacedFrame) (number : ℕ) (e : Process × Nothing)
     → SumsEach processes frames → slice_get processes.order.now.entries.entries number ≡ Some e
-    → (d : Process) → slice_index_or (processes_of frames) number d ≡ e.0
-entry_at processes frames number e of is d =
-    ap (λ (ps : List Process). slice_index_or ps number d) (sym of.order) ∙ key_is (λ (x : Process × Nothing). x.0) processes.order.now.entries.entries number e d is
+    → slice_get (processes_of frames) number ≡ Some e.0
+entry_at processes frames number e of is =
+    let key = λ (x : Process × Nothing). x.0 in
+    ap (λ (ps : List Process). slice_get ps number) (sym of.order) ∙ slice_get-map key processes.order.now.entries.entries number ∙ ap (option_map key) is
 
 -- ---- lists, one after another
 
 abbrev pub ListOfRows : Type 0
 ListOfRows = Vec (ProcessRow HeldRow) Global
 
+abbrev pub items_in : {R : Type 0} → Vec R Global → List R
+items_in list = list.items
+
 abbrev pub lists_of : {R : Type 0} → List (Vec R Global) → List (List R)
-lists_of {R} lists = map (λ (list : Vec R Global). list.items) lists
+lists_of lists = map items_in lists
+
+-- there are as many lists as processes, if they are made of each
+module _ {R : Type 0} (of : Process → List R) (processes : List Process) (lists : List (Vec R Global)) (same : lists_of lists ≡ map of processes) where
+  pub each_long : length lists ≡ length processes
+  each_long = sym (length-map lists items_in) ∙ ap length same ∙ length-map processes of
+
+  -- and the list with the number of a process is made of this process
+  pub own_at : (number : ℕ) (process : Process) → slice_get processes number ≡ Some process → (d : Vec R Global) → (get_or lists number d).items ≡ of process
+  own_at number process there d =
+      let within = slice_get_within processes number process there in
+      let long = each_long in
+      sym (get_or-map items_in lists number d (of process) (omega (arith, within, long)))
+      ∙ ap (λ (ls : List (List R)). get_or ls number (of process)) same
+      ∙ get_or-map of processes number process (of process) within ∙ ap of (get_or_from_slice_get processes number process process there)
 
 -- the first n of these lists, joined
 abbrev pub joined_to : {R : Type 0} → List (Vec R Global) → ℕ → List R
-joined_to {R} lists n = flat_map (λ list. list) (map (λ (list : Vec R Global). list.items) (take n lists))
+joined_to lists n = flat_map items_in (take n lists)
 
 pub joined_next : {R : Type 0} (lists : List (Vec R Global)) (n : ℕ) (d : Vec R Global) → n < length lists
     → joined_to lists (n + 1) ≡ joined_to lists n ++ (get_or lists n d).items
-joined_next {R} lists n d within =
+joined_next lists n d within =
     let one : n + 1 ≡ suc n = omega arith in
-    let items = λ (list : Vec R Global). list.items in
     let last = get_or lists n d in
-    ap (λ m. joined_to lists m) one ∙ ap (λ ls. flat_map (λ list. list) (map items ls)) (take-suc lists n d within)
-    ∙ ap (flat_map (λ list. list)) (map-append items (take n lists) (last ∷ []))
-    ∙ flat_map-append (λ list. list) (map items (take n lists)) (last.items ∷ []) ∙ ap (λ rows. joined_to lists n ++ rows) (append-nil last.items)
+    ap (λ m. joined_to lists m) one ∙ ap (flat_map items_in) (take-suc lists n d within)
+    ∙ flat_map-append items_in (take n lists) (last ∷ []) ∙ ap (λ rows. joined_to lists n ++ rows) (append-nil last.items)

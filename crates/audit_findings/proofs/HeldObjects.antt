@@ -78,17 +78,17 @@ both_strengths handle (r ∷ held) =
 
 -- ---- the references among objects
 
-strong_object : (handle : ℕ) (sort : Sort) (bytes : List ℕ)
-    → option_map_or (is_to handle false) (held_of sort bytes) false ≡ (same_sort sort Handle && eqb (number_at 4 8 bytes) handle)
-strong_object handle Handle bytes = and-true (eqb (number_at 4 8 bytes) handle)
-strong_object handle WeakHandle bytes = and-false (eqb (number_at 4 8 bytes) handle)
-strong_object handle _ bytes = refl
+-- the sort of object that is a reference of this strength
+abbrev pub held_sort : Bool → Sort
+held_sort weak = cond weak WeakHandle Handle
 
-weak_object : (handle : ℕ) (sort : Sort) (bytes : List ℕ)
-    → option_map_or (is_to handle true) (held_of sort bytes) false ≡ (same_sort sort WeakHandle && eqb (number_at 4 8 bytes) handle)
-weak_object handle Handle bytes = and-false (eqb (number_at 4 8 bytes) handle)
-weak_object handle WeakHandle bytes = and-true (eqb (number_at 4 8 bytes) handle)
-weak_object handle _ bytes = refl
+object_is : (handle : ℕ) (weak : Bool) (sort : Sort) (bytes : List ℕ)
+    → option_map_or (is_to handle weak) (held_of sort bytes) false ≡ (same_sort sort (held_sort weak) && eqb (number_at 4 8 bytes) handle)
+object_is handle false Handle bytes = and-true (eqb (number_at 4 8 bytes) handle)
+object_is handle false WeakHandle bytes = and-false (eqb (number_at 4 8 bytes) handle)
+object_is handle true Handle bytes = and-false (eqb (number_at 4 8 bytes) handle)
+object_is handle true WeakHandle bytes = and-true (eqb (number_at 4 8 bytes) handle)
+object_is handle weak _ bytes = refl
 
 -- ---- the objects of outstanding deliveries
 
@@ -107,19 +107,9 @@ module _ (events : List EventRead) (rise : RiseInPlace events) (process : Proces
       (sym (listed_again is_leaked process events rise)
       ∙ filter_same (is_among (passing_in is_leaked process events)) (is_outstanding events process) events (among_leaked events rise process))
 
-  held_objects_of : (weak : Bool) (sort : Sort) (handle : ℕ)
-      → ((o : ObjectText) → option_map_or (is_to handle weak) (reference_of o) false ≡ (same_sort o.sort sort && eqb (number_at 4 8 o.bytes) handle))
-      → count_by (is_to handle weak) (held_of_process events process) ≡ held_objects events process sort handle
-  held_objects_of weak sort handle same =
-      ap (count_by (is_to handle weak)) held_among ∙ count_read (is_to handle weak) reference_of outstanding_objects
-      ∙ ap (λ (t : ObjectText → Bool). count_by t outstanding_objects) (λ i o. same o i)
-
-  pub strong_held : (handle : ℕ) → held_count (unweighed (held_of_process events process)) handle false ≡ held_objects events process Handle handle
-  strong_held handle =
-      held_is handle false (held_of_process events process)
-      ∙ held_objects_of false Handle handle (λ o. strong_object handle o.sort o.bytes)
-
-  pub weak_held : (handle : ℕ) → held_count (unweighed (held_of_process events process)) handle true ≡ held_objects events process WeakHandle handle
-  weak_held handle =
-      held_is handle true (held_of_process events process)
-      ∙ held_objects_of true WeakHandle handle (λ o. weak_object handle o.sort o.bytes)
+  pub all_held : (handle : ℕ) (weak : Bool)
+      → held_count (unweighed (held_of_process events process)) handle weak ≡ held_objects events process (held_sort weak) handle
+  all_held handle weak =
+      held_is handle weak (held_of_process events process) ∙ ap (count_by (is_to handle weak)) held_among
+      ∙ count_read (is_to handle weak) reference_of outstanding_objects
+      ∙ ap (λ (t : ObjectText → Bool). count_by t outstanding_objects) (λ i o. object_is handle weak o.sort o.bytes i)

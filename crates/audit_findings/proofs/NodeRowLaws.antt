@@ -14,9 +14,11 @@ use Rattle.event_core.specs.declared.strength.Strength.{Strength}
 use Rattle.event_core.specs.declared.strength.Strength.TheVariants.{Strong, Weak}
 use Rattle.handle_ledger.proofs.NodeLaws.{node_cmp_exact, node_cmp_total}
 use Rattle.handle_ledger.specs.Nodes.{due_count, node_change, node_cmp, node_count, node_due_change, node_row}
+use Rattle.handle_ledger.specs.Rows.{change_at}
 use Rattle.handle_ledger.specs.declared.node_row.NodeRow.{NodeRow}
 use Rattle.process_ledgers.specs.Items.{node_item_of}
 use Rattle.process_ledgers.specs.Processes.{items_of_process, processes_of}
+use Rattle.summary_law.specs.Count.{is_lower, is_raise}
 use Rattle.summary_law.proofs.Members.{In}
 use Rattle.audit_findings.specs.EventCounts.{HasValue, times_in}
 use Rattle.audit_findings.specs.NodeRows.{IsNodeRow, acknowledges, asks, changes_node, lets_go, names_node, node_due, node_value}
@@ -25,7 +27,7 @@ use Rattle.audit_findings.specs.RowsInTurn.{AreRowsInTurn}
 use Rattle.summary_law.proofs.FilterLaws.{count_by-map}
 use Rattle.audit_findings.proofs.EventCountLaws.{items_value, value_once}
 use Rattle.audit_findings.proofs.KeyRows.{count_items, counted_in, in_counted, rows_exact, rows_rising}
-use Rattle.audit_findings.proofs.NodeValues.{change, due_lower, due_raise, node_lower, node_named, node_raise}
+use Rattle.audit_findings.proofs.NodeValues.{if_node, node_effects, node_named}
 
 module _ (events : List EventRead) (process : Process) where
   abbrev items : List NodeItem
@@ -33,13 +35,17 @@ module _ (events : List EventRead) (process : Process) where
 
   counts : (key : NodeKey) (strength : Strength) → HasValue (node_value process key strength) events (node_count items key strength)
   counts key strength =
-      items_value node_item_of (change key node_change strength) (names_node (asks strength) key) (names_node (lets_go strength) key)
-      (λ e. node_raise key strength e.kind e.payload) (λ e. node_lower key strength e.kind e.payload) process events
+      let does = node_change strength in
+      items_value node_item_of (change_at node_cmp does key) (names_node (asks strength) key) (names_node (lets_go strength) key)
+      (λ e. if_node key is_raise refl does e.kind e.payload (asks strength e.kind) (node_effects strength e.kind).0)
+      (λ e. if_node key is_lower refl does e.kind e.payload (lets_go strength e.kind) (node_effects strength e.kind).1) process events
 
   due : (key : NodeKey) (strength : Strength) → due_count items key strength ≡ node_due process key strength events
   due key strength =
-      (items_value node_item_of (change key node_due_change strength) (names_node (asks strength) key) (names_node (acknowledges strength) key)
-      (λ e. due_raise key strength e.kind e.payload) (λ e. due_lower key strength e.kind e.payload) process events).sum
+      let does = node_due_change strength in
+      (items_value node_item_of (change_at node_cmp does key) (names_node (asks strength) key) (names_node (acknowledges strength) key)
+      (λ e. if_node key is_raise refl does e.kind e.payload (asks strength e.kind) (node_effects strength e.kind).2)
+      (λ e. if_node key is_lower refl does e.kind e.payload (acknowledges strength e.kind) (node_effects strength e.kind).3) process events).sum
 
   -- how often a node is listed
   named : (key : NodeKey) → count_by (λ k. eq_by_cmp node_cmp key k) (keys_of items) ≡ times_in process (names_node changes_node key) events

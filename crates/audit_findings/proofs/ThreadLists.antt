@@ -2,7 +2,7 @@
 use Rattle.std.proofs.Common.{◌≡◌, ℕ, ◌+◌, ◌<◌, ◌≤◌, Bool, true, false, cond, eqb, not, List, [], ◌∷◌, ◌++◌, length, map, filter, All, Option, Some, None, inl, inr, refl, sym, ap, ap₂, subst, ◌∙◌, ⊎_elim, arith}
 use Rattle.std.specs.Prelude.{◌&&◌, count_by, option_and_then, slice_get}
 use Rattle.std.specs.Option.{is_some}
-use Rattle.std.specs.List.{AllZip, IsDistinct, cons_option, flat_map, fold, sum_by}
+use Rattle.std.specs.List.{AllZip, IsDistinct, cons_option, flat_map, fold, sum, sum_by}
 use Rattle.std.specs.List.Sorted.{IsNonDecreasingBy, IsPermutation}
 use Rattle.std.specs.Map.{keys_of}
 use Rattle.std.proofs.lemmas.Bool.{cases_Bool}
@@ -10,7 +10,8 @@ use Rattle.std.proofs.lemmas.List.{length-map}
 use Rattle.std.proofs.lemmas.List.Concat.{flat_map-cons}
 use Rattle.std.proofs.lemmas.List.Elements.{All-head, All-tail, All-weaker}
 use Rattle.std.proofs.lemmas.List.Sorted.{sum_by-IsPermutation}
-use Rattle.std.proofs.lemmas.List.Sums.{count_by-le-length, length-filter, sum_by-append, sum_by-cons}
+use Rattle.std.proofs.lemmas.List.Folds.{flat_map-map}
+use Rattle.std.proofs.lemmas.List.Sums.{count_by-le-length, length-filter, sum-map, sum_by-append, sum_by-cons}
 use Rattle.std.proofs.lemmas.Simd.{map-map}
 use Rattle.std.proofs.lemmas.Option.{cond_some, option_and_then_some}
 use Rattle.capture_frame.proofs.ProcessLaws.{same_thread_equiv}
@@ -228,32 +229,17 @@ module _ (entries : List Entry) (events : List EventRead) (sums : SumsThreads en
       All-weaker (λ (e : Entry). (items_of same_thread e.0 (fed_calls events) ≡ [] → ⊥) × SumsOwn e) SumsOwn (λ e both. both.1) entries
       (each_sums same_thread_equiv (CallsSum event_reads false) entries (fed_calls events) sums.sums)
 
-  -- the lists that are found of threads are those of their events
-  lists_told : {R : Type 0} (lists : CallFindings CallEvent → List R) (own : Thread → List R)
-      → ((key : Thread) (found : CallFindings CallEvent) → IsFound key found → lists found ≡ own key)
+  -- what is made of each thread's findings is made of its events
+  all_told : {R : Type 0} (found_as : CallFindings CallEvent → R) (own : Thread → R)
+      → ((key : Thread) (found : CallFindings CallEvent) → IsFound key found → found_as found ≡ own key)
       → (some : List Entry) → All SumsOwn some → (founds : List (CallFindings CallEvent))
-      → AllZip (λ (e : Entry) found. GivesFindings event_reads false e.1 found) some founds → flat_map lists founds ≡ flat_map own (keys_of some)
-  lists_told lists own tells [] all [] zip = refl
-  lists_told lists own tells [] all (f ∷ founds) zip = absurd zip
-  lists_told lists own tells (e ∷ some) all [] zip = absurd zip
-  lists_told {R} lists own tells (e ∷ some) all (f ∷ founds) zip =
-      flat_map-cons lists f founds
-      ∙ ap₂ (λ (a b : List R). a ++ b) (tells e.0 f (found_own e f (All-head SumsOwn e some all) zip.0))
-      (lists_told lists own tells some (All-tail SumsOwn e some all) founds zip.1)
-      ∙ sym (flat_map-cons own e.0 (keys_of some))
-
-  counts_told : (count : CallFindings CallEvent → ℕ) (own : Thread → ℕ)
-      → ((key : Thread) (found : CallFindings CallEvent) → IsFound key found → count found ≡ own key)
-      → (some : List Entry) → All SumsOwn some → (founds : List (CallFindings CallEvent))
-      → AllZip (λ (e : Entry) found. GivesFindings event_reads false e.1 found) some founds → sum_by count founds ≡ sum_by own (keys_of some)
-  counts_told count own tells [] all [] zip = refl
-  counts_told count own tells [] all (f ∷ founds) zip = absurd zip
-  counts_told count own tells (e ∷ some) all [] zip = absurd zip
-  counts_told count own tells (e ∷ some) all (f ∷ founds) zip =
-      sum_by-cons count f founds
-      ∙ ap₂ (λ (a b : ℕ). a + b) (tells e.0 f (found_own e f (All-head SumsOwn e some all) zip.0))
-      (counts_told count own tells some (All-tail SumsOwn e some all) founds zip.1)
-      ∙ sym (sum_by-cons own e.0 (keys_of some))
+      → AllZip (λ (e : Entry) found. GivesFindings event_reads false e.1 found) some founds → map found_as founds ≡ map own (keys_of some)
+  all_told found_as own tells [] all [] zip = refl
+  all_told found_as own tells [] all (f ∷ founds) zip = absurd zip
+  all_told found_as own tells (e ∷ some) all [] zip = absurd zip
+  all_told {R} found_as own tells (e ∷ some) all (f ∷ founds) zip =
+      ap₂ (λ (a : R) (b : List R). a ∷ b) (tells e.0 f (found_own e f (All-head SumsOwn e some all) zip.0))
+      (all_told found_as own tells some (All-tail SumsOwn e some all) founds zip.1)
 
 -- ---- the readings of calls
 
@@ -400,7 +386,9 @@ count_kept : (entries : List Entry) (events : List EventRead) (sums : SumsThread
 count_kept entries events sums founds zip test count tells of passes number small =
     let read = opener_read text_reads in
     let own : Thread → List (Opener EventRead) = own_read entries events sums read opener_quiet in
-    let told = counts_told entries events sums count (λ key. how_many test (own key)) tells entries (each_own entries events sums) founds zip in
+    let told = sym (sum-map count founds)
+    ∙ ap sum (all_told entries events sums count (λ key. how_many test (own key)) tells entries (each_own entries events sums) founds zip)
+    ∙ sum-map (λ key. how_many test (own key)) (keys_of entries) in
     let all = sum_flat (λ (o : Opener EventRead). test o.verdict) own (keys_of entries) in
     let moved = sum_by-IsPermutation (λ (o : Opener EventRead). cond (test o.verdict) 1 0) (flat_map own (keys_of entries)) (openers events)
     (gathered entries events sums read opener_quiet) in
@@ -419,10 +407,13 @@ module _ (entries : List Entry) (events : List EventRead) (sums : SumsThreads en
       → lists found ≡ map row (read_all (as_bracketed text_reads read) (events_in_thread key events)))
       → (before after : List R) → before ≡ flat_map lists gathered_rows.founds → IsPermutation before after → IsNonDecreasingBy rank after
       → after ≡ map row (in_threads read events)
-  list_kept read quiet row rank keeps lists tells before after are moved sorted =
+  list_kept {Y} {R} read quiet row rank keeps lists tells before after are moved sorted =
+      let own : Thread → List R = λ key. map row (read_all (as_bracketed text_reads read) (events_in_thread key events)) in
+      let one = λ (list : List R). list in
       thread_sorted entries events sums read quiet row rank keeps rise before after
-      (are ∙ lists_told entries events sums lists (λ key. map row (read_all (as_bracketed text_reads read) (events_in_thread key events))) tells entries
-      (each_own entries events sums) gathered_rows.founds gathered_rows.are)
+      (are ∙ sym (flat_map-map one lists gathered_rows.founds)
+      ∙ ap (flat_map one) (all_told entries events sums lists own tells entries (each_own entries events sums) gathered_rows.founds gathered_rows.are)
+      ∙ flat_map-map one own (keys_of entries))
       moved sorted
 
   lacking_kept : (of : Opener EventRead → Bool) (lists : CallFindings CallEvent → List (Opener ℕ))

@@ -1,5 +1,5 @@
 -- What is made of each process in turn.
-use Rattle.std.proofs.Common.{◌≡◌, ◌+◌, List, [], ◌∷◌, ◌++◌, length, map, refl, sym, ap, ap₂, ◌∙◌, append_assoc, length-append}
+use Rattle.std.proofs.Common.{◌≡◌, List, [], ◌∷◌, ◌++◌, map, refl, sym, ap, ap₂, ◌∙◌, append_assoc}
 use Rattle.std.specs.List.{flat_map}
 use Rattle.std.specs.Map.{keys_of}
 use Rattle.std.proofs.lemmas.Grind.{flat_map-append}
@@ -20,7 +20,6 @@ pub record Listing {R : Type 0} (of : List EventRead → Process → List R) (pr
     Type 0 where
   pub done : List (Process × Nothing)
   pub whole : done ++ rest ≡ processes.order.now.entries.entries
-  pub count : length lists ≡ length done
   pub are : (frames : List PlacedFrame) → SumsEach processes frames → lists ≡ map (of (events_of_frames frames)) (keys_of done)
 
 module _ {R : Type 0} (of : List EventRead → Process → List R) (processes : Processes) where
@@ -31,7 +30,6 @@ module _ {R : Type 0} (of : List EventRead → Process → List R) (processes : 
   listing_starts rest all lists none = record {
     done = [];
     whole = all;
-    count = ap length none;
     are = λ frames sums. none;
   }
 
@@ -46,7 +44,6 @@ module _ {R : Type 0} (of : List EventRead → Process → List R) (processes : 
       record {
         done = done ++ e ∷ [];
         whole = append_assoc done (e ∷ []) rest ∙ listing.whole;
-        count = ap length pushed ∙ length-append lists (own ∷ []) ∙ ap (λ n. n + 1) listing.count ∙ sym (length-append done (e ∷ []));
         are = λ frames sums.
             let events = events_of_frames frames in
             pushed ∙ ap₂ (λ (a b : List (List R)). a ++ b) (listing.are frames sums) (ap (λ (l : List R). l ∷ []) (gives events (sums.each e.0)))
@@ -57,11 +54,7 @@ module _ {R : Type 0} (of : List EventRead → Process → List R) (processes : 
     all_done : listing.done ≡ entries
     all_done = sym (append-nil listing.done) ∙ ap (λ (t : List (Process × Nothing)). listing.done ++ t) (sym none) ∙ listing.whole
 
-    -- at the end there is a list for each entry
-    pub listing_long : length lists ≡ length entries
-    listing_long = listing.count ∙ ap length all_done
-
-    -- and they are those of all processes
+    -- at the end they are those of all processes
     pub all_listed : (frames : List PlacedFrame) → SumsEach processes frames → lists ≡ map (of (events_of_frames frames)) (processes_of frames)
     all_listed frames sums =
         listing.are frames sums ∙ ap (λ (es : List (Process × Nothing)). map (of (events_of_frames frames)) (keys_of es)) all_done

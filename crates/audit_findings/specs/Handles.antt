@@ -1,6 +1,6 @@
 -- The section `handles`: the references that each process has by handle, which are those that it took and those that
 -- its deliveries hold (docs/REPORT.md).
-use Rattle.std.specs.Prelude.{◌||◌, Bool, List}
+use Rattle.std.specs.Prelude.{◌||◌, Bool, List, map}
 use Rattle.capture_frame.specs.Envelope.{PlacedFrame}
 use Rattle.capture_frame.specs.declared.process.Process.{Process}
 use Rattle.event_core.specs.Events.{EventRead, events_of_frames}
@@ -9,8 +9,9 @@ use Rattle.handle_ledger.specs.declared.held_row.HeldRow.{HeldRow}
 use Rattle.process_ledgers.specs.Items.{handle_item_of}
 use Rattle.process_ledgers.specs.Processes.{items_of_process, processes_of}
 use Rattle.audit_findings.specs.Held.{held_of_process, unweighed}
-use Rattle.audit_findings.specs.InTurn.{in_turn}
+use Rattle.audit_findings.specs.InTurn.{in_turn, rows_in}
 use Rattle.audit_findings.specs.References.{is_not_zero, references}
+use Rattle.audit_findings.specs.declared.in_turn.ProcessRow.{ProcessRow}
 use Rattle.audit_findings.specs.declared.references.References.{References}
 
 -- the rows of a process: one for each handle that one of its BC_ACQUIRE, BC_RELEASE, BC_INCREFS and BC_DECREFS names or
@@ -22,6 +23,10 @@ handles_in events process =
 -- whether a handle is unbalanced: its strong or its weak count is not 0; what is held does not matter
 abbrev pub is_unbalanced_handle : HeldRow → Bool
 is_unbalanced_handle row = is_not_zero row.taken.strong.sum || is_not_zero row.taken.weak.sum
+
+-- the rows of each process of these frames, in the order of first frames
+abbrev pub handles_of_each : List PlacedFrame → List (List (ProcessRow HeldRow))
+handles_of_each frames = map (rows_in (handles_in (events_of_frames frames))) (processes_of frames)
 
 -- the section: the rows of each process in turn, and how many are unbalanced
 abbrev pub handle_references : List PlacedFrame → References HeldRow

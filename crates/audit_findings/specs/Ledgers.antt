@@ -18,8 +18,6 @@ use Rattle.audit_findings.specs.Findings.{last_sequence}
 use Rattle.audit_findings.specs.Flags.{flagged}
 use Rattle.audit_findings.specs.Buffers.{is_leaked}
 use Rattle.audit_findings.specs.Handles.{handles_in}
-use Rattle.audit_findings.specs.InTurn.{rows_in}
-use Rattle.audit_findings.specs.declared.in_turn.ProcessRow.{ProcessRow}
 use Rattle.handle_ledger.specs.declared.held_row.HeldRow.{HeldRow}
 use Rattle.event_core.specs.Events.{events_of_frames}
 use Rattle.audit_findings.specs.Kept.{bad_at_place}
@@ -100,11 +98,6 @@ AreFewFrames frames = IsShort frames × AreFewEvents (events_of_frames frames)
 -- a list for each process of these frames, in order: the places of its leaked deliveries
 abbrev pub AreUnfreed : List PlacedFrame → List (List ℕ) → Type 0
 AreUnfreed frames lists = lists ≡ map (places_in is_leaked (events_of_frames frames)) (processes_of frames)
-
--- a list for each process of these frames, in order: its rows of `handles`
-abbrev pub AreListedHandles : List PlacedFrame → List (List (ProcessRow HeldRow)) → Type 0
-AreListedHandles frames lists =
-    lists ≡ map (rows_in (handles_in (events_of_frames frames))) (processes_of frames)
 
 -- whatever process of these frames the ledgers are those of: if the places are those of its leaked deliveries, the
 -- rows are its rows of `handles`

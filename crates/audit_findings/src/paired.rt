@@ -42,9 +42,7 @@ pub(crate) trait OpensAndCloses {
 }
 
 /// The opens that nothing closes, as a list.
-pub(crate) struct Unclosed<P> {
-    of: PhantomData<P>,
-}
+pub(crate) struct Unclosed<P>(PhantomData<P>);
 
 impl<P: OpensAndCloses> ListsPlaces for Unclosed<P> {
     ghost use Rattle.audit_findings.specs.Places.{is_unclosed};
@@ -57,9 +55,7 @@ impl<P: OpensAndCloses> ListsPlaces for Unclosed<P> {
 }
 
 /// The closes of what is not open, as a list.
-pub(crate) struct Strays<P> {
-    of: PhantomData<P>,
-}
+pub(crate) struct Strays<P>(PhantomData<P>);
 
 impl<P: OpensAndCloses> ListsPlaces for Strays<P> {
     ghost use Rattle.audit_findings.specs.Places.{is_stray_close};

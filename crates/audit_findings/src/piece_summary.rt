@@ -1,30 +1,21 @@
 //! The summary of some frames of a capture.
 
-ghost use Rattle.std.specs.Prelude.{◌≡◌, ◌<◌, List, length, map, IfOk, OnOk};
+ghost use Rattle.std.specs.Prelude.{List, [], OnOk};
 ghost use Rattle.capture_frame.specs.Cut.{shown_by};
 ghost use Rattle.capture_frame.specs.Envelope.{PlacedFrame, placed_frame};
+ghost use Rattle.process_ledgers.specs.EachProcess.{SumsEach};
+ghost use Rattle.process_ledgers.specs.ProcessLedgers.{SumsProcess};
 ghost use Rattle.summary_law.specs.Summary.{CanAdd, Adds};
 ghost use Rattle.transaction_view.specs.Grammar.{IsGood};
 ghost use Rattle.audit_findings.specs.Frames.{AreGoodFrames, good_views_halves};
 ghost use Rattle.audit_findings.specs.Ledgers.{AreFewFrames};
-ghost use Rattle.audit_findings.specs.Summary.{SumsPiece, SumsSome, NamesProcess, GivesProcesses, GivesHandlesAt, GivesUnfreed, GiveSectionsOf, process_count};
+ghost use Rattle.audit_findings.specs.Summary.{SumsPiece, SumsSome, NamesProcess};
 
-use crate::both::both;
-use crate::call_sections::CallSections;
-use crate::event_sections::EventSections;
 use crate::event_sums::EventSums;
-use crate::findings::Sections;
 use crate::guesses::Guesses;
-use crate::handles::listed_handles;
-use crate::in_turn::ProcessRow;
-use crate::paired::Unclosed;
-use crate::pairs::BufferPairs;
-use crate::places::lists_of;
-use crate::process_sections::ProcessSections;
 use crate::sequences::Sequences;
-use capture_frame::{Frame, FrameSlice, Process, Thread};
+use capture_frame::{Frame, Process, Thread};
 use event_core::Events;
-use handle_ledger::HeldRow;
 use process_ledgers::{ProcessLedgers, Processes};
 use std::alloc::{AllocError, Global};
 use summary_law::{InOrder, Nothing, Summary};
@@ -33,88 +24,20 @@ use summary_law::{InOrder, Nothing, Summary};
 /// sequences, their processes, and the sums of their events.
 #[derive(Drop)]
 pub struct PieceSummary<'c> {
-    sequences: Sequences,
+    pub(crate) sequences: Sequences,
     /// Each process once, in the order of first frames.
     order: InOrder<Process, Nothing>,
-    of_events: EventSums<'c>,
+    pub(crate) of_events: EventSums<'c>,
     guesses: Guesses,
-    alloc: Global,
+    pub(crate) alloc: Global,
 }
 
 impl<'c> PieceSummary<'c> {
-    /// How many processes the frames have.
-    pub fn process_count(&self) -> usize
-        ensures { result ≡ process_count self.now }
-    {
-        self.order.entries.len()
-    }
-
-    /// The places of the leaked deliveries of each process, rising; the processes in the order of
-    /// first frames.
-    pub fn unfreed(&self) -> Result<Vec<Vec<u64>>, AllocError>
-        ensures count { IfOk result (λ lists. length lists.items ≡ process_count self.now) }
-        ensures places { IfOk result
-            (λ lists. GivesUnfreed self.now (map (λ list. list.items) lists.items)) }
-    {
-        let none = ProcessLedgers::empty(self.alloc);
-        lists_of::<Unclosed<BufferPairs>>(self.alloc, self.processes(&none))
-    }
-
-    /// The rows of handles of the process with this number, from 0 in the order of first frames.
-    /// `frames` are the frames that are summed, and `unfreed` the places of its leaked deliveries.
-    pub fn handles(
-        &self,
-        frames: &FrameSlice<'_, '_>,
-        number: usize,
-        unfreed: &[u64],
-    ) -> Result<Vec<ProcessRow<HeldRow>>, AllocError>
-        requires good { AreGoodFrames frames.now }
-        requires within { number < process_count self.now }
-        ensures { IfOk result
-            (λ rows. GivesHandlesAt self.now frames.now number unfreed.now rows.items) }
-    {
-        let (process, _nothing) = self.order.entries.get_index(number).unwrap();
-        let none = ProcessLedgers::empty(self.alloc);
-        let mut guess = number;
-        let ledgers = self.processes(&none).ledgers(*process, &mut guess);
-        listed_handles(self.alloc, frames, *process, ledgers, unfreed)
-    }
-
-    /// What the findings keep of the frames. `unfreed` and `handles` have a list for each process,
-    /// in the order of first frames: the places of its leaked deliveries, and its rows of handles.
-    pub fn sections(
-        self,
-        unfreed: &[Vec<u64>],
-        handles: &[Vec<ProcessRow<HeldRow>>],
-    ) -> Result<Sections<u64>, AllocError>
-        requires { (frames : List PlacedFrame) × SumsPiece self frames × AreGoodFrames frames }
-        ensures { IfOk result
-            (GiveSectionsOf self.entry (map (λ list. list.items) unfreed.now)
-            (map (λ list. list.items) handles.now)) }
-    {
-        let alloc = self.alloc;
-        let none = ProcessLedgers::empty(alloc);
-        let processes = ProcessSections::of(alloc, self.processes(&none), unfreed, handles);
-        let frames = self.sequences.frames;
-        let missing = self.sequences.missing();
-        let of_events = self.of_events;
-        let calls = CallSections::of(alloc, of_events.threads);
-        let events = EventSections::of(alloc, of_events.all);
-        let ((events, calls), processes) = both(both(events, calls), processes)?;
-        Ok(Sections {
-            frames,
-            missing,
-            events,
-            calls,
-            processes,
-        })
-    }
-
     /// The processes of the frames, with their ledgers. A process without an event that concerns a
     /// ledger has `none`.
-    fn processes<'a>(&'a self, none: &'a ProcessLedgers<'c>) -> Processes<'a, 'c>
-        ensures order { result.order.now ≡ self.now.order }
-        ensures gives { GivesProcesses self.now none.now result }
+    pub(crate) fn processes<'a>(&'a self, none: &'a ProcessLedgers<'c>) -> Processes<'a, 'c>
+        ensures { (frames : List PlacedFrame) → SumsPiece self.now frames →
+            SumsProcess none.now [] → SumsEach result frames }
     {
         Processes {
             order: &self.order,

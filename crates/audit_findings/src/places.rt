@@ -1,6 +1,6 @@
 //! Places that the ledgers of all processes list, rising.
 
-ghost use Rattle.std.specs.Prelude.{◌≡◌, List, length, map, IfOk};
+ghost use Rattle.std.specs.Prelude.{◌≡◌, List, map, IfOk};
 ghost use Rattle.capture_frame.specs.Envelope.{PlacedFrame};
 ghost use Rattle.event_core.specs.Events.{events_of_frames};
 ghost use Rattle.process_ledgers.specs.EachProcess.{SumsEach};
@@ -8,6 +8,7 @@ ghost use Rattle.process_ledgers.specs.Processes.{processes_of};
 ghost use Rattle.audit_findings.specs.Kept.{places_of};
 ghost use Rattle.audit_findings.specs.Places.{RiseInPlace, passing_events, places_in};
 
+use crate::joined::joined;
 use process_ledgers::{ProcessLedgers, Processes};
 use std::alloc::{AllocError, Global};
 
@@ -34,9 +35,7 @@ pub(crate) fn lists_of<L: ListsPlaces>(
     alloc: Global,
     processes: Processes<'_, '_>,
 ) -> Result<Vec<Vec<u64>>, AllocError>
-    ensures count { IfOk result (λ lists.
-        length lists.items ≡ length processes.entry.order.now.entries.entries) }
-    ensures lists { IfOk result (λ lists. (frames : List PlacedFrame) →
+    ensures { IfOk result (λ lists. (frames : List PlacedFrame) →
         SumsEach processes.entry frames →
         map (λ list. list.items) lists.items
         ≡ map (places_in L.test (events_of_frames frames)) (processes_of frames)) }
@@ -61,10 +60,7 @@ pub(crate) fn gathered<L: ListsPlaces>(
         ≡ map (places_in L.test (events_of_frames frames)) (processes_of frames) →
         places.items ≡ places_of (passing_events L.test (events_of_frames frames))) }
 {
-    let mut places = Vec::new(alloc);
-    for list in lists {
-        places.extend_from_slice(list.as_slice())?;
-    }
+    let mut places = joined(alloc, lists)?;
     places.sort_unstable();
     Ok(places)
 }

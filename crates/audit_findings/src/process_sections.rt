@@ -5,12 +5,13 @@ ghost use Rattle.capture_frame.specs.Envelope.{PlacedFrame};
 ghost use Rattle.event_core.specs.Events.{events_of_frames};
 ghost use Rattle.process_ledgers.specs.EachProcess.{SumsEach};
 ghost use Rattle.audit_findings.specs.Findings.{process_sections};
+ghost use Rattle.audit_findings.specs.Handles.{handles_of_each};
 ghost use Rattle.audit_findings.specs.Kept.{processes_at_places};
-ghost use Rattle.audit_findings.specs.Ledgers.{AreListedHandles, AreUnfreed};
+ghost use Rattle.audit_findings.specs.Ledgers.{AreUnfreed};
 ghost use Rattle.audit_findings.specs.Places.{RiseInPlace};
 
 use crate::both::both;
-use crate::handles::handles_of;
+use crate::handles::{ProcessHandles, handles_of};
 use crate::in_turn::ProcessRow;
 use crate::nodes::nodes_of;
 use crate::oneway::{OnewayRow, oneway_rows};
@@ -54,12 +55,12 @@ impl ProcessSections<u64> {
         alloc: Global,
         processes: Processes<'_, '_>,
         unfreed: &[Vec<u64>],
-        handles: &[Vec<ProcessRow<HeldRow>>],
+        handles: &[ProcessHandles],
     ) -> Result<Self, AllocError>
         ensures { IfOk result (λ kept. (frames : List PlacedFrame) →
             SumsEach processes.entry frames →
             AreUnfreed frames (map (λ list. list.items) unfreed.now) →
-            AreListedHandles frames (map (λ list. list.items) handles.now) →
+            map (λ list. list.items) handles.now ≡ handles_of_each frames →
             RiseInPlace (events_of_frames frames) →
             kept ≡ processes_at_places (process_sections frames)) }
     {

@@ -71,9 +71,7 @@ impl ThreadRows {
     {
         self.answered = self.answered.saturating_add(found.answered);
         self.replied = self.replied.saturating_add(found.replied);
-        let openers = found.openers.as_slice();
-        push_made(&mut self.made, openers)?;
-        push_served(&mut self.served, openers)?;
+        push_calls(&mut self.made, &mut self.served, found.openers.as_slice())?;
         push_places(&mut self.strays, found.strays.as_slice())?;
         push_sends(&mut self.sends, found.refused.as_slice())
     }
@@ -96,23 +94,21 @@ fn makes(opener: &Opener<CallEvent>) -> bool
     matches!(opener.event.bracket(None), Bracket::Call)
 }
 
-fn push_made(rows: &mut Vec<Opener<u64>>, openers: &[Opener<CallEvent>]) -> Result<(), AllocError>
-    ensures { OnOk result (rows.new.items ≡ rows.old.items ++ made_of openers.now) }
+/// Pushes the calls of a thread: those that it makes, and those that it serves.
+fn push_calls(
+    made: &mut Vec<Opener<u64>>,
+    served: &mut Vec<Opener<u64>>,
+    openers: &[Opener<CallEvent>],
+) -> Result<(), AllocError>
+    ensures made { OnOk result (made.new.items ≡ made.old.items ++ made_of openers.now) }
+    ensures served { OnOk result
+        (served.new.items ≡ served.old.items ++ served_by openers.now) }
 {
     for opener in openers {
         if makes(opener) {
-            rows.push(kept_call(opener))?;
-        }
-    }
-    Ok(())
-}
-
-fn push_served(rows: &mut Vec<Opener<u64>>, openers: &[Opener<CallEvent>]) -> Result<(), AllocError>
-    ensures { OnOk result (rows.new.items ≡ rows.old.items ++ served_by openers.now) }
-{
-    for opener in openers {
-        if !makes(opener) {
-            rows.push(kept_call(opener))?;
+            made.push(kept_call(opener))?;
+        } else {
+            served.push(kept_call(opener))?;
         }
     }
     Ok(())

@@ -4,5 +4,5 @@ pub mod CutLaws
 pub mod PlaceLaws
 pub mod FaultLaws
 pub mod ShareLaws
-pub mod HandleJobs
+pub mod LookJobs
 pub mod SumLaws

@@ -6,25 +6,24 @@ ghost use Rattle.capture_frame.specs.declared.fault.Fault.{Fault};
 ghost use Rattle.capture_frame.specs.Envelope.{FrameText};
 ghost use Rattle.capture_frame.specs.Parts.{joined_frames};
 ghost use Rattle.transaction_view.specs.Grammar.{first_content_fault, frames_of_parts};
+ghost use Rattle.audit_findings.specs.Frames.{AreGoodFrames};
+ghost use Rattle.audit_findings.specs.Handles.{handles_of_each};
 ghost use Rattle.audit_findings.specs.Kept.{AreSectionsOf};
-ghost use Rattle.audit_findings.specs.Ledgers.{AreListedHandles, AreUnfreed};
-ghost use Rattle.audit_findings.specs.Summary.{SumsPiece, process_count};
 ghost use Rattle.audit_join.specs.Audit.{AreMalformed, IsMalformed};
 ghost use Rattle.audit_join.specs.Jobs.{AreCut, AreSound};
 ghost use Rattle.audit_join.specs.Parts.{IsInPart, in_part};
 ghost use Rattle.audit_join.specs.declared.limits.TheConstants.{CAPTURE_LIMIT};
 
 use crate::audit_error::{AuditError, PartsError};
-use crate::handle_work::HandleWork;
 use crate::judging::judge;
 use crate::limits::CAPTURE_LIMIT;
+use crate::look_work::LookWork;
 use crate::part_places::part_of;
 use crate::piece::Piece;
 use crate::shares::sum_shares;
-use audit_findings::{Findings, PieceSummary, ProcessRow, Sections};
+use audit_findings::{Findings, ProcessHandles, SecondLook, Sections};
 use capture_frame::{FrameList, FrameSlice, PartCut, cut_parts};
 use claim_board::{Gate, NoGate, Stop, Workers, run_all};
-use handle_ledger::HeldRow;
 use std::alloc::{AllocError, Global};
 use std::thread::Threads;
 
@@ -143,54 +142,24 @@ fn sections_of<'c, T: Threads + Sync>(
     requires sound { AreSound frames.now }
     ensures { IfOk result (AreSectionsOf frames.now) }
 {
-    let whole: PieceSummary<'c> = sum_shares(rt, alloc, frames, workers.get())?;
-    let (unfreed, handles) = leaks_of(rt, alloc, frames, &whole, workers)?;
-    whole.sections(unfreed.as_slice(), handles.as_slice())
+    let whole = sum_shares(rt, alloc, frames, workers.get())?;
+    let look = SecondLook::of(whole, frames)?;
+    let handles = look_again(rt, alloc, &look, workers)?;
+    look.sections(handles.as_slice())
 }
 
-/// The places of the leaked deliveries of each process, and its rows of handles.
-fn leaks_of<'c, T: Threads + Sync>(
+/// The rows of handles of each process, by workers that take a process at a time.
+fn look_again<T: Threads + Sync>(
     rt: &T,
     alloc: Global,
-    frames: &FrameSlice<'_, 'c>,
-    whole: &PieceSummary<'c>,
+    look: &SecondLook<'_, '_>,
     workers: Workers,
-) -> Result<(Vec<Vec<u64>>, Vec<Vec<ProcessRow<HeldRow>>>), AllocError>
-    requires cut { AreCut frames.now }
-    requires sound { AreSound frames.now }
-    requires sums { SumsPiece whole.now frames.now }
-    ensures { IfOk result (λ lists. AreUnfreed frames.now (map (λ list. list.items) lists.0.items)
-        × AreListedHandles frames.now (map (λ list. list.items) lists.1.items)) }
+) -> Result<Vec<ProcessHandles>, AllocError>
+    requires { AreGoodFrames look.now }
+    ensures { IfOk result
+        (λ lists. map (λ list. list.items) lists.items ≡ handles_of_each look.now) }
 {
-    let unfreed = whole.unfreed()?;
-    let handles = look_again(rt, alloc, frames, whole, unfreed.as_slice(), workers)?;
-    Ok((unfreed, handles))
-}
-
-/// The rows of handles of each process. Only when all frames are summed is it known which
-/// deliveries are leaked. So what they hold is read from the frames a second time, by workers that
-/// take a process at a time.
-fn look_again<'c, T: Threads + Sync>(
-    rt: &T,
-    alloc: Global,
-    frames: &FrameSlice<'_, 'c>,
-    whole: &PieceSummary<'c>,
-    unfreed: &[Vec<u64>],
-    workers: Workers,
-) -> Result<Vec<Vec<ProcessRow<HeldRow>>>, AllocError>
-    requires cut { AreCut frames.now }
-    requires sound { AreSound frames.now }
-    requires sums { SumsPiece whole.now frames.now }
-    requires each { length unfreed.now ≡ process_count whole.now }
-    ensures { IfOk result (λ lists. AreUnfreed frames.now (map (λ list. list.items) unfreed.now) →
-        AreListedHandles frames.now (map (λ list. list.items) lists.items)) }
-{
-    let work = HandleWork {
-        whole,
-        frames,
-        unfreed,
-    };
-    match run_all(rt, alloc, &work, workers, &NoGate) {
+    match run_all(rt, alloc, &LookWork { look }, workers, &NoGate) {
         Ok(lists) => Ok(lists),
         Err(Stop::Memory) => Err(AllocError),
         // No job has a fault.

@@ -3,10 +3,10 @@
 
 mod audit_error;
 mod audits;
-mod handle_work;
 mod judging;
 pub mod laws;
 mod limits;
+mod look_work;
 mod part_places;
 mod piece;
 mod piece_checks;

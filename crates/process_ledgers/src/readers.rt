@@ -11,9 +11,7 @@ use std::marker::PhantomData;
 use summary_law::Picks;
 
 /// The changes of handles' counts.
-pub struct HandleItems<'c> {
-    of: PhantomData<Event<'c>>,
-}
+pub struct HandleItems<'c>(PhantomData<Event<'c>>);
 
 impl<'c> Picks for HandleItems<'c> {
     type Thing = Event<'c>;
@@ -29,9 +27,7 @@ impl<'c> Picks for HandleItems<'c> {
 }
 
 /// The changes of nodes' counts.
-pub struct NodeItems<'c> {
-    of: PhantomData<Event<'c>>,
-}
+pub struct NodeItems<'c>(PhantomData<Event<'c>>);
 
 impl<'c> Picks for NodeItems<'c> {
     type Thing = Event<'c>;
@@ -47,9 +43,7 @@ impl<'c> Picks for NodeItems<'c> {
 }
 
 /// Deliveries, which open their buffer's address, and frees, which close it.
-pub struct BufferItems<'c> {
-    of: PhantomData<Event<'c>>,
-}
+pub struct BufferItems<'c>(PhantomData<Event<'c>>);
 
 impl<'c> Picks for BufferItems<'c> {
     type Thing = Event<'c>;
@@ -65,9 +59,7 @@ impl<'c> Picks for BufferItems<'c> {
 }
 
 /// Requests, and what ends them.
-pub struct RequestItems<'c> {
-    of: PhantomData<Event<'c>>,
-}
+pub struct RequestItems<'c>(PhantomData<Event<'c>>);
 
 impl<'c> Picks for RequestItems<'c> {
     type Thing = Event<'c>;
@@ -83,9 +75,7 @@ impl<'c> Picks for RequestItems<'c> {
 }
 
 /// Deaths and acknowledgements.
-pub struct DeathItems<'c> {
-    of: PhantomData<Event<'c>>,
-}
+pub struct DeathItems<'c>(PhantomData<Event<'c>>);
 
 impl<'c> Picks for DeathItems<'c> {
     type Thing = Event<'c>;
@@ -101,9 +91,7 @@ impl<'c> Picks for DeathItems<'c> {
 }
 
 /// Clears and confirmations.
-pub struct ClearItems<'c> {
-    of: PhantomData<Event<'c>>,
-}
+pub struct ClearItems<'c>(PhantomData<Event<'c>>);
 
 impl<'c> Picks for ClearItems<'c> {
     type Thing = Event<'c>;
@@ -119,9 +107,7 @@ impl<'c> Picks for ClearItems<'c> {
 }
 
 /// Oneway transactions.
-pub struct OnewayItems<'c> {
-    of: PhantomData<Event<'c>>,
-}
+pub struct OnewayItems<'c>(PhantomData<Event<'c>>);
 
 impl<'c> Picks for OnewayItems<'c> {
     type Thing = Event<'c>;

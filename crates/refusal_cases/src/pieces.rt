@@ -1,19 +1,17 @@
 //! The frames of a capture in pieces, and their summaries.
 
-ghost use Rattle.std.specs.Prelude.{◌≡◌, ◌∷◌, [], List, length, None, IfOk, OnOk};
-ghost use Rattle.capture_frame.specs.Envelope.{PlacedFrame};
+ghost use Rattle.std.specs.Prelude.{◌∷◌, [], None, IfOk, OnOk};
 ghost use Rattle.capture_frame.specs.Cut.{CutsTo};
 ghost use Rattle.audit_findings.specs.Frames.{AreGoodFrames};
-ghost use Rattle.audit_findings.specs.Summary.{SumsPiece, process_count};
+ghost use Rattle.audit_findings.specs.Summary.{SumsPiece};
 ghost use Rattle.audit_join.specs.Jobs.{AreSound};
 
 use crate::no_answer::{NoAnswer, Printed};
 use crate::sums::{self, Way};
 use crate::told;
-use audit_findings::{PieceSummary, ProcessRow, Sections};
+use audit_findings::{PieceSummary, ProcessHandles, SecondLook, Sections};
 use audit_join::{CAPTURE_LIMIT, Piece, Plan};
 use capture_frame::{FrameList, FrameSlice, PartCut, cut_parts};
-use handle_ledger::HeldRow;
 use std::alloc::{AllocError, Global};
 use std::io::Write;
 use transaction_view::check_frame;
@@ -74,54 +72,36 @@ fn tell<'c, W: Write>(
     requires good { AreGoodFrames frames.now }
     requires sums { SumsPiece summary frames.now }
 {
-    match lists_of(alloc, frames, &summary) {
-        Ok((unfreed, handles)) => {
-            tell_sections(summary, unfreed.as_slice(), handles.as_slice(), out)
-        }
+    match SecondLook::of(summary, frames) {
+        Ok(look) => tell_look(alloc, look, out),
         Err(AllocError) => Err(NoAnswer::Memory),
     }
 }
 
-/// The places of the leaked deliveries of each process, and its rows of handles.
-fn lists_of<'c>(
-    alloc: Global,
-    frames: &FrameSlice<'_, 'c>,
-    summary: &PieceSummary<'c>,
-) -> Result<(Vec<Vec<u64>>, Vec<Vec<ProcessRow<HeldRow>>>), AllocError>
-    requires good { AreGoodFrames frames.now }
-{
-    let unfreed = summary.unfreed()?;
-    let handles = handles_of(alloc, frames, summary, unfreed.as_slice())?;
-    Ok((unfreed, handles))
+/// Prints the sections that a second look gives.
+fn tell_look<W: Write>(alloc: Global, look: SecondLook<'_, '_>, out: &mut W) -> Printed {
+    match handles_of(alloc, &look) {
+        Ok(handles) => tell_sections(look, handles.as_slice(), out),
+        Err(AllocError) => Err(NoAnswer::Memory),
+    }
 }
 
 /// The rows of handles of each process.
-fn handles_of<'c>(
-    alloc: Global,
-    frames: &FrameSlice<'_, 'c>,
-    summary: &PieceSummary<'c>,
-    unfreed: &[Vec<u64>],
-) -> Result<Vec<Vec<ProcessRow<HeldRow>>>, AllocError>
-    requires good { AreGoodFrames frames.now }
-    requires each { length unfreed.now ≡ process_count summary.now }
-{
+fn handles_of(alloc: Global, look: &SecondLook<'_, '_>) -> Result<Vec<ProcessHandles>, AllocError> {
     let mut handles = Vec::new(alloc);
-    for number in 0..summary.process_count() {
-        let rows = summary.handles(frames, number, unfreed[number].as_slice())?;
+    for number in 0..look.process_count() {
+        let rows = look.handles(number)?;
         handles.push(rows)?;
     }
     Ok(handles)
 }
 
 fn tell_sections<W: Write>(
-    summary: PieceSummary<'_>,
-    unfreed: &[Vec<u64>],
-    handles: &[Vec<ProcessRow<HeldRow>>],
+    look: SecondLook<'_, '_>,
+    handles: &[ProcessHandles],
     out: &mut W,
-) -> Printed
-    requires { (frames : List PlacedFrame) × SumsPiece summary frames × AreGoodFrames frames }
-{
-    match summary.sections(unfreed, handles) {
+) -> Printed {
+    match look.sections(handles) {
         Ok(sections) => tell_whole(sections, out),
         Err(AllocError) => Err(NoAnswer::Memory),
     }

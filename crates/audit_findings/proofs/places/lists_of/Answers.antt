@@ -1,12 +1,12 @@
-use Rattle.std.proofs.Common.{◌≡◌, ℕ, List, [], ◌∷◌, ◌++◌, Vec, Global, sym, ap, subst, ◌∙◌, rules}
-use Rattle.std.proofs.lemmas.List.{length-map, map-append}
+use Rattle.std.proofs.Common.{◌≡◌, ℕ, List, [], ◌∷◌, ◌++◌, Vec, Global, ap, subst, ◌∙◌, rules}
+use Rattle.std.proofs.lemmas.List.{map-append}
 use Rattle.capture_frame.specs.declared.process.Process.{Process}
 use Rattle.event_core.specs.Events.{EventRead}
 use Rattle.process_ledgers.specs.EachProcess.{AreLedgersOf}
 use Rattle.summary_law.specs.declared.nothing.Nothing.{Nothing}
 use Rattle.audit_findings.specs.Places.{places_in}
 use Rattle.audit_findings.proofs.HandleRows.{lists_of}
-use Rattle.audit_findings.proofs.TurnLaws.{Listing, all_listed, listing_goes_on, listing_long, listing_starts}
+use Rattle.audit_findings.proofs.TurnLaws.{Listing, all_listed, listing_goes_on, listing_starts}
 use Rattle.audit_findings.proofs.places.lists_of.Goals as goal
 
 pub loop-process-init : goal.loop-process-init
@@ -27,13 +27,7 @@ loop-process-preserved g c =
     (λ events is. c.in_ok-own.ensures events e.0 is))
     (ap lists_of pushed ∙ map-append (λ (list : Vec ℕ Global). list.items) c.loop-process.lists.items (own ∷ []))
 
-pub returns-clause-count : goal.returns-clause-count
-returns-clause-count g c =
-    sym (length-map c.loop-process.lists.items (λ (list : Vec ℕ Global). list.items))
-    ∙ listing_long (places_in g.L.ListsPlaces.test) c.args.processes c.loop-process.process-iterator (search rules)
-    (lists_of c.loop-process.lists.items) c.loop-process.invariant
-
-pub returns-clause-lists : goal.returns-clause-lists
-returns-clause-lists g c =
+pub returns : goal.returns
+returns g c =
     all_listed (places_in g.L.ListsPlaces.test) c.args.processes c.loop-process.process-iterator (search rules)
     (lists_of c.loop-process.lists.items) c.loop-process.invariant

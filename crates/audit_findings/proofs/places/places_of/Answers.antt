@@ -7,5 +7,5 @@ pub returns : goal.returns
 returns g c =
     IfOk-weaker c.gathered.result _ _
     (λ places gives frames of rise.
-    gives frames rise (ap lists_of c.as_slice.ensures.value ∙ c.in_ok-lists.ensures.lists frames of))
+    gives frames rise (ap lists_of c.as_slice.ensures.value ∙ c.in_ok-lists.ensures frames of))
     c.gathered.ensures

@@ -1,28 +1,22 @@
-use Rattle.audit_findings.specs.Summary.{process_count}
-use Rattle.audit_join.proofs.CutLaws.{good_cut}
-use Rattle.audit_join.proofs.HandleJobs.{all_listed, few_processes, no_least, process_work}
+use Rattle.std.proofs.Common.{length, sym, ◌∙◌}
+use Rattle.std.proofs.lemmas.List.{length-map}
+use Rattle.event_core.specs.Events.{events_of_frames}
+use Rattle.process_ledgers.specs.Processes.{processes_of}
+use Rattle.audit_findings.specs.Handles.{handles_in, handles_of_each}
+use Rattle.audit_findings.specs.InTurn.{rows_in}
+use Rattle.audit_join.proofs.LookJobs.{all_in_order, few_processes, jobs_long, no_least, process_work}
 use Rattle.audit_join.proofs.audits.look_again.Goals as goal
-
-pub invariant_of-work : goal.invariant_of-work
-invariant_of-work g c =
-    let frames = c.args.frames.now in
-    record {
-      cut = c.requires.cut;
-      sound = c.requires.sound;
-      few = few_processes c.args.whole.now frames c.requires.sums (good_cut frames c.requires.cut c.requires.sound);
-      each = c.requires.each;
-    }
 
 pub run_all-requires-after_bounds : goal.run_all-requires-after_bounds
 run_all-requires-after_bounds g c κs within =
-    let frames = c.args.frames.now in
-    process_work (process_count c.args.whole.now)
-    (few_processes c.args.whole.now frames c.requires.sums (good_cut frames c.requires.cut c.requires.sound))
+    process_work (length (processes_of c.args.look.now)) (few_processes c.args.look.now c.requires)
 
 pub returns-in-Ok : goal.returns-in-Ok
-returns-in-Ok g c unfreed =
-    all_listed c.args.whole.now c.args.frames.now c.args.unfreed.now c.in-Ok.lists.items c.requires.sums c.in-Ok.ensures.results unfreed
+returns-in-Ok g c =
+    let processes = processes_of c.args.look.now in
+    let each = length-map processes (rows_in (handles_in (events_of_frames c.args.look.now))) in
+    all_in_order (handles_of_each c.args.look.now) c.in-Ok.lists.items _ (jobs_long (length processes) ∙ sym each) c.in-Ok.ensures.results
 
 pub unreachable-requires : goal.unreachable-requires
 unreachable-requires g c =
-    no_least (process_count c.args.whole.now) c.in-Err-Least.field-0-0 (rw c.in-Err-Least.field-0-is at c.in-Err-Least.ensures.stop)
+    no_least (length (processes_of c.args.look.now)) c.in-Err-Least.field-0-0 (rw c.in-Err-Least.field-0-is at c.in-Err-Least.ensures.stop)
