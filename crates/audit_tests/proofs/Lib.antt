@@ -1,2 +1,3 @@
 pub mod ListedThere
 pub mod Spacing
+pub mod StoreLaws
