@@ -11,7 +11,6 @@ use Rattle.capture_frame.specs.Process.{same_process}
 use Rattle.capture_frame.specs.declared.process.Process.{Process}
 use Rattle.capture_frame.specs.Envelope.{PlacedFrame}
 use Rattle.event_core.specs.Events.{EventRead, process_of}
-use Rattle.handle_ledger.specs.declared.held_row.HeldRow.{HeldRow}
 use Rattle.process_ledgers.specs.declared.processes.Processes.{Processes}
 use Rattle.process_ledgers.specs.EachProcess.{SumsEach}
 use Rattle.process_ledgers.specs.Processes.{events_in, processes_of}
@@ -20,7 +19,6 @@ use Rattle.summary_law.specs.declared.nothing.Nothing.{Nothing}
 use Rattle.summary_law.proofs.GatherLaws.{in_any}
 use Rattle.summary_law.proofs.Members.{In, Rises, in_middle, rises_from_pairs, same_lists}
 use Rattle.summary_law.proofs.ReadingLaws.{chosen-is, read-at, read-rises}
-use Rattle.audit_findings.specs.declared.in_turn.ProcessRow.{ProcessRow}
 use Rattle.audit_findings.specs.Entries.{AreChosen}
 use Rattle.audit_findings.specs.Places.{EventTest, RiseInPlace, passing_in, places_in}
 use Rattle.audit_findings.proofs.EventLists.{place_of_event}
@@ -97,9 +95,6 @@ entry_at processes frames number e of is =
     ap (λ (ps : List Process). slice_get ps number) (sym of.order) ∙ slice_get-map key processes.order.now.entries.entries number ∙ ap (option_map key) is
 
 -- ---- lists, one after another
-
-abbrev pub ListOfRows : Type 0
-ListOfRows = Vec (ProcessRow HeldRow) Global
 
 abbrev pub items_in : {R : Type 0} → Vec R Global → List R
 items_in list = list.items
