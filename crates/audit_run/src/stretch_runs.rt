@@ -20,7 +20,7 @@ use claim_board::{NoGate, Workers};
 use std::alloc::Global;
 use std::io::Write;
 use std::thread::Threads;
-use std::{mem, thread};
+use std::thread;
 
 /// Writes the report on the capture that was read as these parts, or the line that names its first
 /// fault, and gives the status that goes with it. The parts are judged as they are. Only if they
@@ -44,7 +44,8 @@ pub(crate) fn report_stretches<T: Threads + Sync, W: Write>(
 {
     match report_as_parts(rt, alloc, parts.as_slice(), workers, piece)? {
         Some(text) => {
-            free(rt, parts);
+            let mut parts = parts;
+            free(rt, alloc, parts.as_mut_slice());
             write_text(writer, text.as_bytes())?;
             Ok(0)
         }
@@ -81,9 +82,12 @@ fn report_as_parts<T: Threads + Sync>(
 }
 
 /// Gives the memory of the parts back, by several threads at once.
-fn free<T: Threads + Sync>(rt: &T, parts: Vec<Vec<u8>>) {
-    // Where memory for the results is refused, the parts are freed all the same.
-    let _ = thread::map_vec(rt, parts, &|part: Vec<u8>| mem::drop(part));
+fn free<T: Threads + Sync>(rt: &T, alloc: Global, parts: &mut [Vec<u8>]) {
+    thread::for_each_chunk_mut(rt, parts, 1, &|_start: usize, some: &mut [Vec<u8>]| {
+        for part in some {
+            *part = Vec::new(alloc);
+        }
+    });
 }
 
 /// The first part, and then what the others have after their file headers.
