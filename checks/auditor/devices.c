@@ -7,12 +7,13 @@
      CHANGE_AT, CHANGE_TO             before the read of this number, the file gets the bytes of this other file
 
    For each call a line is added to the file DEVICE_LOG, `read ASKED ANSWERED` or `write ASKED ANSWERED`, and the bytes
-   that a read gave are added to the file DEVICE_BYTES. One thread of the program makes all these calls, so the counts
-   need no lock. */
+   that a read gave are added to the file DEVICE_BYTES. Several threads may read the file: they do so one after
+   another. One thread writes. */
 #define _GNU_SOURCE
 #include <errno.h>
 #include <fcntl.h>
 #include <limits.h>
+#include <pthread.h>
 #include <stdio.h>
 #include <stdlib.h>
 #include <sys/stat.h>
@@ -26,6 +27,7 @@ struct device {
 
 static struct device reader = { .name = "read" }, writer = { .name = "write" };
 static long change_at;
+static pthread_mutex_t reading = PTHREAD_MUTEX_INITIALIZER;
 static struct stat capture;
 static int log_file = -1, bytes_file = -1;
 
@@ -110,12 +112,14 @@ ssize_t read(int file, void *bytes, size_t asked)
 {
 	if (!is_capture(file))
 		return syscall(SYS_read, file, bytes, asked);
+	pthread_mutex_lock(&reading);
 	if (++reader.calls == change_at)
 		change();
 	long given = answer(&reader, SYS_read, file, bytes, asked);
 	int error = errno;
 	told(&reader, asked, given);
 	put(bytes_file, bytes, given > 0 ? given : 0);
+	pthread_mutex_unlock(&reading);
 	errno = error;
 	return given;
 }

@@ -38,6 +38,9 @@ REPLIES = HEADER + write(1, 4000000000, 4000000000, *[transaction(BC_REPLY, flag
 # Frames of 1,000 references to a handle: 8,032 bytes each.
 REFERENCES = HEADER + b"".join(write(number, 100, 101, *each(BC_ACQUIRE, *[7] * 1000)) for number in range(1, 21))
 
+# Frames of 100 references, more than 1 MiB: a file that all workers read at once.
+LARGE = HEADER + b"".join(write(number, 100, 101, *each(BC_ACQUIRE, *[7] * 100)) for number in range(1, 1500))
+
 
 class Run(NamedTuple):
     answer: tuple  # the status, standard output, standard error
@@ -66,11 +69,11 @@ class Program(NamedTuple):
         calls = [(name, int(answered)) for name, _, answered in map(str.split, lines)]
         return Run(answer, calls, (self.room / "given").read_bytes())
 
-    def plain(self, words, capture, streams="", **options):
-        """The answer of a run without the shim, with these redirections of a shell."""
+    def plain(self, words, capture, streams="", before="", **options):
+        """The answer of a run without the shim, with these redirections of a shell, after these words of the shell."""
         (self.room / "capture").write_bytes(capture)
-        return runs.answer(["sh", "-c", f'exec "$0" "$@" {streams}', self.path, *words], timeout=60, cwd=self.room,
-                          **options)
+        return runs.answer(["sh", "-c", f'{before} exec "$0" "$@" {streams}', self.path, *words], timeout=60,
+                          cwd=self.room, **options)
 
 
 def due(words, capture):
@@ -149,6 +152,33 @@ def changed_files(program, fail):
                 fail(f"{words[0]}: a file {name}: not the answer about the bytes that were read")
 
 
+def read_by_all(program, fail):
+    """A file that all workers read at once. Each read fails in turn; the file changes before a read; and the system lets
+    the program open no second file."""
+    whole = program.run(BY_FOUR, LARGE)
+    if whole.answer != due(BY_FOUR, LARGE) or whole.given[:16] != LARGE[:16] or len(whole.given) <= len(LARGE):
+        fail(f"a large file by four: {whole.told()}, {len(whole.given)} bytes read")
+    for number in range(1, len([name for name, _ in whole.calls if name == "read"]) + 1):
+        run = program.run(BY_FOUR, LARGE, READ_FAILS_AT=number, READ_ERROR=errno.EIO)
+        if run.answer != READ:
+            fail(f"read {number} of a large file fails: {run.told()}")
+    frame = write(2000, 100, 101, *each(BC_ACQUIRE, 7))
+    for name, new in [("grown", LARGE + frame), ("grown by less than a frame", LARGE + frame[:-1]),
+                      ("shrunk to a frame's end", LARGE[:-832]), ("shrunk within a frame", LARGE[:-1]),
+                      ("shrunk to a part of it", LARGE[:500_000]), ("emptied", b""),
+                      ("rewritten", LARGE.replace(b"\x07\0\0\0", b"\x08\0\0\0"))]:
+        (program.room / "other").write_bytes(new)
+        run = program.run(BY_FOUR, LARGE, CHANGE_AT=2, CHANGE_TO="other")
+        if run.answer != due(BY_FOUR, LARGE[:16] + new[16:]):
+            fail(f"a large file {name} once its file header is read: {run.told()}")
+        for at in range(3, len(whole.calls), 5):
+            run = program.run(BY_FOUR, LARGE, CHANGE_AT=at, CHANGE_TO="other")
+            if run.answer[0] not in (0, 2) or run.answer[2]:
+                fail(f"a large file {name} before read {at}: {run.told()}")
+    compare("a large file where one file may be open", program.plain(BY_FOUR, LARGE, before="ulimit -n 4;"),
+            due(BY_FOUR, LARGE), fail)
+
+
 def failing_streams(program, fail):
     """Full and closed streams. The status is the same even if the line of the failure can't be written."""
     for words in (REPORT, BY_FOUR, FIRST_FAULT):
@@ -210,7 +240,7 @@ def judge(given, room, fail):
         fail("the long report is too short to fill a pipe twice")
     shim = preloadable(room, "auditor/devices.c")
     for path in given.programs:
-        for case in (slow_devices, failing_reads, failing_writes, changed_files, failing_streams, left_pipes):
+        for case in (slow_devices, failing_reads, failing_writes, changed_files, read_by_all, failing_streams, left_pipes):
             program = Program(path, room, shim)
             case(program, lambda what, case=case: fail(f"{case.__name__}: {what}"))
 
