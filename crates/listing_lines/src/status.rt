@@ -10,7 +10,7 @@ use crate::parts::{FILE_LIMIT, list_parts, push_fault};
 use audit_streams::{read_parts, write_text};
 use clap::ArgMatches;
 use listing_fields::{ListingError, Outcome, write_error};
-use listing_tables::{Ending, NAMES, Name, RowWriter, Streams, Tables, walk_capture};
+use listing_tables::{Ending, NAMES, Name, RowWriter, Tables, Writers, walk_to};
 use std::alloc::{AllocError, Global};
 use std::env::Args;
 use std::fs::Files;
@@ -151,33 +151,12 @@ fn write_one<W: Write>(
     requires nothing { HasNoSteps tables.old }
 {
     match name {
-        Name::Frame => walk_to(
-            alloc,
-            parts,
-            tables,
-            Streams::new(alloc, out, sink(), sink(), sink()),
-        ),
-        Name::Record => walk_to(
-            alloc,
-            parts,
-            tables,
-            Streams::new(alloc, sink(), out, sink(), sink()),
-        ),
-        Name::Object => walk_to(
-            alloc,
-            parts,
-            tables,
-            Streams::new(alloc, sink(), sink(), out, sink()),
-        ),
-        Name::Call => walk_to(
-            alloc,
-            parts,
-            tables,
-            Streams::new(alloc, sink(), sink(), sink(), out),
-        ),
+        Name::Frame => walk_with(alloc, parts, tables, out, sink(), sink(), sink()),
+        Name::Record => walk_with(alloc, parts, tables, sink(), out, sink(), sink()),
+        Name::Object => walk_with(alloc, parts, tables, sink(), sink(), out, sink()),
+        Name::Call => walk_with(alloc, parts, tables, sink(), sink(), sink(), out),
         _ => {
-            let nowhere = Streams::new(alloc, sink(), sink(), sink(), sink());
-            let ending = walk_to(alloc, parts, tables, nowhere)?;
+            let ending = walk_with(alloc, parts, tables, sink(), sink(), sink(), sink())?;
             write_table(tables, name, ending, RowWriter::new(alloc, out))?;
             Ok(ending)
         }
@@ -200,8 +179,7 @@ fn write_all<T: Files>(
     let records = create(rt, alloc, folder, "record")?;
     let objects = create(rt, alloc, folder, "object")?;
     let calls = create(rt, alloc, folder, "call")?;
-    let streams = Streams::new(alloc, frames, records, objects, calls);
-    let ending = walk_to(alloc, parts, tables, streams)?;
+    let ending = walk_with(alloc, parts, tables, frames, records, objects, calls)?;
     for (word, name) in NAMES {
         if !name.is_streamed() {
             let file = create(rt, alloc, folder, word)?;
@@ -211,20 +189,27 @@ fn write_all<T: Files>(
     Ok(ending)
 }
 
-/// Walks through the capture, and writes what is written while the walk goes on.
-fn walk_to<F: Write + Drop, R: Write + Drop, O: Write + Drop, C: Write + Drop>(
+/// Walks through the capture, and writes to these what is written while the walk goes on.
+fn walk_with<F: Write + Drop, R: Write + Drop, O: Write + Drop, C: Write + Drop>(
     alloc: Global,
     parts: &[&[u8]],
     tables: &mut Tables,
-    streams: Streams<F, R, O, C>,
+    frames: F,
+    records: R,
+    objects: O,
+    calls: C,
 ) -> Result<Ending, ListingError>
     requires few { length parts.now < 2 ^ 32 }
     requires fits { sum_by length (map (λ part. part.now) parts.now) < 2 ^ 64 }
     requires nothing { HasNoSteps tables.old }
 {
-    let mut streams = streams;
-    let ending = walk_capture(alloc, parts, tables, &mut streams)?;
-    streams.finish()?;
+    let writers = Writers {
+        frames,
+        records,
+        objects,
+        calls,
+    };
+    let (ending, _) = walk_to(alloc, parts, tables, writers)?;
     Ok(ending)
 }
 

@@ -31,4 +31,4 @@ mod walk;
 pub use judge::Ending;
 pub use rows::RowWriter;
 pub use tables::{NAMES, Name, Tables, name_of};
-pub use walk::{Streams, walk_capture};
+pub use walk::{Writers, walk_to};
