@@ -42,7 +42,8 @@ hexadecimal after 0x.
 --side       at the end of each line, what the side list of ./record says: time=, in nanoseconds of
              CLOCK_MONOTONIC, pid=, tid=, and the names, thread= and process=; with --form tab, five
              more columns
---tables     writes each raw table of docs/DATABASE.md to FOLDER/NAME.rows
+--tables     writes each raw table of docs/DATABASE.md to FOLDER/NAME.rows, and of a malformed
+             capture what comes before its first fault to FOLDER/before-fault.cap
 --table      writes the raw table NAME to standard output
 
 A malformed capture is listed up to its first fault. A last line names the fault as the auditor

@@ -10,7 +10,9 @@ use crate::parts::{FILE_LIMIT, list_parts, push_fault};
 use audit_streams::{read_parts, write_text};
 use clap::ArgMatches;
 use listing_fields::{ListingError, Outcome, write_error};
-use listing_tables::{Ending, NAMES, Name, RowWriter, Tables, Writers, walk_to};
+use listing_tables::{
+    Ending, NAMES, Name, RowWriter, Tables, Writers, walk_to, write_before_fault,
+};
 use std::alloc::{AllocError, Global};
 use std::env::Args;
 use std::fs::Files;
@@ -163,7 +165,8 @@ fn write_one<W: Write>(
     }
 }
 
-/// Writes all tables, each to a file of its own in a folder.
+/// Writes all tables, each to a file of its own in a folder. Of a malformed capture what comes before
+/// its first fault is written beside them.
 fn write_all<T: Files>(
     rt: &T,
     alloc: Global,
@@ -175,16 +178,20 @@ fn write_all<T: Files>(
     requires fits { sum_by length (map (λ part. part.now) parts.now) < 2 ^ 64 }
     requires nothing { HasNoSteps tables.old }
 {
-    let frames = create(rt, alloc, folder, "frame")?;
-    let records = create(rt, alloc, folder, "record")?;
-    let objects = create(rt, alloc, folder, "object")?;
-    let calls = create(rt, alloc, folder, "call")?;
+    let frames = create_table(rt, alloc, folder, "frame")?;
+    let records = create_table(rt, alloc, folder, "record")?;
+    let objects = create_table(rt, alloc, folder, "object")?;
+    let calls = create_table(rt, alloc, folder, "call")?;
     let ending = walk_with(alloc, parts, tables, frames, records, objects, calls)?;
     for (word, name) in NAMES {
         if !name.is_streamed() {
-            let file = create(rt, alloc, folder, word)?;
+            let file = create_table(rt, alloc, folder, word)?;
             write_table(tables, name, ending, RowWriter::new(alloc, file))?;
         }
+    }
+    if ending.fault.is_some() {
+        let file = create(rt, alloc, folder, "before-fault", ".cap")?;
+        write_before_fault(alloc, parts, file)?;
     }
     Ok(ending)
 }
@@ -227,21 +234,31 @@ fn write_table<W: Write + Drop>(
 }
 
 /// Creates the file of a table in a folder.
-fn create<T: Files>(
+fn create_table<T: Files>(
     rt: &T,
     alloc: Global,
     folder: &str,
     name: &str,
 ) -> Result<T::File, ListingError> {
-    let path = path_of(alloc, folder, name)?;
+    create(rt, alloc, folder, name, ".rows")
+}
+
+fn create<T: Files>(
+    rt: &T,
+    alloc: Global,
+    folder: &str,
+    name: &str,
+    suffix: &str,
+) -> Result<T::File, ListingError> {
+    let path = path_of(alloc, folder, name, suffix)?;
     fs::create(rt, path.as_str()).map_err(|error| write_error(&error))
 }
 
-fn path_of(alloc: Global, folder: &str, name: &str) -> Result<String, AllocError> {
+fn path_of(alloc: Global, folder: &str, name: &str, suffix: &str) -> Result<String, AllocError> {
     let mut path = String::from_str(alloc, folder)?;
     path.push_str("/")?;
     path.push_str(name)?;
-    path.push_str(".rows")?;
+    path.push_str(suffix)?;
     Ok(path)
 }
 
