@@ -9,7 +9,7 @@ and fields. A narrowed listing must be the lines of the whole listing that fit. 
 each capture is cut into a file for each frame. In version 2 a frame has a device. Of the payloads in kit/tokens.py each
 must have the interface and the service that it names, and no other. The columns that listing_tables fills are those of
 viewer/database/schema.sql. Of a malformed capture, with each kind of fault, in one part and in a later one, --tables
-also writes what comes before the fault: a good capture with the same rows.
+also writes what comes before the fault: a good capture with the same rows. A side list of another version is refused.
 """
 
 import argparse
@@ -264,6 +264,20 @@ def check_side(fail: Fail) -> None:
             _, number, *thread = line.split()[:5]
             due.append(f"{line} time={told[number]} {people[tuple(thread)]} process={names[tuple(thread[:2])]}")
         compare(f"--side of {capture}", answer(LISTING, capture, "--side", side), (0, due), fail)
+
+
+def check_side_begins(room: pathlib.Path, fail: Fail) -> None:
+    """A side list begins as one of version 1 or 2."""
+    capture, side = "samples/acquire.cap", room / "a.side"
+    refused = 4, ["listing: the side list is not of version 1 or 2"]
+    for begin, due in (("binder side list 1\n", (0, 2)), ("binder side list 2\n", (0, 2)), ("binder side list 3\n", None),
+                       ("binder side list 2", None), ("binder side list 22\n", None), ("", None), ("5 frame 1\n", None)):
+        side.write_text(begin + "7 frame 1\n" * begin.endswith("\n"))
+        status, lines = answer(LISTING, capture, "--side", side)
+        if due is None:
+            compare(f"side list that begins {begin!r}", (status, lines), refused, fail)
+        else:
+            compare(f"side list that begins {begin!r}", (status, sum("time=7" in line for line in lines)), due, fail)
 
 
 def check_calls(capture: str, lines: list[list[str]], fail: Fail) -> None:
@@ -548,7 +562,7 @@ def judge(given: argparse.Namespace, room: pathlib.Path, fail: Fail) -> None:
     check_stored(fail)
     check_captures(given.programs[0], fail)
     for part in (check_narrowed, check_freezes, check_forms, check_parts, check_tables, check_interfaces,
-                 check_services):
+                 check_services, check_side_begins):
         part(room, fail)
     check_before_fault(given.programs[0], room / "malformed", fail)
     check_columns(fail)
