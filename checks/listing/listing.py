@@ -5,10 +5,11 @@
 Each file in `stored/` beside this one must be what the command in its first line prints. For each capture of
 crates/audit_cases/data and samples/ the listing and the auditor's report must agree: in the counts by code, or in the
 line of the first fault, and in the status. Freeze notifications, which the report counts as opaque, have their names
-and fields. A narrowed listing must be the lines of the whole listing that fit. Several
-files are one capture, also if each capture is cut into a file for each frame. In version 2 a frame has a device. Of the
-payloads in kit/tokens.py each must have the interface and the service that it names, and no other. The columns that
-listing_tables fills are those of viewer/database/schema.sql.
+and fields. A narrowed listing must be the lines of the whole listing that fit. Several files are one capture, also if
+each capture is cut into a file for each frame. In version 2 a frame has a device. Of the payloads in kit/tokens.py each
+must have the interface and the service that it names, and no other. The columns that listing_tables fills are those of
+viewer/database/schema.sql. Of a malformed capture, with each kind of fault, in one part and in a later one, --tables
+also writes what comes before the fault: a good capture with the same rows. A side list of another version is refused.
 """
 
 import argparse
@@ -265,6 +266,20 @@ def check_side(fail: Fail) -> None:
         compare(f"--side of {capture}", answer(LISTING, capture, "--side", side), (0, due), fail)
 
 
+def check_side_begins(room: pathlib.Path, fail: Fail) -> None:
+    """A side list begins as one of version 1 or 2."""
+    capture, side = "samples/acquire.cap", room / "a.side"
+    refused = 4, ["listing: the side list is not of version 1 or 2"]
+    for begin, due in (("binder side list 1\n", (0, 2)), ("binder side list 2\n", (0, 2)), ("binder side list 3\n", None),
+                       ("binder side list 2", None), ("binder side list 22\n", None), ("", None), ("5 frame 1\n", None)):
+        side.write_text(begin + "7 frame 1\n" * begin.endswith("\n"))
+        status, lines = answer(LISTING, capture, "--side", side)
+        if due is None:
+            compare(f"side list that begins {begin!r}", (status, lines), refused, fail)
+        else:
+            compare(f"side list that begins {begin!r}", (status, sum("time=7" in line for line in lines)), due, fail)
+
+
 def check_calls(capture: str, lines: list[list[str]], fail: Fail) -> None:
     """The calls of the stored report: the records of the thread from the opener to the closer, or to the end."""
     report = (ROOT / capture).with_name("report.txt").read_text().splitlines()
@@ -452,6 +467,69 @@ def check_in_parts(room: pathlib.Path, capture: pathlib.Path, fail: Fail) -> Non
                 answer(LISTING, capture, *words), fail)
 
 
+# ---- malformed captures
+
+
+# The kinds of fault, in the order of docs/ENVELOPE.md.
+FAULTS = ("HeaderShort HeaderMagic HeaderProtocol HeaderReserved FrameShort FrameSequence FrameDirection FrameReserved"
+          " FrameLength RecordShort RecordDirection RecordSize AttachShort AttachRecord AttachSize").split()
+
+# What comes before and after a malformed capture among the parts of one.
+FIRST_PART = HEADER + write(0, 100, 101, *each(BC_ACQUIRE, 5, 5))
+LAST_PART = HEADER_2 + write(MAX_64, 1, 1, ENTER, device=3)
+
+
+def good_of(part: bytes, kind: str, place: int) -> bytes:
+    """What is good of the frames of a part with this fault."""
+    if kind.startswith("Header"):
+        return b""
+    if kind.startswith("Frame"):
+        return part[16:place]
+    bad = next(one for one in frames_of(part) if one.place < place <= one.end)
+    good = part[bad.place + 32:place]
+    commands, attached = good[:len(bad.commands)], good[len(bad.commands):]
+    return part[16:bad.place] + frame_header(bad.direction, bad.sequence, bad.process, bad.thread, len(commands),
+                                             len(attached), bad.device) + good
+
+
+def check_before_fault(program: pathlib.Path, room: pathlib.Path, fail: Fail) -> None:
+    """Of each malformed capture, alone, as the middle part of three, and as the last of two: what comes before its
+    fault is a good capture with the same places, whose rows are the same."""
+    captures = [path.read_bytes() for path in SMALL]
+    asked = [(at, parts) for at, capture in enumerate(captures) for parts in (
+        [capture], [FIRST_PART, capture, LAST_PART], [FIRST_PART, capture])]
+    kinds = set(runs.at_once(os.cpu_count(), lambda numbered: check_cut(program, room / str(numbered[0]), *numbered[1],
+                                                                        fail), enumerate(asked)))
+    compare("kinds of fault", sorted(kinds - {None}), sorted((kind, part) for kind in FAULTS for part in (1, 2)), fail)
+
+
+def check_cut(program: pathlib.Path, room: pathlib.Path, at: int, parts: list[bytes], fail: Fail
+              ) -> tuple[str, int] | None:
+    """The same of these parts, if they are malformed. Returns the kind of the fault, and its part."""
+    files, folder, again, what = [], room / "tables", room / "again", f"{SMALL[at]}, {len(parts)} parts"
+    folder.mkdir(parents=True)
+    again.mkdir()
+    for number, part in enumerate(parts):
+        files.append(room / f"{number}.cap")
+        files[-1].write_bytes(part)
+    status, told = answer(LISTING, "--tables", folder, *files)
+    cut = folder / "before-fault.cap"
+    compare(f"{what}: is there what comes before a fault", cut.exists(), status == 2, fail)
+    if status != 2:
+        return None
+    _, kind, _, place, *in_part = told[0].split()
+    part = int(in_part[-1]) if in_part else 1
+    due = HEADER_2 + b"".join(one[16:] for one in parts[:part - 1]) + good_of(parts[part - 1], kind, int(place))
+    compare(f"{what}: what comes before {told}", cut.read_bytes(), due, fail)
+    compare(f"{what}: is that good", answer(program, "first-fault", cut), (0, ["no malformed record"]), fail)
+    compare(f"{what}: its tables", answer(LISTING, "--tables", again, cut), (0, []), fail)
+    for path in sorted(again.iterdir()):
+        # What is there of the frame with the fault, and what the capture has, differ.
+        if path.stem not in ("capture", "frame"):
+            compare(f"{what}: the table {path.stem}", path.read_bytes(), (folder / path.name).read_bytes(), fail)
+    return kind, part
+
+
 # ---- words, and files that can't be read
 
 
@@ -484,8 +562,9 @@ def judge(given: argparse.Namespace, room: pathlib.Path, fail: Fail) -> None:
     check_stored(fail)
     check_captures(given.programs[0], fail)
     for part in (check_narrowed, check_freezes, check_forms, check_parts, check_tables, check_interfaces,
-                 check_services):
+                 check_services, check_side_begins):
         part(room, fail)
+    check_before_fault(given.programs[0], room / "malformed", fail)
     check_columns(fail)
     check_places(fail)
     check_side(fail)

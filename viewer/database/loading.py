@@ -6,7 +6,7 @@ import shutil
 import sqlite3
 from typing import Callable
 
-from viewer.database.programs import answer, before_fault, build_programs, fault_in
+from viewer.database.programs import answer, build_programs, fault_in
 from viewer.database.raw_tables import load_rows
 from viewer.database.report import load_findings, load_report
 from viewer.database.side_list import SideList
@@ -76,10 +76,10 @@ def database_of(root: pathlib.Path, files: list[str], side: str | None, made: pa
         raise Stopped(1, f"{called('listing')} and {called('audit')} do not agree: {listed!r} and {malformed!r}")
     tell("making the database")
     load_rows(made, rows, side)
+    if malformed:
+        answer(root, report, "audit", "report", rows / "before-fault.cap")
     shutil.rmtree(rows)
     database = open_database(made)
-    if malformed:
-        answer(root, report, "audit", "report", *before_fault(database, files, made.parent))
     tell("applying the rules")
     fill(database, files, side, report, malformed, methods, beside)
     report.unlink()

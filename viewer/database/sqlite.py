@@ -11,8 +11,8 @@ import sqlite3
 UNLISTED = {"WRITE": "1", "_NTF": str(0x5f4e5446), "NO_PID": "4194304"}
 
 
-# Before the records of a frame come so many bytes, and before the frames of a file so many (docs/ENVELOPE.md).
-FRAME_HEADER, FILE_HEADER = 32, 16
+# Before the records of a frame come so many bytes (docs/ENVELOPE.md).
+FRAME_HEADER = 32
 
 
 def statements_in(text: str) -> list[str]:

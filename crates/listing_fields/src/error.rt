@@ -21,6 +21,8 @@ pub enum ListingError {
     Write,
     /// A file could not be opened.
     Open,
+    /// The side list does not begin as one of a form that is read.
+    SideList,
     /// The reader of the listing has closed the pipe. This is no failure: the listing ends without
     /// a line, with status 0.
     Closed,
@@ -55,6 +57,7 @@ FOLDER FILE..., --table NAME FILE..., or --help\n"
             ListingError::Read => "fault Read\n",
             ListingError::Write => "fault Write\n",
             ListingError::Open => "fault Open\n",
+            ListingError::SideList => "listing: the side list is not of version 1 or 2\n",
             ListingError::Closed => "",
         }
     }

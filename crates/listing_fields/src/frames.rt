@@ -1,7 +1,7 @@
 //! What a frame and a record say: the thread, the number of the direction, `TF_ONE_WAY`.
 
 ghost use Rattle.std.specs.Prelude.{◌≡◌};
-ghost use Rattle.capture_frame.specs.Envelope.{placed_frame};
+ghost use Rattle.capture_frame.specs.Envelope.{direction_number, placed_frame};
 ghost use Rattle.listing_fields.specs.Frames.{thread_of};
 
 use binder_code::{Kind, TransactionFlags};
@@ -34,7 +34,9 @@ pub fn is_oneway(record: Record<'_>) -> bool {
 }
 
 /// The number of a direction in a frame header.
-pub fn direction_number(direction: Direction) -> u64 {
+pub fn direction_number(direction: Direction) -> u8
+    ensures { result ≡ direction_number direction }
+{
     match direction {
         Direction::Write => 1,
         Direction::Read => 2,

@@ -90,7 +90,7 @@ impl Asked {
                 && self.has(Narrowing::Thread, Fit::Is(u64::from(frame.thread)))
                 && self.has(
                     Narrowing::Direction,
-                    Fit::Is(direction_number(frame.direction)),
+                    Fit::Is(u64::from(direction_number(frame.direction))),
                 )
                 && self.has(Narrowing::From, Fit::From(frame.sequence))
                 && self.has(Narrowing::To, Fit::To(frame.sequence))

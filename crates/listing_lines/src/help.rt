@@ -42,11 +42,13 @@ hexadecimal after 0x.
 --side       at the end of each line, what the side list of ./record says: time=, in nanoseconds of
              CLOCK_MONOTONIC, pid=, tid=, and the names, thread= and process=; with --form tab, five
              more columns
---tables     writes each raw table of docs/DATABASE.md to FOLDER/NAME.rows
+--tables     writes each raw table of docs/DATABASE.md to FOLDER/NAME.rows, and of a malformed
+             capture what comes before its first fault to FOLDER/before-fault.cap
 --table      writes the raw table NAME to standard output
 
 A malformed capture is listed up to its first fault. A last line names the fault as the auditor
 does, and the status is 2. The other statuses: 1, nothing is at PLACE; 3, memory was refused; 4, a
-file can't be opened or read, or has more than 1 GiB, or the listing can't be written; 64, the
-command line is not valid. docs/ENVELOPE.md and docs/COMMANDS.md have the format of a capture.
+file can't be opened or read, or has more than 1 GiB, the side list is of another version than 1 or
+2, or the listing can't be written; 64, the command line is not valid. docs/ENVELOPE.md and
+docs/COMMANDS.md have the format of a capture.
 ";

@@ -1,4 +1,4 @@
-//! The side list of `./record`, whose form is in docs/RECORDER.md: the times of frames, and the ids
+//! The side list of `./record`, whose form is in docs/SIDE-LIST.md: the times of frames, and the ids
 //! and names of processes and threads.
 
 use crate::number::number_of;
@@ -8,6 +8,9 @@ use listing_fields::{ListingError, read_error, thread_of};
 use std::alloc::{AllocError, Global};
 use std::io::{BufRead, BufReader, Read};
 use std::str;
+
+/// The first line of each form that is read: of earlier recorders, and of today's.
+const FIRST_LINES: [&[u8]; 2] = [b"binder side list 1\n", b"binder side list 2\n"];
 
 /// The side list, which is read line by line beside the capture.
 #[derive(Drop)]
@@ -54,16 +57,32 @@ struct Named<'s> {
 }
 
 impl<S: Read + Drop> Side<S> {
+    /// A side list, whose first line is read. `SideList` if that is the line of no form that is
+    /// read.
     pub(crate) fn new(alloc: Global, list: S) -> Result<Side<S>, ListingError> {
         let reader = match BufReader::new(alloc, list) {
             Ok(reader) => reader,
             Err(error) => return Err(read_error(&error)),
         };
-        Ok(Side {
+        let mut side = Side {
             reader,
             line: Vec::new(alloc),
             known: Known::new(alloc),
-        })
+        };
+        match side.read_first_line() {
+            Ok(()) => Ok(side),
+            Err(error) => Err(error),
+        }
+    }
+
+    fn read_first_line(&mut self) -> Result<(), ListingError> {
+        self.read_line()?;
+        for first in FIRST_LINES {
+            if self.line.as_slice() == first {
+                return Ok(());
+            }
+        }
+        Err(ListingError::SideList)
     }
 
     /// Reads on to the line of the frame with this sequence, or of the first frame after it.

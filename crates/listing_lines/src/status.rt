@@ -10,7 +10,9 @@ use crate::parts::{FILE_LIMIT, list_parts, push_fault};
 use audit_streams::{read_parts, write_text};
 use clap::ArgMatches;
 use listing_fields::{ListingError, Outcome, write_error};
-use listing_tables::{Ending, NAMES, Name, RowWriter, Streams, Tables, walk_capture};
+use listing_tables::{
+    Ending, NAMES, Name, RowWriter, Tables, Writers, walk_to, write_before_fault,
+};
 use std::alloc::{AllocError, Global};
 use std::env::Args;
 use std::fs::Files;
@@ -151,40 +153,20 @@ fn write_one<W: Write>(
     requires nothing { HasNoSteps tables.old }
 {
     match name {
-        Name::Frame => walk_to(
-            alloc,
-            parts,
-            tables,
-            Streams::new(alloc, out, sink(), sink(), sink()),
-        ),
-        Name::Record => walk_to(
-            alloc,
-            parts,
-            tables,
-            Streams::new(alloc, sink(), out, sink(), sink()),
-        ),
-        Name::Object => walk_to(
-            alloc,
-            parts,
-            tables,
-            Streams::new(alloc, sink(), sink(), out, sink()),
-        ),
-        Name::Call => walk_to(
-            alloc,
-            parts,
-            tables,
-            Streams::new(alloc, sink(), sink(), sink(), out),
-        ),
+        Name::Frame => walk_with(alloc, parts, tables, out, sink(), sink(), sink()),
+        Name::Record => walk_with(alloc, parts, tables, sink(), out, sink(), sink()),
+        Name::Object => walk_with(alloc, parts, tables, sink(), sink(), out, sink()),
+        Name::Call => walk_with(alloc, parts, tables, sink(), sink(), sink(), out),
         _ => {
-            let nowhere = Streams::new(alloc, sink(), sink(), sink(), sink());
-            let ending = walk_to(alloc, parts, tables, nowhere)?;
+            let ending = walk_with(alloc, parts, tables, sink(), sink(), sink(), sink())?;
             write_table(tables, name, ending, RowWriter::new(alloc, out))?;
             Ok(ending)
         }
     }
 }
 
-/// Writes all tables, each to a file of its own in a folder.
+/// Writes all tables, each to a file of its own in a folder. Of a malformed capture what comes before
+/// its first fault is written beside them.
 fn write_all<T: Files>(
     rt: &T,
     alloc: Global,
@@ -196,35 +178,45 @@ fn write_all<T: Files>(
     requires fits { sum_by length (map (λ part. part.now) parts.now) < 2 ^ 64 }
     requires nothing { HasNoSteps tables.old }
 {
-    let frames = create(rt, alloc, folder, "frame")?;
-    let records = create(rt, alloc, folder, "record")?;
-    let objects = create(rt, alloc, folder, "object")?;
-    let calls = create(rt, alloc, folder, "call")?;
-    let streams = Streams::new(alloc, frames, records, objects, calls);
-    let ending = walk_to(alloc, parts, tables, streams)?;
+    let frames = create_table(rt, alloc, folder, "frame")?;
+    let records = create_table(rt, alloc, folder, "record")?;
+    let objects = create_table(rt, alloc, folder, "object")?;
+    let calls = create_table(rt, alloc, folder, "call")?;
+    let ending = walk_with(alloc, parts, tables, frames, records, objects, calls)?;
     for (word, name) in NAMES {
         if !name.is_streamed() {
-            let file = create(rt, alloc, folder, word)?;
+            let file = create_table(rt, alloc, folder, word)?;
             write_table(tables, name, ending, RowWriter::new(alloc, file))?;
         }
+    }
+    if ending.fault.is_some() {
+        let file = create(rt, alloc, folder, "before-fault", ".cap")?;
+        write_before_fault(alloc, parts, file)?;
     }
     Ok(ending)
 }
 
-/// Walks through the capture, and writes what is written while the walk goes on.
-fn walk_to<F: Write + Drop, R: Write + Drop, O: Write + Drop, C: Write + Drop>(
+/// Walks through the capture, and writes to these what is written while the walk goes on.
+fn walk_with<F: Write + Drop, R: Write + Drop, O: Write + Drop, C: Write + Drop>(
     alloc: Global,
     parts: &[&[u8]],
     tables: &mut Tables,
-    streams: Streams<F, R, O, C>,
+    frames: F,
+    records: R,
+    objects: O,
+    calls: C,
 ) -> Result<Ending, ListingError>
     requires few { length parts.now < 2 ^ 32 }
     requires fits { sum_by length (map (λ part. part.now) parts.now) < 2 ^ 64 }
     requires nothing { HasNoSteps tables.old }
 {
-    let mut streams = streams;
-    let ending = walk_capture(alloc, parts, tables, &mut streams)?;
-    streams.finish()?;
+    let writers = Writers {
+        frames,
+        records,
+        objects,
+        calls,
+    };
+    let (ending, _) = walk_to(alloc, parts, tables, writers)?;
     Ok(ending)
 }
 
@@ -242,21 +234,31 @@ fn write_table<W: Write + Drop>(
 }
 
 /// Creates the file of a table in a folder.
-fn create<T: Files>(
+fn create_table<T: Files>(
     rt: &T,
     alloc: Global,
     folder: &str,
     name: &str,
 ) -> Result<T::File, ListingError> {
-    let path = path_of(alloc, folder, name)?;
+    create(rt, alloc, folder, name, ".rows")
+}
+
+fn create<T: Files>(
+    rt: &T,
+    alloc: Global,
+    folder: &str,
+    name: &str,
+    suffix: &str,
+) -> Result<T::File, ListingError> {
+    let path = path_of(alloc, folder, name, suffix)?;
     fs::create(rt, path.as_str()).map_err(|error| write_error(&error))
 }
 
-fn path_of(alloc: Global, folder: &str, name: &str) -> Result<String, AllocError> {
+fn path_of(alloc: Global, folder: &str, name: &str, suffix: &str) -> Result<String, AllocError> {
     let mut path = String::from_str(alloc, folder)?;
     path.push_str("/")?;
     path.push_str(name)?;
-    path.push_str(".rows")?;
+    path.push_str(suffix)?;
     Ok(path)
 }
 

@@ -1,11 +1,12 @@
 -- Rows that are added to a writer, one after another; and the frames up to the first whose content has a fault.
-use Rattle.std.proofs.Common.{◌≡◌, ℕ, suc, ◌+◌, ◌<◌, All, length, drop, get_or, List, ◌∷◌, ◌++◌, [], take, Option, Some, None, is_some, true, false, refl, ap, sym, subst, ◌∙◌, append_assoc}
+use Rattle.std.proofs.Common.{◌≡◌, ℕ, suc, ◌+◌, ◌<◌, All, length, drop, get_or, List, ◌∷◌, ◌++◌, [], take, Option, Some, None, is_some, true, false, refl, ap, sym, subst, ◌∙◌}
+use Rattle.std.proofs.KnownBytes.{Appends-kept, Appends-nil, Appends-trans}
 use Rattle.std.proofs.lemmas.Bool.{true≢false}
 use Rattle.std.proofs.lemmas.Grind.{flat_map-append}
 use Rattle.std.proofs.lemmas.List.{append-nil, take-append-drop, take_more}
 use Rattle.std.proofs.lemmas.List.Elements.{recursion_from_All}
 use Rattle.std.proofs.Math.Seq.{drop-cons}
-use Rattle.std.specs.Io.KnownBytes.{Appends}
+use Rattle.std.specs.Io.KnownBytes.{Appends, Keeps}
 use Rattle.std.specs.List.{AllByRecursion, AllZip, flat_map}
 use Rattle.listing_tables.specs.Columns.{AddsRows, row_bytes}
 use Rattle.listing_tables.specs.declared.rows.Column.{Column}
@@ -14,15 +15,11 @@ use Rattle.capture_frame.specs.Envelope.{PlacedFrame}
 use Rattle.transaction_view.specs.Grammar.{content_fault, IsGood}
 use Rattle.listing_tables.specs.Walk.{unless_fault, up_to_fault}
 
-appends_none : (known : Option (List ℕ)) → Appends known known []
-appends_none None = tt
-appends_none (Some xs) = sym (append-nil xs)
-
-appends_more : (a b c : Option (List ℕ)) (p q : List ℕ) → Appends a b p → Appends b c q → Appends a c (p ++ q)
-appends_more None b c p q first second = tt
-appends_more (Some xs) None c p q first second = absurd first
-appends_more (Some xs) (Some ys) None p q first second = absurd second
-appends_more (Some xs) (Some ys) (Some zs) p q first second = second ∙ ap (λ l. l ++ q) first ∙ append_assoc xs p q
+kept_before : (a b c : Option (List ℕ)) (p : List ℕ) → Keeps a b → Appends b c p → Appends a c p
+kept_before None b c p kept added = tt
+kept_before (Some xs) None c p kept added = absurd kept
+kept_before (Some xs) (Some ys) None p kept added = absurd added
+kept_before (Some xs) (Some ys) (Some zs) p kept added = added ∙ ap (λ l. l ++ p) kept
 
 zip_more : {A B : Type 0} (R : A → B → Type 0) (xs : List A) (rs : List B) (ys : List A) (ss : List B) → AllZip R xs rs → AllZip R ys ss
     → AllZip R (xs ++ ys) (rs ++ ss)
@@ -34,7 +31,7 @@ zip_more R (x ∷ xs) (r ∷ rs) ys ss first second = (first.0, zip_more R xs rs
 module _ {A : Type 0} (IsRow : A → List Column → Type 0) where
   -- no row is added
   pub no_rows : (known : Option (List ℕ)) → AddsRows IsRow known known []
-  no_rows known = record { rows = []; are_rows = tt; are = appends_none known }
+  no_rows known = record { rows = []; are_rows = tt; are = Appends-nil known }
 
   -- a row is added
   pub one_row : (old new : Option (List ℕ)) (thing : A) (row : List Column) → IsRow thing row → Appends old new (row_bytes row)
@@ -51,7 +48,15 @@ module _ {A : Type 0} (IsRow : A → List Column → Type 0) where
     rows = first.rows ++ second.rows;
     are_rows = zip_more IsRow xs first.rows ys second.rows first.are_rows second.are_rows;
     are = subst (Appends a c) (sym (flat_map-append row_bytes first.rows second.rows))
-        (appends_more a b c (flat_map row_bytes first.rows) (flat_map row_bytes second.rows) first.are second.are);
+        (Appends-trans a b c (flat_map row_bytes first.rows) (flat_map row_bytes second.rows) first.are second.are);
+  }
+
+  -- the writer kept what it had before the rows, and keeps what it has after them
+  pub kept_rows : (a b c d : Option (List ℕ)) (xs : List A) → Keeps a b → AddsRows IsRow b c xs → Keeps c d → AddsRows IsRow a d xs
+  kept_rows a b c d xs before added after = record {
+    rows = added.rows;
+    are_rows = added.are_rows;
+    are = Appends-kept a c d (flat_map row_bytes added.rows) (kept_before a b c (flat_map row_bytes added.rows) before added.are) after;
   }
 
 -- good frames come before the others

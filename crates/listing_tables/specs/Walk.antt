@@ -1,8 +1,8 @@
 -- The frames and the records of a capture that the raw tables have, and the rows that are written of them.
-use Rattle.std.specs.Prelude.{ℕ, ◌≡◌, List, [], ◌∷◌, map, take, Option, Some, None}
+use Rattle.std.specs.Prelude.{ℕ, ◌≡◌, List, [], ◌∷◌, drop, length, map, take, Option, Some, None}
 use Rattle.capture_frame.specs.Cut.{cut_of}
 use Rattle.capture_frame.specs.declared.fault.Fault.{Fault}
-use Rattle.capture_frame.specs.Envelope.{PlacedFrame}
+use Rattle.capture_frame.specs.Envelope.{PlacedFrame, direction_number}
 use Rattle.capture_frame.specs.Parts.{joined_frames}
 use Rattle.capture_frame.specs.Units.{Placed}
 use Rattle.record_view.specs.Records.{RecordText, records_of}
@@ -27,9 +27,12 @@ up_to_fault (frame ∷ frames) = frame ∷ unless_fault (content_fault frame) (u
 abbrev pub counted_frames : List (List ℕ) → List PlacedFrame
 counted_frames parts = up_to_fault (joined_frames (cut_of parts).frames)
 
--- what the row of a frame begins with: its sequence and its place
-abbrev pub frame_begin : PlacedFrame → List Column
-frame_begin frame = Number frame.unit.sequence ∷ Number frame.place ∷ []
+-- What the row of a frame has: its sequence, its place, its direction, how many command bytes and attachment bytes it
+-- has, and how many of its records come before a fault. Of the thread, the third column, nothing is said.
+pub record IsFrameRow (frame : PlacedFrame) (row : List Column) : Type 0 where
+  pub begins : take 2 row ≡ Number frame.unit.sequence ∷ Number frame.place ∷ []
+  pub ends : drop 3 row ≡ Number (direction_number frame.unit.direction) ∷ Number (length frame.unit.commands)
+      ∷ Number (length frame.unit.attachments) ∷ Number (length (records_of frame).units) ∷ []
 
 -- what the row of a record begins with: its place, and the sequence of its frame
 abbrev pub record_begin : PlacedFrame → Placed RecordText → List Column

@@ -43,15 +43,17 @@ pub(crate) fn frames_of<'c>(
         ≡ counted_frames (map (λ part. part.now) parts.now)) }
 {
     match cut_parts(alloc, parts) {
-        Ok(frames) => judged(frames, parts),
+        Ok(frames) => judged(frames, None, parts),
         Err(PartCut::Memory) => Err(ListingError::Memory),
-        Err(PartCut::Bad { found: _, before }) => judged(before, parts),
+        Err(PartCut::Bad { found, before }) => judged(before, Some(found), parts),
     }
 }
 
-/// The frames, and how far the capture goes in whose parts they are.
+/// The frames, and how far the capture goes in whose parts they are. After them a header has the
+/// fault `cut`, if there is one.
 fn judged<'c>(
     frames: FrameList<'c>,
+    cut: Option<PartFault>,
     parts: &[&[u8]],
 ) -> Result<(FrameList<'c>, Ending), ListingError>
     requires { length parts.now < 2 ^ 32 }
@@ -61,7 +63,11 @@ fn judged<'c>(
         take found.1.count frames.entry ≡ up_to_fault frames.entry) }
 {
     let count = count_up_to_fault(&frames.as_slice());
-    let fault = first_fault_parts(parts);
+    let fault = if ends_with_fault(&frames.as_slice(), count) {
+        first_fault_parts(parts)
+    } else {
+        cut
+    };
     let ending = Ending {
         parts: parts.len() as u64,
         bytes: bytes_up_to(parts, fault)?,
@@ -83,6 +89,13 @@ fn count_up_to_fault(frames: &FrameSlice<'_, '_>) -> usize
         }
     }
     frames.len()
+}
+
+/// Whether the content of the last of the first `count` frames has a fault.
+fn ends_with_fault(frames: &FrameSlice<'_, '_>, count: usize) -> bool
+    requires { count ≤ length frames.now }
+{
+    count > 0 && check_frame(frames.get(count - 1)).is_some()
 }
 
 /// The sequences of the first and of the last of the first `count` frames.

@@ -1,6 +1,7 @@
 //! The raw tables of a capture, as docs/DATABASE.md has them: rows of numbers and names.
 #![tactic(auto)]
 
+mod before_fault;
 mod buffers;
 mod calls;
 mod fitting;
@@ -28,7 +29,8 @@ mod tables;
 mod waiting;
 mod walk;
 
+pub use before_fault::write_before_fault;
 pub use judge::Ending;
 pub use rows::RowWriter;
 pub use tables::{NAMES, Name, Tables, name_of};
-pub use walk::{Streams, walk_capture};
+pub use walk::{Writers, walk_to};

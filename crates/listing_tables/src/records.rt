@@ -1,8 +1,10 @@
 //! The tables frame, record and object, which are written while the walk goes on.
 
+ghost use Rattle.std.specs.Prelude.{◌≡◌, length};
 ghost use Rattle.capture_frame.specs.Envelope.{placed_frame};
+ghost use Rattle.record_view.specs.Records.{records_of};
 ghost use Rattle.listing_fields.specs.Content.{record_of_item};
-ghost use Rattle.listing_tables.specs.Walk.{BeginsWith, frame_begin, record_begin};
+ghost use Rattle.listing_tables.specs.Walk.{BeginsWith, IsFrameRow, record_begin};
 
 use crate::rows::{Column, RowWriter, columns, signed};
 use binder_code::Kind;
@@ -20,13 +22,14 @@ const STATUS_CODE: u32 = 0x08;
 
 /// The row of a frame with this many records.
 pub(crate) fn frame_columns(frame: Frame<'_>, utid: u32, records: u64) -> [Column<'static>; 7]
-    ensures { BeginsWith (frame_begin (placed_frame frame.entry)) result }
+    requires { records ≡ length (records_of (placed_frame frame)).units }
+    ensures { IsFrameRow (placed_frame frame.entry) result }
 {
     columns! {
         seq: frame.sequence,
         place: frame.place,
         utid: utid,
-        direction: direction_number(frame.direction),
+        direction: u64::from(direction_number(frame.direction)),
         command_length: frame.commands.len() as u64,
         attachment_length: frame.attachments.len() as u64,
         records: records,

@@ -1,11 +1,13 @@
 //! The rows that are written.
 
-ghost use Rattle.std.specs.Prelude.{◌≡◌, ◌≤◌, ◌++◌, length, IfOk, OnOk};
+ghost use Rattle.std.specs.Prelude.{◌≡◌, ◌≤◌, ◌+◌, ◌++◌, length, IfOk, OnOk};
 ghost use Rattle.std.specs.Int.{w64, to_le_bytes};
 ghost use Rattle.std.specs.Io.KnownBytes.{Appends, Keeps};
+ghost use Rattle.arrayvec.specs.ArrayVec.{array_vec_len};
 ghost use Rattle.listing_tables.specs.Columns.{column_of, column_bytes, mask_of, row_bytes};
 ghost use Rattle.listing_tables.specs.declared.rows.Column.TheVariants.{Number};
 
+use arrayvec::ArrayVec;
 use listing_fields::{ListingError, Outcome, write_error};
 use std::alloc::Global;
 use std::io::Write;
@@ -20,6 +22,8 @@ const PIECE: usize = 65_536;
 pub struct RowWriter<W: Write + Drop> {
     /// What is not written yet.
     bytes: Vec<u8>,
+    /// Where a row is made.
+    row: Numbers,
     writer: W,
 }
 
@@ -38,6 +42,7 @@ impl<W: Write + Drop> RowWriter<W> {
     {
         RowWriter {
             bytes: Vec::new(alloc),
+            row: Numbers::new(),
             writer,
         }
     }
@@ -48,7 +53,7 @@ impl<W: Write + Drop> RowWriter<W> {
         requires { length columns.now ≤ 63 }
         ensures { OnOk result (Appends self.old self.new (row_bytes columns.now)) }
     {
-        push_row(&mut self.bytes, columns)?;
+        push_row(&mut self.bytes, &mut self.row, columns)?;
         if self.bytes.len() < PIECE {
             return Ok(());
         }
@@ -67,7 +72,11 @@ impl<W: Write + Drop> RowWriter<W> {
     pub fn finish(self) -> Result<W, ListingError>
         ensures { IfOk result (λ writer. Keeps self (W.contents writer)) }
     {
-        let RowWriter { bytes, mut writer } = self;
+        let RowWriter {
+            bytes,
+            row: _,
+            mut writer,
+        } = self;
         match write_whole(&mut writer, bytes.as_slice()) {
             Ok(()) => Ok(writer),
             Err(error) => Err(error),
@@ -84,36 +93,52 @@ fn write_whole<W: Write>(writer: &mut W, bytes: &[u8]) -> Outcome
     writer.flush().map_err(|error| write_error(&error))
 }
 
-fn push_row(bytes: &mut Vec<u8>, columns: &[Column<'_>]) -> Outcome
+/// Numbers of a row that are not yet among the bytes. To add each of them to a `Vec` by itself, or
+/// to begin with an empty array for each row, takes longer.
+type Numbers = ArrayVec<u8, 512>;
+
+fn push_row(bytes: &mut Vec<u8>, row: &mut Numbers, columns: &[Column<'_>]) -> Outcome
     requires { length columns.now ≤ 63 }
     ensures { OnOk result (bytes.new.items ≡ bytes.old.items ++ row_bytes columns.now) }
 {
-    push_number(bytes, mask_of(columns))?;
+    row.clear();
+    push_number(row, mask_of(columns));
     for column in columns {
-        push_column(bytes, *column)?;
+        push_column(bytes, row, *column)?;
     }
+    bytes.extend_from_slice(row.as_slice())?;
     Ok(())
 }
 
-fn push_column(bytes: &mut Vec<u8>, column: Column<'_>) -> Outcome
-    ensures { OnOk result (bytes.new.items ≡ bytes.old.items ++ column_bytes column.entry) }
+#[inline(always)]
+fn push_column(bytes: &mut Vec<u8>, row: &mut Numbers, column: Column<'_>) -> Outcome
+    requires { array_vec_len row.old + 8 ≤ 512 }
+    ensures added { OnOk result (bytes.new.items ++ row.new.items
+        ≡ (bytes.old.items ++ row.old.items) ++ column_bytes column.entry) }
+    ensures room { array_vec_len row.new ≤ array_vec_len row.old + 8 }
 {
     match column {
-        Column::Null => Ok(()),
-        Column::Number(number) => push_number(bytes, number),
+        Column::Null => {}
+        Column::Number(number) => push_number(row, number),
         Column::Text(text) => {
-            push_number(bytes, text.len() as u64)?;
+            push_number(row, text.len() as u64);
+            bytes.extend_from_slice(row.as_slice())?;
+            row.clear();
             bytes.extend_from_slice(text)?;
-            Ok(())
         }
     }
+    Ok(())
 }
 
-fn push_number(bytes: &mut Vec<u8>, number: u64) -> Outcome
-    ensures { OnOk result (bytes.new.items ≡ bytes.old.items ++ to_le_bytes w64 number) }
+#[inline(always)]
+fn push_number(row: &mut Numbers, number: u64)
+    requires { array_vec_len row.old + 8 ≤ 512 }
+    ensures added { row.new.items ≡ row.old.items ++ to_le_bytes w64 number }
+    ensures room { array_vec_len row.new ≡ array_vec_len row.old + 8 }
 {
-    bytes.extend_from_slice(&number.to_le_bytes())?;
-    Ok(())
+    let Ok(()) = row.try_extend_from_slice(&number.to_le_bytes()) else {
+        unreachable!()
+    };
 }
 
 /// Which columns are not NULL.
@@ -121,16 +146,14 @@ fn mask_of(columns: &[Column<'_>]) -> u64
     requires { length columns.now ≤ 63 }
     ensures { result ≡ mask_of columns.now }
 {
-    match columns.split_first() {
-        Some((first, others)) => {
-            let rest = 2 * mask_of(others);
-            match *first {
-                Column::Null => rest,
-                Column::Number(_) | Column::Text(_) => rest + 1,
-            }
+    let mut mask = 0;
+    for number in (0..columns.len()).rev() {
+        mask *= 2;
+        if !matches!(columns[number], Column::Null) {
+            mask += 1;
         }
-        None => 0,
     }
+    mask
 }
 
 /// What a row has in a column. A text is ASCII.

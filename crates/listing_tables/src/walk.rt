@@ -6,7 +6,7 @@ ghost use Rattle.std.specs.List.{flat_map, sum_by};
 ghost use Rattle.capture_frame.specs.Envelope.{placed_frame};
 ghost use Rattle.listing_fields.specs.Content.{record_of_item};
 ghost use Rattle.listing_tables.specs.Columns.{AddsRows};
-ghost use Rattle.listing_tables.specs.Walk.{BeginsWith, HasNoSteps, counted_frames, frame_begin, record_begin, record_begins};
+ghost use Rattle.listing_tables.specs.Walk.{BeginsWith, HasNoSteps, IsFrameRow, counted_frames, record_begin, record_begins};
 ghost use Rattle.listing_tables.specs.Steps.{AddsMarked, IsKept, WritesCalls, marked_in, marked_of};
 
 use crate::judge::{Ending, frames_of};
@@ -22,19 +22,35 @@ use std::io::Write;
 
 /// The writers of the tables that are written while the walk goes on.
 #[derive(Drop)]
-pub struct Streams<F: Write + Drop, R: Write + Drop, O: Write + Drop, C: Write + Drop> {
-    pub frames: RowWriter<F>,
-    pub records: RowWriter<R>,
-    pub objects: RowWriter<O>,
-    pub calls: RowWriter<C>,
+pub struct Writers<F: Write + Drop, R: Write + Drop, O: Write + Drop, C: Write + Drop> {
+    pub frames: F,
+    pub records: R,
+    pub objects: O,
+    pub calls: C,
+}
+
+/// The rows that are written to these writers.
+#[derive(Drop)]
+pub(crate) struct Streams<F: Write + Drop, R: Write + Drop, O: Write + Drop, C: Write + Drop> {
+    frames: RowWriter<F>,
+    records: RowWriter<R>,
+    objects: RowWriter<O>,
+    calls: RowWriter<C>,
 }
 
 impl<F: Write + Drop, R: Write + Drop, O: Write + Drop, C: Write + Drop> Streams<F, R, O, C> {
-    pub fn new(alloc: Global, frames: F, records: R, objects: O, calls: C) -> Streams<F, R, O, C>
-        ensures frames { Keeps (F.contents frames) result.frames }
-        ensures records { Keeps (R.contents records) result.records }
-        ensures calls { Keeps (C.contents calls) result.calls }
+    fn new(alloc: Global, writers: Writers<F, R, O, C>) -> Streams<F, R, O, C>
+        ensures frames { Keeps (F.contents writers.frames) result.frames }
+        ensures records { Keeps (R.contents writers.records) result.records }
+        ensures objects { Keeps (O.contents writers.objects) result.objects }
+        ensures calls { Keeps (C.contents writers.calls) result.calls }
     {
+        let Writers {
+            frames,
+            records,
+            objects,
+            calls,
+        } = writers;
         Streams {
             frames: RowWriter::new(alloc, frames),
             records: RowWriter::new(alloc, records),
@@ -43,25 +59,58 @@ impl<F: Write + Drop, R: Write + Drop, O: Write + Drop, C: Write + Drop> Streams
         }
     }
 
-    /// Writes what is not written yet.
-    pub fn finish(self) -> Outcome {
+    /// Writes what is not written yet, and gives the writers back.
+    fn finish(self) -> Result<Writers<F, R, O, C>, ListingError>
+        ensures frames { IfOk result (λ writers. Keeps self.frames (F.contents writers.frames)) }
+        ensures records { IfOk result (λ writers. Keeps self.records (R.contents writers.records)) }
+        ensures objects { IfOk result (λ writers. Keeps self.objects (O.contents writers.objects)) }
+        ensures calls { IfOk result (λ writers. Keeps self.calls (C.contents writers.calls)) }
+    {
         let Streams {
             frames,
             records,
             objects,
             calls,
         } = self;
-        frames.finish()?;
-        records.finish()?;
-        objects.finish()?;
-        calls.finish()?;
-        Ok(())
+        Ok(Writers {
+            frames: frames.finish()?,
+            records: records.finish()?,
+            objects: objects.finish()?,
+            calls: calls.finish()?,
+        })
     }
 }
 
-/// Walks through the capture that has these parts, up to its first fault. The rows of frames, records
-/// and objects are written as they come; of the other tables everything is kept.
-pub fn walk_capture<F: Write + Drop, R: Write + Drop, O: Write + Drop, C: Write + Drop>(
+/// Walks through the capture that has these parts, up to its first fault. The rows of frames,
+/// records, objects and calls are written; of the other tables everything is kept. Gives the writers
+/// back.
+pub fn walk_to<F: Write + Drop, R: Write + Drop, O: Write + Drop, C: Write + Drop>(
+    alloc: Global,
+    parts: &[&[u8]],
+    tables: &mut Tables,
+    writers: Writers<F, R, O, C>,
+) -> Result<(Ending, Writers<F, R, O, C>), ListingError>
+    requires few { length parts.now < 2 ^ 32 }
+    requires fits { sum_by length (map (λ part. part.now) parts.now) < 2 ^ 64 }
+    requires nothing { HasNoSteps tables.old }
+    ensures frames { IfOk result (λ done. AddsRows IsFrameRow
+        (F.contents writers.frames) (F.contents done.1.frames)
+        (counted_frames (map (λ part. part.now) parts.now))) }
+    ensures records { IfOk result (λ done. AddsRows BeginsWith
+        (R.contents writers.records) (R.contents done.1.records)
+        (flat_map record_begins (counted_frames (map (λ part. part.now) parts.now)))) }
+    ensures calls { IfOk result (λ done. WritesCalls
+        (C.contents writers.calls) (C.contents done.1.calls)
+        (flat_map marked_in (counted_frames (map (λ part. part.now) parts.now)))) }
+{
+    let mut streams = Streams::new(alloc, writers);
+    let ending = walk_capture(alloc, parts, tables, &mut streams)?;
+    Ok((ending, streams.finish()?))
+}
+
+/// Walks through the capture. The rows of frames, records and objects are written as they come, and
+/// those of calls at the end.
+fn walk_capture<F: Write + Drop, R: Write + Drop, O: Write + Drop, C: Write + Drop>(
     alloc: Global,
     parts: &[&[u8]],
     tables: &mut Tables,
@@ -70,8 +119,8 @@ pub fn walk_capture<F: Write + Drop, R: Write + Drop, O: Write + Drop, C: Write 
     requires few { length parts.now < 2 ^ 32 }
     requires fits { sum_by length (map (λ part. part.now) parts.now) < 2 ^ 64 }
     requires nothing { HasNoSteps tables.old }
-    ensures frames { OnOk result (AddsRows BeginsWith streams.old.frames streams.new.frames
-        (map frame_begin (counted_frames (map (λ part. part.now) parts.now)))) }
+    ensures frames { OnOk result (AddsRows IsFrameRow streams.old.frames streams.new.frames
+        (counted_frames (map (λ part. part.now) parts.now))) }
     ensures records { OnOk result (AddsRows BeginsWith streams.old.records streams.new.records
         (flat_map record_begins (counted_frames (map (λ part. part.now) parts.now)))) }
     ensures calls { OnOk result (WritesCalls streams.old.calls streams.new.calls
@@ -80,6 +129,8 @@ pub fn walk_capture<F: Write + Drop, R: Write + Drop, O: Write + Drop, C: Write 
     let (frames, ending) = frames_of(alloc, parts)?;
     tables.begin(ending);
     walk_frames(&frames.as_slice(), ending.count, tables, streams)?;
+    // What the tables take at the end is the most.
+    drop(frames);
     tables.finish(alloc, &mut streams.calls)?;
     Ok(ending)
 }
@@ -93,8 +144,8 @@ fn walk_frames<F: Write + Drop, R: Write + Drop, O: Write + Drop, C: Write + Dro
 ) -> Outcome
     requires kept { IsKept tables.old.steps.entries.entries }
     requires few { count ≤ length frames.now }
-    ensures frames { OnOk result (AddsRows BeginsWith streams.old.frames streams.new.frames
-        (map frame_begin (take count frames.now))) }
+    ensures frames { OnOk result (AddsRows IsFrameRow streams.old.frames streams.new.frames
+        (take count frames.now)) }
     ensures records { OnOk result (AddsRows BeginsWith streams.old.records streams.new.records
         (flat_map record_begins (take count frames.now))) }
     ensures calls { streams.new.calls ≡ streams.old.calls }
@@ -113,8 +164,8 @@ fn walk_frame<F: Write + Drop, R: Write + Drop, O: Write + Drop, C: Write + Drop
     streams: &mut Streams<F, R, O, C>,
 ) -> Outcome
     requires { IsKept tables.old.steps.entries.entries }
-    ensures frames { OnOk result (AddsRows BeginsWith streams.old.frames streams.new.frames
-        (frame_begin (placed_frame frame.entry) ∷ [])) }
+    ensures frames { OnOk result (AddsRows IsFrameRow streams.old.frames streams.new.frames
+        (placed_frame frame.entry ∷ [])) }
     ensures records { OnOk result (AddsRows BeginsWith streams.old.records streams.new.records
         (record_begins (placed_frame frame.entry))) }
     ensures calls { streams.new.calls ≡ streams.old.calls }

@@ -89,7 +89,7 @@ fn lists_what_comes_before_a_failed_read(rt: HostRuntime) -> Result<(), Fail> {
 fn reads_the_side_list_as_far_as_the_frames_go(rt: HostRuntime) -> Result<(), Fail> {
     let alloc = rt.alloc();
     let side = Source {
-        bytes: b"5 thread 0 100 101 pid=7 tid=8 name=a b\n9 frame 1\n",
+        bytes: b"binder side list 2\n5 thread 0 100 101 pid=7 tid=8 name=a b\n9 frame 1\n",
         fails: true,
     };
     let text = b"48 1 0 100 101 BC_ENTER_LOOPER time=9 pid=7 tid=8 thread=a b process=\n\
@@ -103,11 +103,24 @@ malformed FrameSequence at 16 in part 2\n";
 fn ends_where_the_side_list_fails(rt: HostRuntime) -> Result<(), Fail> {
     let alloc = rt.alloc();
     let side = Source {
-        bytes: b"5 frame",
+        bytes: b"binder side list 1\n5 frame",
         fails: true,
     };
     let parts = sources(alloc, [ENTER, ENTER], false)?;
     expect(&rt, alloc, Some(side), parts, Err(ListingError::Read), b"");
+    Ok(())
+}
+
+#[test]
+fn refuses_a_side_list_of_another_form(rt: HostRuntime) -> Result<(), Fail> {
+    let alloc = rt.alloc();
+    let side = Source {
+        bytes: b"binder side list 3\n9 frame 1\n",
+        fails: false,
+    };
+    let parts = sources(alloc, [ENTER, ENTER], false)?;
+    let due = Err(ListingError::SideList);
+    expect(&rt, alloc, Some(side), parts, due, b"");
     Ok(())
 }
 

@@ -1,7 +1,7 @@
-use Rattle.std.proofs.Common.{◌≡◌, List, [], ◌∷◌, ◌++◌, map, sym, ap, subst, ◌∙◌, rules}
+use Rattle.std.proofs.Common.{◌≡◌, ◌+◌, List, [], ◌∷◌, ◌++◌, length, length-append, map, sym, ap, subst, ◌∙◌, rules}
 use Rattle.std.proofs.lemmas.Iterator.{YieldsList}
 use Rattle.std.proofs.lemmas.Iterator.Consumers.{YieldsList-end, YieldsList-from_first}
-use Rattle.std.proofs.lemmas.List.{flat_map_more, map-append}
+use Rattle.std.proofs.lemmas.List.{flat_map_more, length-map, map-append}
 use Rattle.std.proofs.lemmas.Result.{on_ok_weaker}
 use Rattle.std.specs.Iterator.{YieldsFirstBy}
 use Rattle.std.specs.List.{flat_map}
@@ -11,7 +11,7 @@ use Rattle.record_view.specs.Records.{RecordText, records_of}
 use Rattle.listing_fields.specs.Content.{record_of_item, records_left}
 use Rattle.listing_tables.specs.Columns.{AddsRows}
 use Rattle.listing_tables.specs.Steps.{KeepsAll, marked_of}
-use Rattle.listing_tables.specs.Walk.{BeginsWith, frame_begin, record_begin}
+use Rattle.listing_tables.specs.Walk.{BeginsWith, IsFrameRow, record_begin}
 use Rattle.listing_tables.proofs.WalkLaws.{more_rows, one_row}
 use Rattle.listing_tables.proofs.walk.walk_frame.Goals as goal
 
@@ -33,6 +33,7 @@ loop-item-preserved g c =
     let old = c.args.streams.now.records in
     let new = c.walk_item.new.streams.records in
     record {
+      count = c.in_ok-count.ensures ∙ ap (λ n. n + 1) before.count ∙ sym (length-append c.loop-item.yielded (c.in-Some.item ∷ []));
       frames = now.frames ∙ before.frames;
       records = subst (AddsRows BeginsWith old new)
           (sym (ap (map (record_begin frame)) more ∙ map-append (record_begin frame) so_far (there ∷ [])))
@@ -45,13 +46,24 @@ loop-item-preserved g c =
           (now.marked (marked ++ flat_map (marked_of frame) so_far) (before.marked marked kept));
     }
 
+pub frame_columns-requires : goal.frame_columns-requires
+frame_columns-requires g c =
+    let frame = placed_frame c.args.frame in
+    let start = c.into_iter-item-iterator.result in
+    let left : records_left start ≡ (records_of frame).units = search rules in
+    let all : YieldsList (YieldsFirstBy record_of_item records_left) record_of_item start (records_of frame).units
+    = YieldsList-from_first record_of_item records_left (records_of frame).units left in
+    let whole : map record_of_item c.loop-item.yielded ≡ (records_of frame).units
+    = (YieldsList-end all c.loop-item.yielded c.loop-item.item-iterator c.loop-item.yielded_by c.next.result c.next.new.self c.in-None.is c.next.ensures.steps).0 in
+    c.loop-item.invariant.count ∙ sym (length-map c.loop-item.yielded record_of_item) ∙ ap length whole
+
 pub returns-clause-frames : goal.returns-clause-frames
 returns-clause-frames g c =
-    let begin = frame_begin (placed_frame c.args.frame) in
+    let frame = placed_frame c.args.frame in
     on_ok_weaker c.push.result
     (λ added.
-    subst (λ old. AddsRows BeginsWith old c.push.new.self (begin ∷ [])) c.loop-item.invariant.frames
-    (one_row BeginsWith c.loop-item.streams.frames c.push.new.self begin c.frame_columns.result c.frame_columns.ensures added))
+    subst (λ old. AddsRows IsFrameRow old c.push.new.self (frame ∷ [])) c.loop-item.invariant.frames
+    (one_row IsFrameRow c.loop-item.streams.frames c.push.new.self frame c.frame_columns.result c.frame_columns.ensures added))
     c.push.ensures
 
 pub returns-clause-marked : goal.returns-clause-marked

@@ -1,4 +1,4 @@
-use Rattle.std.proofs.Common.{◌≡◌, map}
+use Rattle.std.proofs.Common.{◌≡◌, length, map}
 use Rattle.std.specs.List.{flat_map}
 use Rattle.capture_frame.specs.Envelope.{placed_frame}
 use Rattle.listing_fields.specs.Content.{record_of_item}
@@ -9,6 +9,7 @@ use Rattle.listing_tables.proofs.walk.walk_frame.Given as goal
 
 abbrev pub invariant-loop-item : goal.invariant-loop-item
 invariant-loop-item g l = record {
+  count : l.count ≡ length l.yielded;
   frames : l.streams.frames ≡ l.fn.streams.frames;
   records : AddsRows BeginsWith l.fn.streams.records l.streams.records (map (record_begin (placed_frame l.frame)) (map record_of_item l.yielded));
   calls : l.streams.calls ≡ l.fn.streams.calls;

@@ -1,11 +1,11 @@
-use Rattle.std.proofs.Common.{◌≡◌, ◌+◌, ◌∷◌, ◌++◌, [], map, take, sym, ap, subst, ◌∙◌}
-use Rattle.std.proofs.lemmas.List.{flat_map_more, map-append, take_more}
+use Rattle.std.proofs.Common.{◌≡◌, ◌+◌, ◌∷◌, ◌++◌, [], take, sym, ap, subst, ◌∙◌}
+use Rattle.std.proofs.lemmas.List.{flat_map_more, take_more}
 use Rattle.std.proofs.lemmas.Option.{get_or_from_slice_get, slice_get_within}
 use Rattle.std.specs.List.{flat_map}
 use Rattle.capture_frame.specs.Envelope.{placed_frame}
 use Rattle.listing_tables.specs.Columns.{AddsRows}
 use Rattle.listing_tables.specs.Steps.{KeepsAll, marked_in}
-use Rattle.listing_tables.specs.Walk.{BeginsWith, frame_begin, record_begins}
+use Rattle.listing_tables.specs.Walk.{BeginsWith, IsFrameRow, record_begins}
 use Rattle.listing_tables.proofs.WalkLaws.{more_rows}
 use Rattle.listing_tables.proofs.walk.walk_frames.Goals as goal
 
@@ -28,10 +28,8 @@ loop-number-preserved g c =
     let was = c.loop-number.streams in
     let new = c.walk_frame.new.streams in
     record {
-      frames = subst (AddsRows BeginsWith c.args.streams.now.frames new.frames)
-          (sym (ap (map frame_begin) more ∙ map-append frame_begin so_far (frame ∷ [])))
-          (more_rows BeginsWith c.args.streams.now.frames was.frames new.frames (map frame_begin so_far) (frame_begin frame ∷ [])
-          before.frames now.frames);
+      frames = subst (AddsRows IsFrameRow c.args.streams.now.frames new.frames) (sym more)
+          (more_rows IsFrameRow c.args.streams.now.frames was.frames new.frames so_far (frame ∷ []) before.frames now.frames);
       records = subst (AddsRows BeginsWith c.args.streams.now.records new.records)
           (flat_map_more record_begins [] so_far frame ∙ ap (flat_map record_begins) (sym more))
           (more_rows BeginsWith c.args.streams.now.records was.records new.records (flat_map record_begins so_far) (record_begins frame)

@@ -1,0 +1,16 @@
+use Rattle.listing_tables.specs.Calls.{AreColumns}
+use Rattle.listing_tables.proofs.WalkLaws.{kept_rows}
+use Rattle.listing_tables.proofs.walk.walk_to.Goals as goal
+
+pub returns-clause-calls : goal.returns-clause-calls
+returns-clause-calls g c =
+    let at = g.C.Write.contents in
+    let walked = c.in_ok-ending.ensures.calls in
+    record {
+      threads = walked.threads;
+      kept = walked.kept;
+      calls = walked.calls;
+      are = walked.are;
+      written = kept_rows AreColumns (at c.args.writers.calls) c.new-streams.result.calls c.walk_capture.new.streams.calls
+          (at c.in_ok-finish.field-0.calls) walked.calls c.new-streams.ensures.calls walked.written c.in_ok-finish.ensures.calls;
+    }
