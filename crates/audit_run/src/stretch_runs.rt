@@ -19,8 +19,8 @@ use capture_frame::FILE_HEADER;
 use claim_board::{NoGate, Workers};
 use std::alloc::Global;
 use std::io::Write;
-use std::thread::Threads;
 use std::thread;
+use std::thread::Threads;
 
 /// Writes the report on the capture that was read as these parts, or the line that names its first
 /// fault, and gives the status that goes with it. The parts are judged as they are. Only if they
@@ -83,11 +83,16 @@ fn report_as_parts<T: Threads + Sync>(
 
 /// Gives the memory of the parts back, by several threads at once.
 fn free<T: Threads + Sync>(rt: &T, alloc: Global, parts: &mut [Vec<u8>]) {
-    thread::for_each_chunk_mut(rt, parts, 1, &|_start: usize, some: &mut [Vec<u8>]| {
-        for part in some {
-            *part = Vec::new(alloc);
-        }
-    });
+    thread::for_each_chunk_mut(
+        rt,
+        parts,
+        1,
+        &|_start: usize, some: &mut [Vec<u8>]| {
+            for part in some {
+                *part = Vec::new(alloc);
+            }
+        },
+    );
 }
 
 /// The first part, and then what the others have after their file headers.

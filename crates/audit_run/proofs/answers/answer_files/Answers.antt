@@ -26,7 +26,7 @@ returns-in-Report-Some g c =
 pub answer-requires-after_bounds : goal.answer-requires-after_bounds
 answer-requires-after_bounds g c κs within =
     let many = a_reader_each (λ file. file.now) (g.S.Store.bytes_of c.args.store.now) g.S.Part.Read.remaining c.args.request.files.now
-        c.in_ok-readers.readers.items c.in_ok-readers.ensures.each in
+    c.in_ok-readers.readers.items c.in_ok-readers.ensures.each in
     omega (arith, many, c.requires, c.in_ok-readers.readers.ok.0)
 
 pub returns-in_default : goal.returns-in_default
