@@ -294,15 +294,30 @@ fn part_of<F: SharedFiles>(
     ensures faults { IfErr result IsStretchError }
 {
     let most = (stretch.end - stretch.start) as usize + FILE_HEADER;
-    let mut part = files.bytes(
+    let part = files.bytes(
         alloc,
         name,
         stretch.found,
         stretch.start - FILE_HEADER as u64,
         most,
     )?;
-    put_header(part.as_mut_slice(), head);
-    Ok(part)
+    Ok(with_header(part, head)?)
+}
+
+/// The part with this file header in place of its first bytes. If the file has become too short to
+/// have these, nothing else is left of the part.
+fn with_header(part: Vec<u8>, head: &[u8]) -> Result<Vec<u8>, RunError>
+    ensures after { IfOk result (λ whole. drop 16 whole.items ≡ drop 16 part.items) }
+    ensures faults { IfErr result IsStretchError }
+{
+    let mut whole = part;
+    if whole.len() < FILE_HEADER && head.len() == FILE_HEADER {
+        whole.clear();
+        whole.extend_from_slice(head).map_err(|_| RunError::Memory)?;
+        return Ok(whole);
+    }
+    put_header(whole.as_mut_slice(), head);
+    Ok(whole)
 }
 
 /// Puts a file header over the first bytes, if there are as many.
