@@ -14,58 +14,39 @@ use Rattle.event_core.specs.declared.handle.HandleChange.TheVariants.{Raise, Low
 use Rattle.event_core.specs.declared.strength.Strength.{Strength}
 use Rattle.event_core.specs.declared.strength.Strength.TheVariants.{Strong, Weak}
 use Rattle.handle_ledger.specs.Handles.{handle_change, handle_count_change}
-use Rattle.listing_tables.specs.Generations.{AreFew, CountsEffect, GenerationSum, TakenSum, TakesOneMore}
+use Rattle.listing_tables.specs.Generations.{CountsEffect, GenerationSum, TakenSum, TakesOneMore}
 use Rattle.listing_tables.specs.declared.generations.Effect.TheVariants.{Takes}
 use Rattle.listing_tables.specs.declared.generations.Generation.{Generation}
 use Rattle.listing_tables.specs.declared.generations.Taken.{Taken}
 
--- no more is left than there are changes
-left_few : (taken : Taken) (changes : List Change) → TakenSum taken changes → taken.left ≤ length changes
-left_few taken changes sum =
-    let n = sum.counts.reached.0 in
-    let low = sum.counts.reached.2 in
-    let whole = sum.counts.sum in
-    let both : total changes ≡ total (take n changes) +ℤ total (drop n changes)
-    = ap total (sym (take-append-drop n changes)) ∙ total-append (take n changes) (drop n changes) in
-    let high = total_high (drop n changes) in
-    let short = length-drop n changes in
-    let left = sum.left in
-    omega (arith, ints)
-
 module _ (old new : Taken) (changes : List Change) (sum : TakenSum old changes) where
-  pub raised_taken : AreFew (changes ++ raises ∷ []) → new.raised ≡ min (old.raised + 1) (2 ^ 32 - 1) → new.lowered ≡ old.lowered
-      → new.left ≡ min (old.left + 1) (2 ^ 32 - 1) → TakenSum new (changes ++ raises ∷ [])
-  raised_taken few raised lowered left =
-      let long = length-append changes (raises ∷ []) in
+  pub raised_taken : new.raised ≡ old.raised + 1 → new.lowered ≡ old.lowered
+      → new.left ≡ old.left + 1 → TakenSum new (changes ++ raises ∷ [])
+  raised_taken raised lowered left =
       let count : Count = record { sum = sum.count.sum +ℤ pos 1; low = sum.count.low } in
       let up = sum_by-append (λ c. cond (is_raise c) 1 0) changes (raises ∷ []) in
       let down = sum_by-append (λ c. cond (is_lower c) 1 0) changes (raises ∷ []) in
       let raised_before = sum.raised in
       let lowered_before = sum.lowered in
       let left_before = sum.left in
-      let few_raised = count_by-le-length is_raise changes in
-      let few_left = left_few old changes sum in
       record {
-        raised = omega (arith, raised, raised_before, up, few_raised, few, long);
+        raised = omega (arith, raised, raised_before, up);
         lowered = omega (arith, lowered, lowered_before, down);
         count = count;
         counts = raised_counts sum.count count refl refl changes sum.counts;
         left = omega (arith, ints);
       }
 
-  pub lowered_taken : AreFew (changes ++ lowers ∷ []) → new.raised ≡ old.raised → new.lowered ≡ min (old.lowered + 1) (2 ^ 32 - 1)
+  pub lowered_taken : new.raised ≡ old.raised → new.lowered ≡ old.lowered + 1
       → new.left ≡ old.left - 1 → TakenSum new (changes ++ lowers ∷ [])
-  lowered_taken few raised lowered left =
-      let long = length-append changes (lowers ∷ []) in
+  lowered_taken raised lowered left =
       let up = sum_by-append (λ c. cond (is_raise c) 1 0) changes (lowers ∷ []) in
       let down = sum_by-append (λ c. cond (is_lower c) 1 0) changes (lowers ∷ []) in
       let raised_before = sum.raised in
       let lowered_before = sum.lowered in
       let left_before = sum.left in
-      let few_lowered = count_by-le-length is_lower changes in
       let raised_now : new.raised ≡ count_by is_raise (changes ++ lowers ∷ []) = omega (arith, raised, raised_before, up) in
-      let lowered_now : new.lowered ≡ count_by is_lower (changes ++ lowers ∷ [])
-      = omega (arith, lowered, lowered_before, down, few_lowered, few, long) in
+      let lowered_now : new.lowered ≡ count_by is_lower (changes ++ lowers ∷ []) = omega (arith, lowered, lowered_before, down) in
       ⊎_elim
       (λ (none : old.left < 1).
       let count : Count = record { sum = sum.count.sum +ℤ negsuc 0; low = sum.count.sum +ℤ negsuc 0 } in
@@ -115,27 +96,19 @@ none_taken = record {
   left = omega (arith, ints);
 }
 
-pub raise_more : (old new : Taken) (change : HandleChange) → change ≡ Raise → new.raised ≡ min (old.raised + 1) (2 ^ 32 - 1)
-    → new.lowered ≡ old.lowered → new.left ≡ min (old.left + 1) (2 ^ 32 - 1) → TakesOneMore old (handle_count_change change) new
-raise_more old new change is raised lowered left changes few sum =
+pub raise_more : (old new : Taken) (change : HandleChange) → change ≡ Raise → new.raised ≡ old.raised + 1
+    → new.lowered ≡ old.lowered → new.left ≡ old.left + 1 → TakesOneMore old (handle_count_change change) new
+raise_more old new change is raised lowered left changes sum =
     subst (λ (h : HandleChange). TakenSum new (changes ++ handle_count_change h ∷ [])) (sym is)
-    (raised_taken old new changes sum (subst (λ (h : HandleChange). AreFew (changes ++ handle_count_change h ∷ [])) is few) raised lowered left)
+    (raised_taken old new changes sum raised lowered left)
 
 pub lower_more : (old new : Taken) (change : HandleChange) → change ≡ Lower → new.raised ≡ old.raised
-    → new.lowered ≡ min (old.lowered + 1) (2 ^ 32 - 1) → new.left ≡ old.left - 1 → TakesOneMore old (handle_count_change change) new
-lower_more old new change is raised lowered left changes few sum =
+    → new.lowered ≡ old.lowered + 1 → new.left ≡ old.left - 1 → TakesOneMore old (handle_count_change change) new
+lower_more old new change is raised lowered left changes sum =
     subst (λ (h : HandleChange). TakenSum new (changes ++ handle_count_change h ∷ [])) (sym is)
-    (lowered_taken old new changes sum (subst (λ (h : HandleChange). AreFew (changes ++ handle_count_change h ∷ [])) is few) raised lowered left)
+    (lowered_taken old new changes sum raised lowered left)
 
 -- ---- generations
-
-few_changes : (change : Strength × HandleChange → Change) (items : List (Strength × HandleChange)) (item : Strength × HandleChange) → AreFew (items ++ item ∷ [])
-    → AreFew (map change items ++ change item ∷ [])
-few_changes change items item few =
-    let more = length-append items (item ∷ []) in
-    let long = length-append (map change items) (change item ∷ []) in
-    let same = length-map items change in
-    omega (arith, few, more, long, same)
 
 changes_more : (strength : Strength) (items : List (Strength × HandleChange)) (item : Strength × HandleChange)
     → map (handle_change strength) items ++ handle_change strength item ∷ [] ≡ map (handle_change strength) (items ++ item ∷ [])
@@ -143,24 +116,24 @@ changes_more strength items item = sym (map-append (handle_change strength) item
 
 pub counts_strong : (old new : Generation) (change : HandleChange) → TakesOneMore old.strong (handle_count_change change) new.strong
     → new.weak ≡ old.weak → CountsEffect old (Takes Strong change) new
-counts_strong old new change taken same items few sums =
+counts_strong old new change taken same items sums =
     let item : Strength × HandleChange = (Strong, change) in
     record {
       strong = subst (TakenSum new.strong) (changes_more Strong items item)
-          (taken (map (handle_change Strong) items) (few_changes (handle_change Strong) items item few) sums.strong);
+          (taken (map (handle_change Strong) items) sums.strong);
       weak = subst (λ (t : Taken). TakenSum t (map (handle_change Weak) (items ++ item ∷ []))) (sym same)
           (subst (TakenSum old.weak) (changes_more Weak items item) (kept_taken old.weak (map (handle_change Weak) items) sums.weak));
     }
 
 pub counts_weak : (old new : Generation) (change : HandleChange) → TakesOneMore old.weak (handle_count_change change) new.weak
     → new.strong ≡ old.strong → CountsEffect old (Takes Weak change) new
-counts_weak old new change taken same items few sums =
+counts_weak old new change taken same items sums =
     let item : Strength × HandleChange = (Weak, change) in
     record {
       strong = subst (λ (t : Taken). TakenSum t (map (handle_change Strong) (items ++ item ∷ []))) (sym same)
           (subst (TakenSum old.strong) (changes_more Strong items item) (kept_taken old.strong (map (handle_change Strong) items) sums.strong));
       weak = subst (TakenSum new.weak) (changes_more Weak items item)
-          (taken (map (handle_change Weak) items) (few_changes (handle_change Weak) items item few) sums.weak);
+          (taken (map (handle_change Weak) items) sums.weak);
     }
 
 -- a generation with the same counts has those of the same items

@@ -1,6 +1,6 @@
 -- The counts of the raw table generation, by the definitions of handle_ledger (docs/REPORT.md).
-use Rattle.std.specs.Prelude.{◌≡◌, ◌≢◌, ℕ, ◌+◌, ◌-◌, ◌<◌, ◌^◌, pos, ◌-ℤ◌, Option, Some, None, IsSome}
-use Rattle.std.specs.Prelude.{List, [], ◌∷◌, ◌++◌, map, count_by, length}
+use Rattle.std.specs.Prelude.{◌≡◌, ◌≢◌, ℕ, ◌+◌, pos, ◌-ℤ◌, Option, Some, None, IsSome}
+use Rattle.std.specs.Prelude.{List, [], ◌∷◌, ◌++◌, map, count_by}
 use Rattle.std.specs.Option.{option_to_list}
 use Rattle.event_core.specs.declared.handle.HandleChange.{HandleChange}
 use Rattle.event_core.specs.declared.strength.Strength.{Strength}
@@ -15,6 +15,7 @@ use Rattle.listing_tables.specs.declared.generations.Generation.{Generation}
 use Rattle.listing_tables.specs.declared.generations.Taken.{Taken}
 use Rattle.listing_tables.specs.declared.rows.Column.{Column}
 use Rattle.listing_tables.specs.declared.rows.Column.TheVariants.{Number}
+use Rattle.listing_tables.specs.declared.spans.Upid.{Upid}
 
 -- which count an effect changes, and how
 abbrev pub taken_by : Effect → Option (Strength × HandleChange)
@@ -35,14 +36,10 @@ pub record TakenSum (taken : Taken) (changes : List Change) : Type 0 where
   pub counts : IsCount count changes
   pub left : pos taken.left ≡ count.sum -ℤ count.low
 
--- fewer than 2^32 changes
-abbrev pub AreFew : {A : Type 0} → List A → Type 0
-AreFew changes = length changes < 2 ^ 32
-
 -- whatever changes the old counts are of, the new ones are of these with this one after them
 abbrev pub TakesOneMore : Taken → Change → Taken → Type 0
 TakesOneMore old change new =
-    (changes : List Change) → AreFew (changes ++ change ∷ []) → TakenSum old changes → TakenSum new (changes ++ change ∷ [])
+    (changes : List Change) → TakenSum old changes → TakenSum new (changes ++ change ∷ [])
 
 -- the generation has the counts of these changes, which all are of it
 pub record GenerationSum (generation : Generation) (changes : List (Strength × HandleChange)) : Type 0 where
@@ -52,7 +49,7 @@ pub record GenerationSum (generation : Generation) (changes : List (Strength × 
 -- whatever changes the generation has the counts of, it then has those of these with this effect after them
 abbrev pub CountsEffect : Generation → Effect → Generation → Type 0
 CountsEffect old effect new =
-    (changes : List (Strength × HandleChange)) → AreFew (changes ++ counted_by effect) → GenerationSum old changes
+    (changes : List (Strength × HandleChange)) → GenerationSum old changes
     → GenerationSum new (changes ++ counted_by effect)
 
 -- nothing is left of a generation, neither what its process took nor what deliveries hold, and its handle is not 0
@@ -71,7 +68,7 @@ pub record EndsIfEmpty (old : Generation) (place : ℕ) (new : Generation) : Typ
   pub keeps : IsSome old.end → new.end ≡ old.end
 
 -- the generation of this handle of this opening that has this number and begins at this place
-pub record IsGenerationOf (u h n place : ℕ) (generation : Generation) : Type 0 where
+pub record IsGenerationOf (u : Upid) (h n place : ℕ) (generation : Generation) : Type 0 where
   pub upid : generation.upid ≡ u
   pub handle : generation.handle ≡ h
   pub number : generation.number ≡ n
@@ -85,17 +82,17 @@ IsSame old new = IsGenerationOf old.upid old.handle old.number old.begin new
 abbrev pub KeepsHeld : Generation → Generation → Type 0
 KeepsHeld old new = (new.held_strong ≡ old.held_strong) × (new.held_weak ≡ old.held_weak)
 
--- deliveries hold one more reference of this strength, if they hold few
+-- deliveries hold one more reference of this strength
 abbrev pub HoldsOneMore : Strength → Generation → Generation → Type 0
 HoldsOneMore Strong old new =
-    (old.held_strong + 1 < 2 ^ 32 → new.held_strong ≡ old.held_strong + 1) × (new.held_weak ≡ old.held_weak)
+    (new.held_strong ≡ old.held_strong + 1) × (new.held_weak ≡ old.held_weak)
 HoldsOneMore Weak old new =
-    (new.held_strong ≡ old.held_strong) × (old.held_weak + 1 < 2 ^ 32 → new.held_weak ≡ old.held_weak + 1)
+    (new.held_strong ≡ old.held_strong) × (new.held_weak ≡ old.held_weak + 1)
 
--- deliveries hold one reference of this strength fewer, if they hold any
+-- deliveries hold one reference of this strength fewer
 abbrev pub HoldsOneFewer : Strength → Generation → Generation → Type 0
-HoldsOneFewer Strong old new = (new.held_strong ≡ old.held_strong - 1) × (new.held_weak ≡ old.held_weak)
-HoldsOneFewer Weak old new = (new.held_strong ≡ old.held_strong) × (new.held_weak ≡ old.held_weak - 1)
+HoldsOneFewer Strong old new = (new.held_strong + 1 ≡ old.held_strong) × (new.held_weak ≡ old.held_weak)
+HoldsOneFewer Weak old new = (new.held_strong ≡ old.held_strong) × (new.held_weak + 1 ≡ old.held_weak)
 
 -- what an effect of the record at this place does to the end: to name a generation or to hold it ends none
 abbrev pub EndsByEffect : Generation → Effect → ℕ → Generation → Type 0
@@ -116,7 +113,7 @@ KeepsTaken old new = (new.strong ≡ old.strong) × (new.weak ≡ old.weak)
 -- the row of a generation that has this number among all, column by column
 abbrev pub generation_columns : ℕ → Generation → List Column
 generation_columns number generation =
-    Number number ∷ Number generation.upid ∷ Number generation.handle ∷ Number generation.number
+    Number number ∷ Number (generation.upid.index + 1) ∷ Number generation.handle ∷ Number generation.number
     ∷ Number generation.begin ∷ column_of generation.end ∷ column_of generation.given_by
     ∷ column_of generation.held_since ∷ Number generation.strong.raised ∷ Number generation.strong.lowered
     ∷ Number generation.weak.raised ∷ Number generation.weak.lowered ∷ Number generation.strong.left

@@ -1,5 +1,5 @@
 -- When it is certain which send a delivery came from (docs/DATABASE.md#send).
-use Rattle.std.specs.Prelude.{◌≡◌, ◌≢◌, ◌<◌, ◌≤◌, ◌^◌, ◌-◌, ◌+◌, ◌⊎◌, ◌==◌, ◌&&◌, ℕ, pos, Bool, true, false, List, Option, Some, IsTrue, length, slice_get}
+use Rattle.std.specs.Prelude.{◌≡◌, ◌≢◌, ◌<◌, ◌≤◌, ◌^◌, ◌+◌, ◌⊎◌, ◌==◌, ◌&&◌, ℕ, pos, Bool, true, false, List, Option, Some, IsTrue, length, slice_get}
 use Rattle.call_stacks.specs.declared.verdict.Verdict.TheVariants.{Answered, Replied}
 use Rattle.indexmap.specs.IndexMap.{get}
 use Rattle.listing_tables.specs.declared.calls.Call.{Call}
@@ -8,21 +8,24 @@ use Rattle.listing_tables.specs.declared.fitting.Fit.{Fit}
 use Rattle.listing_tables.specs.declared.fitting.Fitting.{Fitting}
 use Rattle.listing_tables.specs.declared.generations.Generation.{Generation}
 use Rattle.listing_tables.specs.declared.generations.Generations.{Generations}
+use Rattle.listing_tables.specs.declared.judging.Judge.{Judge}
 use Rattle.listing_tables.specs.declared.judging.Judged.{Judged}
 use Rattle.listing_tables.specs.declared.judging.Judged.TheVariants.{Sure, OneHandle, Several, Unknown}
 use Rattle.listing_tables.specs.declared.judging.Mark.{Mark}
+use Rattle.listing_tables.specs.declared.judging.Marked.TheVariants.{Unmarked}
 use Rattle.listing_tables.specs.declared.judging.Sought.{Sought}
-use Rattle.listing_tables.specs.declared.lists.Lists.{Lists}
 use Rattle.listing_tables.specs.declared.meanings.Known.TheVariants.{One}
 use Rattle.listing_tables.specs.declared.meanings.Meaning.{Meaning}
 use Rattle.listing_tables.specs.declared.meanings.Meanings.{Meanings}
 use Rattle.listing_tables.specs.declared.messages.Detail.TheVariants.{Sent as IsSent}
 use Rattle.listing_tables.specs.declared.messages.Message.{Message}
+use Rattle.listing_tables.specs.declared.messages.Messages.{Messages}
 use Rattle.listing_tables.specs.declared.messages.Sent.{Sent}
 use Rattle.listing_tables.specs.declared.messages.Settled.TheVariants.{Confirmed, Refused}
 use Rattle.listing_tables.specs.declared.seen.Seen.{Seen}
 use Rattle.listing_tables.specs.declared.waiting.Look.{Look}
 use Rattle.listing_tables.specs.declared.waiting.Waiting.{Waiting}
+use Rattle.listing_tables.specs.Numbered.{IsAt}
 use Rattle.listing_tables.specs.Waiting.{all_looks, waits}
 
 -- an element of a list
@@ -42,7 +45,7 @@ IsReferred seen node gaps place =
 
 -- nothing shows that a process is older than the capture
 abbrev pub IsWhole : Seen → ℕ → Type 0
-IsWhole seen upid = slice_get seen.old.items (upid - 1) ≡ Some false
+IsWhole seen upid = slice_get seen.old.all.items upid ≡ Some false
 
 -- The send of a delivery at this place is in the capture, and no frame is missing between them: the first handle of the
 -- node was made after the last gap, or there is no gap and the process has begun in the capture.
@@ -54,7 +57,7 @@ HasAll seen upid node place gaps = IsReferred seen node gaps place ⊎ ((gaps �
 -- a generation of a handle is known to mean this node, while so many gaps come before
 abbrev pub MeansNode : Meanings → ℕ → ℕ → ℕ → Type 0
 MeansNode meanings generation gaps node =
-    (meaning : Meaning) × (slice_get meanings.list.items generation ≡ Some meaning)
+    (meaning : Meaning) × (slice_get meanings.list.all.items generation ≡ Some meaning)
     × (meaning.gaps ≡ gaps) × (meaning.known ≡ One node)
 
 -- the list of a send: 0, or 1 more than the node to which it is known to go
@@ -76,44 +79,44 @@ pub record HasOtherHandle (generations : Generations) (meanings : Meanings) (gen
   pub other : Generation
   pub there : slice_get generations.list.all.items at ≡ Some other
   pub apart : at ≢ generation
-  pub process : other.upid ≡ row.upid
+  pub process : other.upid.index ≡ row.upid.index
   pub means : MeansNode meanings at gaps node
   pub begins : BeginsBefore row.begin other.end
   pub ends : BeginsBefore other.begin row.end
 
 -- a generation is of a handle of this process, which owns the node: no process has a handle of its own node
-abbrev pub IsOfProcess : Lists → ℕ → ℕ → Type 0
-IsOfProcess lists generation upid =
-    (row : Generation) × (slice_get lists.generations.list.all.items generation ≡ Some row) × (row.upid ≡ upid)
+abbrev pub IsOfProcess : Generations → ℕ → ℕ → Type 0
+IsOfProcess generations generation upid =
+    (row : Generation) × (slice_get generations.list.all.items generation ≡ Some row) × (row.upid.index ≡ upid)
 
 -- a send goes to another node than that of a delivery
-abbrev pub IsElsewhere : Lists → Meanings → Sought → Message → Sent → Type 0
-IsElsewhere lists meanings sought message sent =
+abbrev pub IsElsewhere : Judge → Sought → Message → Sent → Type 0
+IsElsewhere judge sought message sent =
     (generation : ℕ) × (sent.generation ≡ Some generation)
-    × (IsOfProcess lists generation sought.upid ⊎ HasOtherHandle lists.generations meanings generation message.gaps sought.node)
+    × (IsOfProcess judge.generations.now generation sought.upid.index
+    ⊎ HasOtherHandle judge.generations.now judge.meanings.now generation message.gaps sought.node)
 
 -- a call that a message opens or closes
-abbrev pub HasCall : Lists → Message → Call → Type 0
-HasCall lists message call =
-    (index : ℕ) × (message.call ≡ Some index) × (slice_get lists.calls.all.items index ≡ Some call)
+abbrev pub HasCall : Judge → Message → Call → Type 0
+HasCall judge message call = IsAt judge.calls.now.all.items message.call call
 
 -- the reply by which a served call is closed
 abbrev pub IsRepliedBy : Call → Closer → Type 0
 IsRepliedBy served closer = (served.verdict ≡ Replied) × (served.closer ≡ Some closer)
 
 -- two messages have the same key
-abbrev pub AreAlike : Lists → Closer → Closer → Type 0
-AreAlike lists one other =
-    (a b : Message) × (slice_get lists.messages.list.all.items one.message ≡ Some a)
-    × (slice_get lists.messages.list.all.items other.message ≡ Some b) × (a.key ≡ b.key)
+abbrev pub AreAlike : Messages → Closer → Closer → Type 0
+AreAlike messages one other =
+    (a b : Message) × (slice_get messages.list.all.items one.message ≡ Some a)
+    × (slice_get messages.list.all.items other.message ≡ Some b) × (a.key ≡ b.key)
 
 -- A made call and a served call are not the two ends of one call: the made one is answered and the other one is not
 -- replied, or it is closed before the reply, or the answer is another one than the reply.
-abbrev pub LieBadly : Lists → Call → Call → Type 0
-LieBadly lists call served =
+abbrev pub LieBadly : Messages → Call → Call → Type 0
+LieBadly messages call served =
     ((call.verdict ≡ Answered) × ((reply : Closer) → IsRepliedBy served reply → ⊥))
     ⊎ ((reply closer : Closer) × IsRepliedBy served reply × (call.closer ≡ Some closer)
-    × ((closer.place ≤ reply.place) ⊎ (AreAlike lists reply closer → ⊥)))
+    × ((closer.place ≤ reply.place) ⊎ (AreAlike messages reply closer → ⊥)))
 
 -- the sender_pid of a delivery is not that of the sender, whose number is that of its process
 pub record HasOtherSender (sought : Sought) (sent : Sent) : Type 0 where
@@ -122,19 +125,20 @@ pub record HasOtherSender (sought : Sought) (sent : Sent) : Type 0 where
   pub real : sent.process < 4194304
 
 -- a call is not the one that a delivery serves
-abbrev pub IsOtherCall : Lists → Sought → Message → Sent → Type 0
-IsOtherCall lists sought message sent =
+abbrev pub IsOtherCall : Judge → Sought → Message → Sent → Type 0
+IsOtherCall judge sought message sent =
     HasOtherSender sought sent
-    ⊎ ((call served : Call) × HasCall lists message call × HasCall lists sought.message served × LieBadly lists call served)
+    ⊎ ((call served : Call) × HasCall judge message call × HasCall judge sought.message served
+    × LieBadly judge.messages.now call served)
 
 -- Whatever send is at this index, it is not that of the delivery. With a frame missing between the two, its handle may
 -- mean another node by now.
-abbrev pub SpeaksAgainst : Lists → Meanings → Sought → ℕ → Type 0
-SpeaksAgainst lists meanings sought index =
-    (message : Message) (sent : Sent) → slice_get lists.messages.list.all.items index ≡ Some message
+abbrev pub SpeaksAgainst : Judge → Sought → ℕ → Type 0
+SpeaksAgainst judge sought index =
+    (message : Message) (sent : Sent) → slice_get judge.messages.now.list.all.items index ≡ Some message
     → message.detail ≡ IsSent sent
-    → (message.gaps ≢ sought.message.gaps) ⊎ IsElsewhere lists meanings sought message sent
-    ⊎ IsOtherCall lists sought message sent
+    → (message.gaps ≢ sought.message.gaps) ⊎ IsElsewhere judge sought message sent
+    ⊎ IsOtherCall judge sought message sent
 
 -- ---- what a fit is
 
@@ -144,28 +148,28 @@ IsRefused sent = (place : ℕ) × (sent.settled ≡ Refused place)
 
 -- no delivery so far may have come from the send at this index
 abbrev pub IsUnmarked : List Mark → ℕ → Type 0
-IsUnmarked marks index = (mark : Mark) × (slice_get marks index ≡ Some mark) × (mark.count ≡ 0)
+IsUnmarked marks index = (mark : Mark) × (slice_get marks index ≡ Some mark) × (mark.other ≡ Unmarked)
 
 -- what is known of a send that is looked at. It is fresh if it has certainly not come before.
-pub record IsFit (lists : Lists) (marks : List Mark) (look : Look) (fit : Fit) : Type 0 where
+pub record IsFit (judge : Judge) (look : Look) (fit : Fit) : Type 0 where
   pub message : Message
-  pub at : slice_get lists.messages.list.all.items look.listed.index ≡ Some message
+  pub at : slice_get judge.messages.now.list.all.items look.listed.index ≡ Some message
   pub is : message.detail ≡ IsSent fit.sent
   pub listed : fit.listed ≡ look.listed
   pub place : fit.place ≡ message.place
   pub utid : fit.utid ≡ message.utid
   pub untaken : fit.fresh ≡ true → look.guessed ≡ false
   pub taken : fit.fresh ≡ true → IsRefused fit.sent → ⊥
-  pub unmarked : fit.fresh ≡ true → IsUnmarked marks look.listed.index
+  pub unmarked : fit.fresh ≡ true → IsUnmarked judge.marks.now.all.items look.listed.index
 
--- a send of the same handle that the driver took after a fresh one, and that does not take the place of an earlier one: one thread sent both,
--- or the fresh one was confirmed before
+-- a send of the same handle that the driver took after a fresh one, and that does not take the place of an earlier one:
+-- one thread sent both, or the fresh one was confirmed before
 pub record ComesAfter (first other : Fit) : Type 0 where
   pub fresh : first.fresh ≡ true
   pub same : other.sent.generation ≡ first.sent.generation
   pub kept : other.sent.updates ≡ false
   pub later : first.listed.index < other.listed.index
-  pub taken : (other.utid ≡ first.utid) ⊎ ((at : ℕ) × (first.sent.settled ≡ Confirmed at) × (at < other.place))
+  pub taken : (other.utid.index ≡ first.utid.index) ⊎ ((at : ℕ) × (first.sent.settled ≡ Confirmed at) × (at < other.place))
 
 -- a send is among the fits
 abbrev pub HasFit : Fitting → ℕ → Type 0
@@ -182,24 +186,24 @@ pub record Adds (old : Fitting) (rank : ℕ) (fit : Fit) (new : Fitting) : Type 
   pub whole : new.is_whole ≡ old.is_whole
 
 -- after one more look either something speaks against its send or it is among the fits, and their rank is 0
-pub record LooksAtOne (lists : Lists) (meanings : Meanings) (marks : List Mark) (sought : Sought) (look : Look) (old new : Fitting) : Type 0 where
-  pub here : SpeaksAgainst lists meanings sought look.listed.index ⊎ ((new.rank ≡ 0) × HasFit new look.listed.index)
+pub record LooksAtOne (judge : Judge) (sought : Sought) (look : Look) (old new : Fitting) : Type 0 where
+  pub here : SpeaksAgainst judge sought look.listed.index ⊎ ((new.rank ≡ 0) × HasFit new look.listed.index)
   pub best : old.rank ≡ 0 → new.rank ≡ 0
   pub kept : old.rank ≡ 0 → (fit : Fit) → IsIn old.list.items fit → IsIn new.list.items fit
-  pub fits : (fit : Fit) → IsIn new.list.items fit → IsIn old.list.items fit ⊎ IsFit lists marks look fit
+  pub fits : (fit : Fit) → IsIn new.list.items fit → IsIn old.list.items fit ⊎ IsFit judge look fit
   pub looked : new.looked ≡ old.looked
   pub whole : new.is_whole ≡ old.is_whole
 
 -- so it is of the first of all looks
-pub record LooksAt (lists : Lists) (meanings : Meanings) (marks : List Mark) (sought : Sought) (fitting : Fitting) (count : ℕ) : Type 0 where
+pub record LooksAt (judge : Judge) (sought : Sought) (fitting : Fitting) (count : ℕ) : Type 0 where
   pub each : (at : ℕ) → at < count → (look : Look) → slice_get fitting.looked.items at ≡ Some look
-      → SpeaksAgainst lists meanings sought look.listed.index ⊎ ((fitting.rank ≡ 0) × HasFit fitting look.listed.index)
-  pub fits : (fit : Fit) → IsIn fitting.list.items fit → (look : Look) × IsIn fitting.looked.items look × IsFit lists marks look fit
+      → SpeaksAgainst judge sought look.listed.index ⊎ ((fitting.rank ≡ 0) × HasFit fitting look.listed.index)
+  pub fits : (fit : Fit) → IsIn fitting.list.items fit → (look : Look) × IsIn fitting.looked.items look × IsFit judge look fit
 
 -- so it is of all that wait, if all were looked at
-pub record LooksAtAll (lists : Lists) (meanings : Meanings) (waiting : Waiting) (marks : List Mark) (sought : Sought) (fitting : Fitting) : Type 0 where
-  pub looks : LooksAt lists meanings marks sought fitting (length fitting.looked.items)
-  pub all : fitting.is_whole ≡ true → fitting.looked.items ≡ all_looks waiting sought.message.key (sought.node + 1)
+pub record LooksAtAll (judge : Judge) (sought : Sought) (fitting : Fitting) : Type 0 where
+  pub looks : LooksAt judge sought fitting (length fitting.looked.items)
+  pub all : fitting.is_whole ≡ true → fitting.looked.items ≡ all_looks judge.waiting.now sought.message.key (sought.node + 1)
 
 -- a send is no other one than this one, or a oneway one that comes after it
 abbrev pub IsOutOfQuestion : Bool → Fit → Fit → Type 0
@@ -225,31 +229,31 @@ MayBe waiting sought list index =
     (index < 2 ^ 32) × ((list ≡ sought.node + 1) ⊎ (list ≡ 0)) × IsTrue (waits waiting (sought.message.key, list, index))
 
 -- what is known of such a send
-abbrev pub IsFitOf : Lists → Waiting → List Mark → Sought → Fit → Type 0
-IsFitOf lists waiting marks sought fit =
-    (look : Look) × IsIn (all_looks waiting sought.message.key (sought.node + 1)) look × IsFit lists marks look fit
+abbrev pub IsFitOf : Judge → Sought → Fit → Type 0
+IsFitOf judge sought fit =
+    (look : Look) × IsIn (all_looks judge.waiting.now sought.message.key (sought.node + 1)) look × IsFit judge look fit
 
 -- this send is the only one that can have been meant
-pub record IsOnlyOne (lists : Lists) (meanings : Meanings) (waiting : Waiting) (marks : List Mark) (sought : Sought) (fit : Fit) : Type 0 where
-  pub has_all : HasAll lists.seen sought.upid sought.node sought.message.place sought.message.gaps
-  pub is : IsFitOf lists waiting marks sought fit
-  pub only : (list index : ℕ) → MayBe waiting sought list index
-      → (index ≡ fit.listed.index) ⊎ SpeaksAgainst lists meanings sought index
+pub record IsOnlyOne (judge : Judge) (sought : Sought) (fit : Fit) : Type 0 where
+  pub has_all : HasAll judge.seen.now sought.upid.index sought.node sought.message.place sought.message.gaps
+  pub is : IsFitOf judge sought fit
+  pub only : (list index : ℕ) → MayBe judge.waiting.now sought list index
+      → (index ≡ fit.listed.index) ⊎ SpeaksAgainst judge sought index
       ⊎ ((sought.message.oneway ≡ true)
-      × ((other : Fit) × IsFitOf lists waiting marks sought other × (other.listed.index ≡ index) × ComesAfter fit other))
+      × ((other : Fit) × IsFitOf judge sought other × (other.listed.index ≡ index) × ComesAfter fit other))
 
 -- all sends that can have been meant are of one generation of a handle
-pub record AreOfOneHandle (lists : Lists) (meanings : Meanings) (waiting : Waiting) (marks : List Mark) (sought : Sought) : Type 0 where
-  pub has_all : HasAll lists.seen sought.upid sought.node sought.message.place sought.message.gaps
+pub record AreOfOneHandle (judge : Judge) (sought : Sought) : Type 0 where
+  pub has_all : HasAll judge.seen.now sought.upid.index sought.node sought.message.place sought.message.gaps
   pub generation : Option ℕ
-  pub only : (list index : ℕ) → MayBe waiting sought list index
-      → SpeaksAgainst lists meanings sought index
-      ⊎ ((other : Fit) × IsFitOf lists waiting marks sought other × (other.listed.index ≡ index)
+  pub only : (list index : ℕ) → MayBe judge.waiting.now sought list index
+      → SpeaksAgainst judge sought index
+      ⊎ ((other : Fit) × IsFitOf judge sought other × (other.listed.index ≡ index)
       × (other.sent.generation ≡ generation))
 
 -- what is said of a delivery is certain
-abbrev pub IsJudged : Lists → Meanings → Waiting → List Mark → Sought → Judged → Type 0
-IsJudged lists meanings waiting marks sought (Sure fit) = IsOnlyOne lists meanings waiting marks sought fit
-IsJudged lists meanings waiting marks sought OneHandle = AreOfOneHandle lists meanings waiting marks sought
-IsJudged lists meanings waiting marks sought Several = Unit {0}
-IsJudged lists meanings waiting marks sought Unknown = Unit {0}
+abbrev pub IsJudged : Judge → Sought → Judged → Type 0
+IsJudged judge sought (Sure fit) = IsOnlyOne judge sought fit
+IsJudged judge sought OneHandle = AreOfOneHandle judge sought
+IsJudged judge sought Several = Unit {0}
+IsJudged judge sought Unknown = Unit {0}

@@ -1,10 +1,10 @@
 //! The buffers that processes get by deliveries, each with the record that frees it.
 
-ghost use Rattle.std.specs.Prelude.{◌≡◌, map, slice_get, [], OnOk, IfOk};
-ghost use Rattle.listing_tables.specs.Buffers.{BuffersSum, Frees, SumsOneMore, delivery_at, free_at, row_of_buffer};
+ghost use Rattle.std.specs.Prelude.{◌≡◌, map, [], OnOk, IfOk};
+ghost use Rattle.listing_tables.specs.Buffers.{BuffersSum, Frees, SumsOneMore};
+ghost use Rattle.listing_tables.specs.Buffers.{delivery_at, free_at, row_of_buffer};
 
-use crate::numbered::Numbered;
-use event_core::Strength;
+use crate::numbered::{Numbered, difference};
 use indexmap::IndexMap;
 use listing_fields::{ListingError, Outcome};
 use std::alloc::Global;
@@ -12,8 +12,9 @@ use std::alloc::Global;
 /// A buffer that a process got by a delivery.
 #[derive(Clone, Copy)]
 pub(crate) struct Buffer {
-    /// The place of its delivery.
+    /// The place of its delivery, and the index of that among the messages.
     pub place: u32,
+    pub delivery: u32,
     pub sender: i32,
     pub size: u64,
     /// The place of the record that frees it, and the sequence of its frame.
@@ -25,43 +26,26 @@ pub(crate) struct Buffer {
     pub held: u32,
     /// The index of the buffer before it at its address, if that was not freed.
     pub earlier: Option<u32>,
-    pub references: References,
 }
 
 impl Buffer {
     /// How many sequences after this one it is freed.
-    pub(crate) fn freed_after(&self, sequence: u64) -> Option<u64> {
+    pub(crate) fn freed_after(&self, sequence: u64) -> Result<Option<u64>, ListingError> {
         match self.freed {
-            Some(_) => Some(self.freed_in.wrapping_sub(sequence)),
-            None => None,
+            Some(_) => Ok(Some(difference(self.freed_in, sequence)?)),
+            None => Ok(None),
         }
     }
-}
-
-/// The references that a buffer holds: where they begin in the list of all, and how many they are.
-#[derive(Clone, Copy)]
-pub(crate) struct References {
-    pub first: u32,
-    pub count: u32,
-}
-
-/// A reference that a buffer holds: the index of a generation.
-#[derive(Clone, Copy)]
-pub(crate) struct Reference {
-    pub generation: u32,
-    pub strength: Strength,
 }
 
 /// All buffers, in the order of their deliveries.
 #[derive(Drop)]
 pub(crate) struct Buffers {
-    list: Numbered<Buffer>,
+    pub list: Numbered<Buffer>,
     /// For each process and address, the index of the latest buffer, if that is not freed.
     latest: IndexMap<(u32, u64), u32>,
     /// The indices of the buffers that are freed, in the order in which they are.
     pub freed: Numbered<u32>,
-    /// The references that they hold, in their order.
-    pub references: Numbered<Reference>,
 }
 
 impl Buffers {
@@ -72,20 +56,12 @@ impl Buffers {
             list: Numbered::new(alloc),
             latest: IndexMap::new(alloc),
             freed: Numbered::new(alloc),
-            references: Numbered::new(alloc),
         }
     }
 
-    /// The buffer at this index.
-    pub(crate) fn get(&self, index: u32) -> Option<Buffer>
-        ensures { result ≡ slice_get self.now.list.all.items index }
-    {
-        self.list.get(index)
-    }
-
     /// The buffer that is freed as this one of all, counted from 0.
-    pub(crate) fn freed_at(&self, at: u32) -> Option<Buffer> {
-        self.get(self.freed.get(at)?)
+    pub(crate) fn freed_at(&self, at: u32) -> Result<Buffer, ListingError> {
+        self.list.at(self.freed.at(at)?)
     }
 
     /// Takes a buffer that is delivered at an address of a process, and returns its index.
@@ -127,7 +103,7 @@ impl Buffers {
     {
         let at = index as usize;
         if at >= self.list.all.len() {
-            return Ok(None);
+            return Err(ListingError::TooLarge);
         }
         let buffer = self.list.all[at];
         self.list.all[at] = Buffer {
@@ -140,18 +116,20 @@ impl Buffers {
     }
 
     /// Notes the path of a buffer, and how many buffers of that path are held.
-    pub(crate) fn keep_path(&mut self, index: u32, path: u32, held: u32)
+    pub(crate) fn keep_path(&mut self, index: u32, path: u32, held: u32) -> Outcome
         ensures { map row_of_buffer self.new.list.all.items ≡
             map row_of_buffer self.old.list.all.items }
     {
         let at = index as usize;
-        if at < self.list.all.len() {
-            let buffer = self.list.all[at];
-            self.list.all[at] = Buffer {
-                path,
-                held,
-                ..buffer
-            };
+        if at >= self.list.all.len() {
+            return Err(ListingError::TooLarge);
         }
+        let buffer = self.list.all[at];
+        self.list.all[at] = Buffer {
+            path,
+            held,
+            ..buffer
+        };
+        Ok(())
     }
 }

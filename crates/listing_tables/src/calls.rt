@@ -3,14 +3,15 @@
 ghost use Rattle.std.specs.Bool.{OnTrue};
 ghost use Rattle.std.specs.Map.{values_of};
 ghost use Rattle.std.specs.List.Sorted.{IsPermutation, IsNonDecreasingBy};
-ghost use Rattle.std.specs.Prelude.{◌≡◌, ◌++◌, map, true, IfOk, OnOk};
+ghost use Rattle.std.specs.Prelude.{◌≡◌, ◌↔◌, ◌++◌, map, true, IsTrue, IfOk, OnOk};
 ghost use Rattle.summary_law.specs.Fits.{IsPlaced};
 ghost use Rattle.call_stacks.specs.Calls.{AreFindings};
 ghost use Rattle.listing_tables.specs.Calls.{step_place, step_reads, call_place};
 ghost use Rattle.listing_tables.specs.Calls.{row_of_call, row_of_opener, rows_of, verdict_number};
 ghost use Rattle.listing_tables.specs.Steps.{rows_of_lists};
+ghost use Rattle.call_stacks.specs.declared.verdict.Verdict.TheVariants.{Answered};
 
-use crate::numbered::{Numbered, narrow};
+use crate::numbered::{Numbered, narrow, one_more};
 use crate::steps::Steps;
 use binder_code::Kind;
 use call_stacks::{CallFindings, CallRecord, Calls, Opener, Verdict};
@@ -79,6 +80,12 @@ impl Call {
             None => None,
         }
     }
+
+    pub(crate) fn is_answered(&self) -> bool
+        ensures { IsTrue result ↔ (self.now.verdict ≡ Answered) }
+    {
+        matches!(self.verdict, Verdict::Answered)
+    }
 }
 
 /// The record that closes a call: its place, and its index among the messages.
@@ -116,8 +123,8 @@ fn is_placed(steps: &[CallStep]) -> bool
     true
 }
 
-/// The calls of all threads, in the order of their places. Of each thread these are the records that
-/// leave a mark.
+/// The calls of all threads, in the order of their places. Of each thread these are the records
+/// that leave a mark.
 pub(crate) fn all_calls(alloc: Global, threads: &Steps) -> Result<Numbered<Call>, ListingError>
     ensures moved { IfOk result (λ calls.
         IsPermutation (rows_of_lists (values_of threads.now.entries.entries))
@@ -152,7 +159,7 @@ fn push_calls(
 {
     let mut open = Vec::new(alloc);
     for opener in openers {
-        let call = nested(&mut open, call_of(opener, steps)?);
+        let call = nested(&mut open, call_of(opener, steps)?)?;
         calls.push(call)?;
         open.push(call)?;
     }
@@ -164,7 +171,7 @@ fn call_of(opener: &Opener<CallStep>, steps: &[CallStep]) -> Result<Call, Listin
     ensures { IfOk result (λ call. row_of_call call ≡ row_of_opener opener.now) }
 {
     let closer = match opener.closer {
-        Some(place) => Some(closer_at(narrow(place)?, steps)),
+        Some(place) => Some(closer_at(narrow(place)?, steps)?),
         None => None,
     };
     Ok(Call {
@@ -179,21 +186,23 @@ fn call_of(opener: &Opener<CallStep>, steps: &[CallStep]) -> Result<Call, Listin
 }
 
 /// The closer at this place, which is that of one of these records.
-fn closer_at(place: u32, steps: &[CallStep]) -> Closer
-    ensures { result.place ≡ place }
+fn closer_at(place: u32, steps: &[CallStep]) -> Result<Closer, ListingError>
+    ensures { IfOk result (λ closer. closer.place ≡ place) }
 {
     let index = steps.partition_point(|step| step.place < place);
-    let message = match steps.get(index) {
-        Some(step) => step.before,
-        None => 0,
-    };
-    Closer { place, message }
+    match steps.get(index) {
+        Some(step) => Ok(Closer {
+            place,
+            message: step.before,
+        }),
+        None => Err(ListingError::TooLarge),
+    }
 }
 
-/// A call with its depth and its parent. Of the calls before it, those that are closed before it are
-/// taken out of the open ones.
-fn nested(open: &mut Vec<Call>, call: Call) -> Call
-    ensures { row_of_call result ≡ row_of_call call }
+/// A call with its depth and its parent. Of the calls before it, those that are closed before it
+/// are taken out of the open ones.
+fn nested(open: &mut Vec<Call>, call: Call) -> Result<Call, ListingError>
+    ensures { IfOk result (λ nested. row_of_call nested ≡ row_of_call call) }
 {
     for _ in 0..open.len() {
         match open.as_slice().last() {
@@ -204,12 +213,12 @@ fn nested(open: &mut Vec<Call>, call: Call) -> Call
         }
     }
     match open.as_slice().last() {
-        Some(parent) => Call {
+        Some(parent) => Ok(Call {
             parent: Some(parent.place),
-            depth: parent.depth.saturating_add(1),
+            depth: one_more(parent.depth)?,
             ..call
-        },
-        None => call,
+        }),
+        None => Ok(call),
     }
 }
 

@@ -2,12 +2,15 @@
 
 ghost use Rattle.std.specs.Prelude.{◌≡◌, ◌<◌, ◌≤◌, [], IfSome, OnOk};
 ghost use Rattle.std.specs.Bool.{OnTrue};
-ghost use Rattle.listing_tables.specs.Judging.{Adds, AreOfOneGeneration, ComesAfter, IsIn, IsOnlyFit, IsOutOfQuestion};
+ghost use Rattle.listing_tables.specs.Judging.{Adds, AreOfOneGeneration, ComesAfter, IsIn};
+ghost use Rattle.listing_tables.specs.Judging.{IsOnlyFit, IsOutOfQuestion};
 ghost use Rattle.listing_tables.specs.declared.fitting.Fit.{Fit};
 
 use crate::messages::{Sent, Settled};
+use crate::numbered::narrow;
+use crate::spans::Utid;
 use crate::waiting::{Listed, Look};
-use listing_fields::Outcome;
+use listing_fields::{ListingError, Outcome};
 use std::alloc::Global;
 
 /// To which node a send went: to that of a delivery, or to another one or none.
@@ -31,7 +34,7 @@ pub(crate) struct Fit {
     pub sent: Sent,
     pub place: u32,
     pub gaps: u32,
-    pub utid: u32,
+    pub utid: Utid,
     /// The place of the closer of its call.
     pub closer: Option<u32>,
 }
@@ -81,7 +84,8 @@ impl Fitting {
     /// Leaves out those that rank behind this rank.
     fn leave_worse(&mut self, rank: u8)
         ensures worse { rank < self.old.rank → (self.new.list.items ≡ []) × (self.new.rank ≡ rank) }
-        ensures kept { self.old.rank ≤ rank → (self.new.list.items ≡ self.old.list.items) × (self.new.rank ≡ self.old.rank) }
+        ensures kept { self.old.rank ≤ rank →
+            (self.new.list.items ≡ self.old.list.items) × (self.new.rank ≡ self.old.rank) }
         ensures looked { self.new.looked ≡ self.old.looked }
         ensures whole { self.new.is_whole ≡ self.old.is_whole }
     {
@@ -97,9 +101,9 @@ impl Fitting {
         self.list.as_slice().first().copied()
     }
 
-    /// The only one, if there is one only. Of oneway sends it is the first one that has certainly not
-    /// come before, if all others come after it: the driver delivers what is sent to a node in the
-    /// order in which it took it.
+    /// The only one, if there is one only. Of oneway sends it is the first one that has certainly
+    /// not come before, if all others come after it: the driver delivers what is sent to a node in
+    /// the order in which it took it.
     pub(crate) fn only(&self, oneway: bool) -> Option<Fit>
         ensures { IfSome result (λ fit. IsOnlyFit oneway self.now fit) }
     {
@@ -151,8 +155,8 @@ impl Fitting {
         first
     }
 
-    /// The one that is taken by guess, if there is one. Those come first that are known to go to the
-    /// node; then the first of oneway sends, and of calls the one that is closed first.
+    /// The one that is taken by guess, if there is one. Those come first that are known to go to
+    /// the node; then the first of oneway sends, and of calls the one that is closed first.
     pub(crate) fn best(&self, oneway: bool) -> Option<Fit> {
         let mut best: Option<Fit> = None;
         for fit in &self.list {
@@ -166,12 +170,9 @@ impl Fitting {
         best
     }
 
-    /// How many they are, or 255 if they are more.
-    pub(crate) fn count(&self) -> u8 {
-        match u8::try_from(self.list.len()) {
-            Ok(count) => count,
-            Err(_) => u8::MAX,
-        }
+    /// How many they are: no more than were looked at.
+    pub(crate) fn count(&self) -> Result<u32, ListingError> {
+        narrow(self.list.len() as u64)
     }
 }
 
@@ -189,7 +190,8 @@ fn are_all_of(fits: &[Fit], generation: Option<u32>) -> bool
 
 /// Whether each of these sends is no other one than this one, or comes after it.
 fn are_out_of_question(fits: &[Fit], only: &Fit, oneway: bool) -> bool
-    ensures { OnTrue result ((fit : Fit) → IsIn fits.now fit → IsOutOfQuestion oneway only.now fit) }
+    ensures { OnTrue result ((fit : Fit) →
+        IsIn fits.now fit → IsOutOfQuestion oneway only.now fit) }
 {
     for fit in fits {
         if !is_out_of_question(fit, only, oneway) {
@@ -206,7 +208,8 @@ fn is_out_of_question(fit: &Fit, only: &Fit, oneway: bool) -> bool
     fit.listed.index == only.listed.index || (oneway && is_after(fit, only))
 }
 
-/// Whether the driver certainly took a send after another one, which is fresh, and so comes before it.
+/// Whether the driver certainly took a send after another one, which is fresh, and so comes before
+/// it.
 fn is_after(fit: &Fit, first: &Fit) -> bool
     ensures { OnTrue result (ComesAfter first.now fit.now) }
 {
@@ -219,7 +222,7 @@ fn is_after(fit: &Fit, first: &Fit) -> bool
     }
     match first.sent.settled {
         Settled::Confirmed(place) if place < fit.place => true,
-        _ => fit.utid == first.utid,
+        _ => fit.utid.index == first.utid.index,
     }
 }
 

@@ -1,16 +1,18 @@
 //! The generations of handles: the spans in which a handle of a process means one object.
 
-ghost use Rattle.std.specs.Prelude.{◌≡◌, ◌↔◌, [], IsTrue};
+ghost use Rattle.std.specs.Prelude.{◌≡◌, ◌↔◌, [], IsTrue, IfOk, OnOk};
 ghost use Rattle.event_core.specs.Handles.{handle_effect};
 ghost use Rattle.handle_ledger.specs.Handles.{handle_count_change};
-ghost use Rattle.listing_tables.specs.Generations.{CountsEffect, GenerationSum, HeldByEffect, KeepsTaken, generation_columns};
-ghost use Rattle.listing_tables.specs.Generations.{EndsByEffect, EndsIfEmpty, HoldsOneFewer, HoldsOneMore, IsEmpty, IsGenerationOf};
-ghost use Rattle.listing_tables.specs.Generations.{IsSame, KeepsHeld, TakesOneMore, taken_by};
+ghost use Rattle.listing_tables.specs.Generations.{CountsEffect, EndsByEffect, EndsIfEmpty};
+ghost use Rattle.listing_tables.specs.Generations.{GenerationSum, HeldByEffect, HoldsOneFewer};
+ghost use Rattle.listing_tables.specs.Generations.{HoldsOneMore, IsEmpty, IsGenerationOf, IsSame};
+ghost use Rattle.listing_tables.specs.Generations.{KeepsHeld, KeepsTaken, TakesOneMore};
+ghost use Rattle.listing_tables.specs.Generations.{generation_columns, taken_by};
 ghost use Rattle.listing_tables.specs.declared.generations.Effect.TheVariants.{Takes};
 
-use crate::buffers::Reference;
-use crate::numbered::Numbered;
+use crate::numbered::{Numbered, one_fewer, one_more};
 use crate::rows::{Column, RowWriter, columns};
+use crate::spans::{Upid, number_at};
 use binder_code::Kind;
 use event_core::{HandleChange, Strength};
 use indexmap::IndexMap;
@@ -62,20 +64,21 @@ pub(crate) struct Taken {
 }
 
 impl Taken {
-    fn after(self, change: HandleChange) -> Taken
-        ensures { TakesOneMore self (handle_count_change change) result }
+    fn after(self, change: HandleChange) -> Result<Taken, ListingError>
+        ensures { IfOk result (TakesOneMore self (handle_count_change change)) }
     {
         match change {
-            HandleChange::Raise => Taken {
-                raised: self.raised.saturating_add(1),
-                left: self.left.saturating_add(1),
+            HandleChange::Raise => Ok(Taken {
+                raised: one_more(self.raised)?,
+                left: one_more(self.left)?,
                 ..self
-            },
-            HandleChange::Lower => Taken {
-                lowered: self.lowered.saturating_add(1),
+            }),
+            // One that lets go of no reference takes none off.
+            HandleChange::Lower => Ok(Taken {
+                lowered: one_more(self.lowered)?,
                 left: self.left.saturating_sub(1),
                 ..self
-            },
+            }),
         }
     }
 }
@@ -83,7 +86,7 @@ impl Taken {
 /// A generation of a handle.
 #[derive(Clone, Copy)]
 pub(crate) struct Generation {
-    pub upid: u32,
+    pub upid: Upid,
     pub handle: u32,
     pub number: u32,
     pub begin: u32,
@@ -98,7 +101,7 @@ pub(crate) struct Generation {
 
 impl Generation {
     /// The one that begins at this place, before what the record there does.
-    fn new(upid: u32, handle: u32, number: u32, place: u32) -> Generation
+    fn new(upid: Upid, handle: u32, number: u32, place: u32) -> Generation
         ensures named { IsGenerationOf upid handle number place result }
         ensures counts { GenerationSum result [] }
     {
@@ -123,73 +126,77 @@ impl Generation {
     }
 
     /// Counts what the record at this place does.
-    fn apply(&mut self, effect: Effect, place: u32)
-        ensures counts { CountsEffect self.old effect self.new }
-        ensures ends { EndsByEffect self.old effect place self.new }
+    fn apply(&mut self, effect: Effect, place: u32) -> Outcome
+        ensures counts { OnOk result (CountsEffect self.old effect self.new) }
+        ensures ends { OnOk result (EndsByEffect self.old effect place self.new) }
         ensures same { IsSame self.old self.new }
-        ensures held { HeldByEffect self.old effect self.new }
+        ensures held { OnOk result (HeldByEffect self.old effect self.new) }
     {
         match effect {
-            Effect::Names => {}
+            Effect::Names => Ok(()),
             Effect::Takes(strength, change) => self.take(strength, change, place),
             Effect::Holds(strength) => self.hold(strength, place),
         }
     }
 
     /// Takes a record by which the process takes a reference or lets go of one.
-    fn take(&mut self, strength: Strength, change: HandleChange, place: u32)
-        ensures counts { CountsEffect self.old (Takes strength change) self.new }
-        ensures ends { EndsIfEmpty self.old place self.new }
+    fn take(&mut self, strength: Strength, change: HandleChange, place: u32) -> Outcome
+        ensures counts { OnOk result (CountsEffect self.old (Takes strength change) self.new) }
+        ensures ends { OnOk result (EndsIfEmpty self.old place self.new) }
         ensures same { IsSame self.old self.new }
         ensures held { KeepsHeld self.old self.new }
     {
-        self.count(strength, change);
+        self.count(strength, change)?;
         self.held_since = if self.strong.left == 0 {
             None
         } else {
             self.held_since.or(Some(place))
         };
         self.end_if_empty(place);
+        Ok(())
     }
 
-    fn count(&mut self, strength: Strength, change: HandleChange)
-        ensures counts { CountsEffect self.old (Takes strength change) self.new }
+    fn count(&mut self, strength: Strength, change: HandleChange) -> Outcome
+        ensures counts { OnOk result (CountsEffect self.old (Takes strength change) self.new) }
         ensures kept { self.new.end ≡ self.old.end }
         ensures same { IsSame self.old self.new }
         ensures held { KeepsHeld self.old self.new }
     {
         match strength {
-            Strength::Strong => self.strong = self.strong.after(change),
-            Strength::Weak => self.weak = self.weak.after(change),
+            Strength::Strong => self.strong = self.strong.after(change)?,
+            Strength::Weak => self.weak = self.weak.after(change)?,
         }
+        Ok(())
     }
 
     /// Takes a delivery that holds a reference.
-    fn hold(&mut self, strength: Strength, place: u32)
+    fn hold(&mut self, strength: Strength, place: u32) -> Outcome
         ensures taken { KeepsTaken self.old self.new }
         ensures kept { self.new.end ≡ self.old.end }
         ensures same { IsSame self.old self.new }
-        ensures held { HoldsOneMore strength self.old self.new }
+        ensures held { OnOk result (HoldsOneMore strength self.old self.new) }
     {
         match strength {
-            Strength::Strong => self.held_strong = self.held_strong.saturating_add(1),
-            Strength::Weak => self.held_weak = self.held_weak.saturating_add(1),
+            Strength::Strong => self.held_strong = one_more(self.held_strong)?,
+            Strength::Weak => self.held_weak = one_more(self.held_weak)?,
         }
         self.given_by = self.given_by.or(Some(place));
+        Ok(())
     }
 
     /// Takes back a reference that a delivery held.
-    fn let_go(&mut self, strength: Strength, place: u32)
-        ensures ends { EndsIfEmpty self.old place self.new }
+    fn let_go(&mut self, strength: Strength, place: u32) -> Outcome
+        ensures ends { OnOk result (EndsIfEmpty self.old place self.new) }
         ensures same { IsSame self.old self.new }
         ensures taken { KeepsTaken self.old self.new }
-        ensures held { HoldsOneFewer strength self.old self.new }
+        ensures held { OnOk result (HoldsOneFewer strength self.old self.new) }
     {
         match strength {
-            Strength::Strong => self.held_strong = self.held_strong.saturating_sub(1),
-            Strength::Weak => self.held_weak = self.held_weak.saturating_sub(1),
+            Strength::Strong => self.held_strong = one_fewer(self.held_strong)?,
+            Strength::Weak => self.held_weak = one_fewer(self.held_weak)?,
         }
         self.end_if_empty(place);
+        Ok(())
     }
 
     /// Ends here if it is empty.
@@ -238,12 +245,19 @@ impl Generation {
     }
 }
 
+/// What an object refers to by a handle: the index of a generation.
+#[derive(Clone, Copy)]
+pub(crate) struct Reference {
+    pub generation: u32,
+    pub strength: Strength,
+}
+
 /// All generations so far.
 #[derive(Drop)]
 pub(crate) struct Generations {
     pub list: Numbered<Generation>,
     /// For each process and handle, the index of the latest generation.
-    latest: IndexMap<(u32, u32), u32>,
+    latest: IndexMap<(Upid, u32), u32>,
 }
 
 impl Generations {
@@ -258,34 +272,32 @@ impl Generations {
     /// references the process had of it and has now.
     pub(crate) fn name(
         &mut self,
-        upid: u32,
+        upid: Upid,
         handle: u32,
         effect: Effect,
         place: u32,
     ) -> Result<(u32, u32, u32), ListingError> {
-        let latest = self.latest.get(&(upid, handle)).copied();
-        let index = match latest {
+        let index = match self.latest.get(&(upid, handle)).copied() {
             None => self.begin(upid, handle, 1, place)?,
-            Some(index) => match self.list.get(index) {
-                Some(ended) if ended.end.is_some() && effect.gives() => {
-                    let number = ended.number.saturating_add(1);
-                    self.begin(upid, handle, number, place)?
+            Some(index) => {
+                let latest = self.list.at(index)?;
+                if latest.end.is_some() && effect.gives() {
+                    self.begin(upid, handle, one_more(latest.number)?, place)?
+                } else {
+                    index
                 }
-                _ => index,
-            },
+            }
         };
-        let Some(generation) = self.list.get_mut(index) else {
-            return Ok((index, 0, 0));
-        };
+        let generation = self.list.at_mut(index)?;
         let before = generation.strong.left;
-        generation.apply(effect, place);
+        generation.apply(effect, place)?;
         Ok((index, before, generation.strong.left))
     }
 
     /// Begins the generation of a handle that has this number there, and returns the index.
     fn begin(
         &mut self,
-        upid: u32,
+        upid: Upid,
         handle: u32,
         number: u32,
         place: u32,
@@ -297,18 +309,16 @@ impl Generations {
     }
 
     /// Takes back a reference that a delivery held.
-    pub(crate) fn let_go(&mut self, reference: Reference, place: u32) {
-        if let Some(generation) = self.list.get_mut(reference.generation) {
-            generation.let_go(reference.strength, place);
-        }
+    pub(crate) fn let_go(&mut self, reference: Reference, place: u32) -> Outcome {
+        let generation = self.list.at_mut(reference.generation)?;
+        generation.let_go(reference.strength, place)
     }
 
     /// Writes the rows of the table generation.
     pub(crate) fn write<W: Write + Drop>(&self, rows: &mut RowWriter<W>) -> Outcome {
-        let mut number = 0u64;
-        for generation in &self.list.all {
-            number = number.saturating_add(1);
-            rows.push(&generation.columns(number))?;
+        for index in 0..self.list.next()? {
+            let generation = self.list.at(index)?;
+            rows.push(&generation.columns(number_at(index as usize)))?;
         }
         Ok(())
     }

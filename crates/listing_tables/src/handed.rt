@@ -1,6 +1,8 @@
 //! The objects that transactions and replies hand over, and the nodes that messages name.
 
-use crate::numbered::{Numbered, narrow};
+use crate::generations::Reference;
+use crate::numbered::narrow;
+use crate::spans::Upid;
 use indexmap::IndexSet;
 use listing_fields::{ListingError, Outcome};
 use std::alloc::Global;
@@ -8,7 +10,7 @@ use std::alloc::Global;
 /// A node, as its process knows it.
 #[derive(Clone, Copy, PartialEq, Eq, Hash)]
 pub(crate) struct Node {
-    pub upid: u32,
+    pub upid: Upid,
     pub ptr: u64,
     pub cookie: u64,
 }
@@ -18,8 +20,8 @@ pub(crate) struct Node {
 pub(crate) enum Object {
     /// A node of its own, by its index.
     Own(u32),
-    /// What a generation of one of its handles means, by the index of the generation.
-    Of(u32),
+    /// What a generation of one of its handles means.
+    Of(Reference),
 }
 
 /// An object of a message: the index of the message, and the number of the object in it.
@@ -33,14 +35,14 @@ pub(crate) struct Handed {
 /// All objects that are handed over, in the order of their messages, and all nodes.
 #[derive(Drop)]
 pub(crate) struct HandedOver {
-    list: Numbered<Handed>,
+    list: Vec<Handed>,
     nodes: IndexSet<Node>,
 }
 
 impl HandedOver {
     pub(crate) fn new(alloc: Global) -> HandedOver {
         HandedOver {
-            list: Numbered::new(alloc),
+            list: Vec::new(alloc),
             nodes: IndexSet::new(alloc),
         }
     }
@@ -51,31 +53,31 @@ impl HandedOver {
         narrow(index as u64)
     }
 
-    pub(crate) fn push(&mut self, handed: Handed) -> Outcome {
-        self.list.push(handed)?;
+    /// Takes an object of a message, after all of the messages before it.
+    pub(crate) fn push(&mut self, message: u32, number: u32, object: Object) -> Outcome {
+        self.list.push(Handed {
+            message,
+            number,
+            object,
+        })?;
         Ok(())
     }
 
-    pub(crate) fn len(&self) -> usize {
-        self.list.all.len()
+    /// The objects of a message.
+    pub(crate) fn objects_of(&self, message: u32) -> &[Handed] {
+        let all = self.list.as_slice();
+        let objects = &all[all.partition_point(|it| it.message < message)..];
+        let count = objects.partition_point(|it| it.message == message);
+        &objects[..count]
     }
+}
 
-    /// The index of the first object of this message, or of the first one after it.
-    pub(crate) fn first_of(&self, message: u32) -> u32 {
-        let objects = self.list.all.as_slice();
-        let at = objects.partition_point(|object| object.message < message);
-        match narrow(at as u64) {
-            Ok(at) => at,
-            Err(_) => u32::MAX,
-        }
+/// The object with this number among these objects of a message.
+pub(crate) fn numbered(objects: &[Handed], number: u32) -> Option<Handed> {
+    let at = objects.partition_point(|it| it.number < number);
+    let object = objects.get(at)?;
+    if object.number == number {
+        return Some(*object);
     }
-
-    /// The object at this index, if it is one of this message.
-    pub(crate) fn object_of(&self, message: u32, index: u32) -> Option<Handed> {
-        let object = self.list.get(index)?;
-        if object.message == message {
-            return Some(object);
-        }
-        None
-    }
+    None
 }

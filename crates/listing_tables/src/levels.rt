@@ -2,8 +2,10 @@
 
 ghost use Rattle.std.specs.Prelude.{◌<◌};
 
+use crate::numbered::{Numbered, one_more};
 use crate::rows::{Column, RowWriter, columns};
 use crate::slices::{SLICES, Slices};
+use crate::spans::Upid;
 use indexmap::IndexMap;
 use listing_fields::{ListingError, Outcome};
 use std::alloc::Global;
@@ -26,14 +28,14 @@ pub(crate) enum Resource {
 #[derive(Clone, Copy)]
 struct Level {
     now: u128,
-    latest: usize,
+    latest: u32,
 }
 
 /// A slice in which a level changes: the most, and the level at the end of the slice, both as they
 /// are written.
 #[derive(Clone, Copy)]
 struct Slice {
-    upid: u32,
+    upid: Upid,
     number: u8,
     resource: u8,
     most: u64,
@@ -48,8 +50,8 @@ pub(crate) struct Levels {
     /// The number of the one that is gone through.
     number: u8,
     /// By process and resource.
-    levels: IndexMap<(u32, u8), Level>,
-    slices: Vec<Slice>,
+    levels: IndexMap<(Upid, u8), Level>,
+    slices: Numbered<Slice>,
 }
 
 impl Levels {
@@ -59,7 +61,7 @@ impl Levels {
             all: Slices::of((0, 0)),
             number: 0,
             levels: IndexMap::new(alloc),
-            slices: Vec::new(alloc),
+            slices: Numbered::new(alloc),
         }
     }
 
@@ -75,59 +77,61 @@ impl Levels {
 
     /// A process holds more, by this much. The changes of a resource come in the order of the
     /// records that make them.
-    pub(crate) fn raise(&mut self, upid: u32, resource: Resource, by: u64) -> Outcome {
-        let now = self.now(upid, resource).saturating_add(u128::from(by));
-        self.set(upid, resource, now)
+    pub(crate) fn raise(&mut self, upid: Upid, resource: Resource, by: u64) -> Outcome {
+        match self.now(upid, resource).checked_add(u128::from(by)) {
+            Some(now) => self.set(upid, resource, now),
+            None => Err(ListingError::TooLarge),
+        }
     }
 
-    /// A process holds less, by this much.
-    pub(crate) fn lower(&mut self, upid: u32, resource: Resource, by: u64) -> Outcome {
-        let now = self.now(upid, resource).saturating_sub(u128::from(by));
-        self.set(upid, resource, now)
+    /// A process holds less, by this much of what it held.
+    pub(crate) fn lower(&mut self, upid: Upid, resource: Resource, by: u64) -> Outcome {
+        match self.now(upid, resource).checked_sub(u128::from(by)) {
+            Some(now) => self.set(upid, resource, now),
+            None => Err(ListingError::TooLarge),
+        }
     }
 
     /// What a process holds.
-    fn now(&self, upid: u32, resource: Resource) -> u128 {
+    fn now(&self, upid: Upid, resource: Resource) -> u128 {
         match self.levels.get(&(upid, resource as u8)) {
             Some(level) => level.now,
             None => 0,
         }
     }
 
-    fn set(&mut self, upid: u32, resource: Resource, now: u128) -> Outcome {
+    fn set(&mut self, upid: Upid, resource: Resource, now: u128) -> Outcome {
         let key = (upid, resource as u8);
-        let index = match self.levels.get(&key).copied() {
-            Some(level) if self.is_now(level.latest) => level.latest,
-            Some(level) => self.begin(key, level.now)?,
+        let latest = match self.levels.get(&key).copied() {
+            Some(level) => self.slice_after(key, level)?,
             None => self.begin(key, 0)?,
         };
-        self.levels.insert(key, Level { now, latest: index })?;
-        if let Some(slice) = self.slices.as_mut_slice().get_mut(index) {
-            slice.most = slice.most.max(told(now));
-            slice.end = told(now);
-        }
+        self.levels.insert(key, Level { now, latest })?;
+        let slice = self.slices.at_mut(latest)?;
+        slice.most = slice.most.max(told(now));
+        slice.end = told(now);
         Ok(())
     }
 
-    /// Whether the slice at this index is of the number that is gone through.
-    fn is_now(&self, index: usize) -> bool {
-        match self.slices.as_slice().get(index) {
-            Some(slice) => slice.number == self.number,
-            None => false,
+    /// The slice that is gone through, of a process and a resource: the latest one of this level,
+    /// or one that begins.
+    fn slice_after(&mut self, key: (Upid, u8), level: Level) -> Result<u32, ListingError> {
+        if self.slices.at(level.latest)?.number == self.number {
+            return Ok(level.latest);
         }
+        self.begin(key, level.now)
     }
 
     /// Begins a slice of a process and a resource that is at this level, and returns its index.
-    fn begin(&mut self, key: (u32, u8), level: u128) -> Result<usize, ListingError> {
-        let index = self.slices.len();
+    fn begin(&mut self, key: (Upid, u8), level: u128) -> Result<u32, ListingError> {
+        let (upid, resource) = key;
         self.slices.push(Slice {
-            upid: key.0,
+            upid,
             number: self.number,
-            resource: key.1,
+            resource,
             most: told(level),
             end: told(level),
-        })?;
-        Ok(index)
+        })
     }
 
     /// Writes the rows of the table level, for this many processes.
@@ -137,10 +141,11 @@ impl Levels {
         rows: &mut RowWriter<W>,
     ) -> Outcome {
         self.slices
-            .sort_unstable_by_key(|slice| (slice.upid, slice.number, slice.resource));
-        let mut next = 0usize;
+            .all
+            .sort_unstable_by_key(|slice| (slice.upid.index, slice.number, slice.resource));
+        let mut next = 0u32;
         for index in 0..processes {
-            next = self.write_process(index.saturating_add(1), next, rows)?;
+            next = self.write_process(Upid { index }, next, rows)?;
         }
         Ok(())
     }
@@ -149,21 +154,22 @@ impl Levels {
     /// after them.
     fn write_process<W: Write + Drop>(
         &self,
-        upid: u32,
-        next: usize,
+        upid: Upid,
+        next: u32,
         rows: &mut RowWriter<W>,
-    ) -> Result<usize, ListingError> {
+    ) -> Result<u32, ListingError> {
         let mut next = next;
         let mut held = [0u64; 5];
         for number in 0..SLICES as u8 {
             let mut most = held;
             for resource in 0..5u8 {
-                if let Some(slice) = self.slices.as_slice().get(next)
+                // In a slice in which nothing changed there is none.
+                if let Some(slice) = self.slices.all.get(next as usize)
                     && (slice.upid, slice.number, slice.resource) == (upid, number, resource)
                 {
                     most[resource as usize] = slice.most;
                     held[resource as usize] = slice.end;
-                    next = next.saturating_add(1);
+                    next = one_more(next)?;
                 }
             }
             rows.push(&columns! {

@@ -1,18 +1,19 @@
 //! What threads send and get: the records that open and close calls, and what became of them.
 
-ghost use Rattle.std.specs.Prelude.{OnOk};
+ghost use Rattle.std.specs.Prelude.{IfOk, OnOk};
+ghost use Rattle.std.specs.Bool.{OnFalse};
 ghost use Rattle.listing_tables.specs.Buffers.{AreBufferColumns};
 ghost use Rattle.listing_tables.specs.Calls.{AreColumns};
 ghost use Rattle.listing_tables.specs.Columns.{AddsRows};
+ghost use Rattle.listing_tables.specs.Judging.{AreAlike};
 
 use crate::buffers::{Buffer, Buffers};
-use crate::calls::{Call, verdict_number};
+use crate::calls::{Call, Closer, verdict_number};
 use crate::handed::Node;
-use crate::numbered::{Numbered, narrow};
+use crate::numbered::{Numbered, difference, narrow};
 use crate::rows::{Column, RowWriter, columns};
-use crate::spans::number_at;
+use crate::spans::{Upid, Utid, number_at};
 use binder_code::Kind;
-use call_stacks::Verdict;
 use indexmap::IndexSet;
 use listing_fields::{ListingError, Outcome};
 use std::alloc::Global;
@@ -25,7 +26,7 @@ pub(crate) struct Message {
     /// By it the delivery of a send is recognised.
     pub key: u64,
     pub place: u32,
-    pub utid: u32,
+    pub utid: Utid,
     /// How many gaps in the sequences come before it.
     pub gaps: u32,
     pub kind: Kind,
@@ -76,7 +77,7 @@ pub(crate) enum Settled {
 /// What deliveries have in common that came the same way.
 #[derive(Clone, Copy, PartialEq, Eq, Hash)]
 pub(crate) struct Path {
-    pub upid: u32,
+    pub upid: Upid,
     /// 0 a call, 1 a oneway transaction, 2 the reply to a known call, 3 another reply.
     pub sort: u8,
     pub code: u32,
@@ -86,7 +87,7 @@ pub(crate) struct Path {
 }
 
 /// The path of replies to unknown calls.
-pub(crate) fn unknown_path(upid: u32) -> Path {
+pub(crate) fn unknown_path(upid: Upid) -> Path {
     Path {
         upid,
         sort: 3,
@@ -118,64 +119,70 @@ impl Messages {
     }
 
     /// The node that transactions of this path go to. It is not for replies.
-    pub(crate) fn node_of(&self, path: u32) -> Option<Node> {
-        let path = self.paths.get_index(path as usize)?;
-        Some(Node {
-            upid: path.upid,
-            ptr: path.target,
-            cookie: path.cookie,
-        })
+    pub(crate) fn node_of(&self, path: u32) -> Result<Node, ListingError> {
+        match self.paths.get_index(path as usize) {
+            Some(path) => Ok(Node {
+                upid: path.upid,
+                ptr: path.target,
+                cookie: path.cookie,
+            }),
+            None => Err(ListingError::TooLarge),
+        }
     }
 
     /// The send at this index.
-    pub(crate) fn sent(&self, index: u32) -> Option<Sent> {
-        match self.list.get(index)?.detail {
-            Detail::Sent(sent) => Some(sent),
-            _ => None,
+    pub(crate) fn sent(&self, index: u32) -> Result<Sent, ListingError> {
+        match self.list.at(index)?.detail {
+            Detail::Sent(sent) => Ok(sent),
+            _ => Err(ListingError::TooLarge),
         }
     }
 
-    fn set(&mut self, index: u32, detail: Detail) {
-        if let Some(message) = self.list.get_mut(index) {
-            message.detail = detail;
-        }
+    fn set(&mut self, index: u32, sent: Sent) -> Outcome {
+        self.list.at_mut(index)?.detail = Detail::Sent(sent);
+        Ok(())
     }
 
     /// Notes what the driver said to a send.
-    pub(crate) fn settle(&mut self, index: u32, settled: Settled) {
-        if let Some(sent) = self.sent(index) {
-            self.set(index, Detail::Sent(Sent { settled, ..sent }));
-        }
+    pub(crate) fn settle(&mut self, index: u32, settled: Settled) -> Outcome {
+        let sent = self.sent(index)?;
+        self.set(index, Sent { settled, ..sent })
     }
 
     /// Notes how many sends fit the delivery of a send, and whether this one is certain.
-    pub(crate) fn rate(&mut self, index: u32, fits: u8, certain: bool) {
-        if let Some(sent) = self.sent(index) {
-            let sent = Sent {
-                fits,
-                certain,
-                ..sent
-            };
-            self.set(index, Detail::Sent(sent));
-        }
+    pub(crate) fn rate(&mut self, index: u32, fits: u32, certain: bool) -> Outcome {
+        let sent = self.sent(index)?;
+        let Ok(fits) = u8::try_from(fits) else {
+            return Err(ListingError::TooLarge);
+        };
+        let rated = Sent {
+            fits,
+            certain,
+            ..sent
+        };
+        self.set(index, rated)
     }
 
     /// Makes a send and a delivery partners.
-    pub(crate) fn couple(&mut self, send: u32, delivery: u32) {
-        self.set_partner(send, delivery);
-        self.set_partner(delivery, send);
+    pub(crate) fn couple(&mut self, send: u32, delivery: u32) -> Outcome {
+        self.list.at_mut(send)?.partner = Some(delivery);
+        self.list.at_mut(delivery)?.partner = Some(send);
+        Ok(())
     }
 
-    fn set_partner(&mut self, index: u32, partner: u32) {
-        if let Some(message) = self.list.get_mut(index) {
-            message.partner = Some(partner);
-        }
+    /// Whether two messages have the same key.
+    pub(crate) fn are_alike(&self, one: Closer, other: Closer) -> Result<bool, ListingError>
+        ensures { IfOk result (λ alike. OnFalse alike (AreAlike self.now one other → ⊥)) }
+    {
+        let first = self.list.at(one.message)?;
+        let second = self.list.at(other.message)?;
+        Ok(first.key == second.key)
     }
 
-    /// The place of the message at this index.
-    fn place_of(&self, index: Option<u32>) -> Option<u32> {
-        let message = self.list.get(index?)?;
-        Some(message.place)
+    /// The place of the partner of a message, if one is found.
+    fn partner_place(&self, message: &Message) -> Result<Option<u32>, ListingError> {
+        let partner = self.list.find(message.partner)?;
+        Ok(partner.map(|it| it.place))
     }
 
     /// Writes the rows of the table call.
@@ -189,38 +196,28 @@ impl Messages {
         for index in 0..calls.next()? {
             let call = calls.at(index)?;
             let opener = self.list.at(call.opener)?;
-            rows.push(&self.call_columns(&call, &opener))?;
+            let duration = self.closed_after(&call, opener.sequence)?;
+            rows.push(&call_columns(&call, &opener, duration))?;
         }
         Ok(())
     }
 
-    fn call_columns(&self, call: &Call, opener: &Message) -> [Column<'static>; 9]
-        ensures { AreColumns call.now result }
-    {
-        columns! {
-            place: call.place,
-            seq: opener.sequence,
-            utid: opener.utid,
-            served: u64::from(call.served),
-            depth: call.depth,
-            parent: call.parent,
-            verdict: verdict_number(call.verdict),
-            closer: call.end(),
-            dur_seq: self.closed_after(call, opener.sequence),
-        }
-    }
-
     /// How many sequences after this one a call is closed.
-    fn closed_after(&self, call: &Call, sequence: u64) -> Option<u64> {
-        let closer = self.list.get(call.closer?.message)?;
-        Some(closer.sequence.wrapping_sub(sequence))
+    fn closed_after(&self, call: &Call, sequence: u64) -> Result<Option<u64>, ListingError> {
+        match call.closer {
+            Some(closer) => {
+                let closed = self.list.at(closer.message)?.sequence;
+                Ok(Some(difference(closed, sequence)?))
+            }
+            None => Ok(None),
+        }
     }
 
     /// Writes the rows of the table send.
     pub(crate) fn write_sends<W: Write + Drop>(&self, rows: &mut RowWriter<W>) -> Outcome {
         for message in &self.list.all {
             if let Detail::Sent(sent) = message.detail {
-                let partner = self.place_of(message.partner);
+                let partner = self.partner_place(message)?;
                 rows.push(&send_columns(message, sent, partner))?;
             }
         }
@@ -235,14 +232,31 @@ impl Messages {
         rows: &mut RowWriter<W>,
     ) -> Outcome {
         for message in &self.list.all {
-            if let Detail::Delivered(index) = message.detail
-                && let Some(buffer) = buffers.get(index)
-            {
-                let partner = self.place_of(message.partner);
-                rows.push(&delivery_columns(message, &buffer, calls, partner))?;
+            if let Detail::Delivered(index) = message.detail {
+                let buffer = buffers.list.at(index)?;
+                let duration = buffer.freed_after(message.sequence)?;
+                let call = call_place(message, calls)?;
+                let partner = self.partner_place(message)?;
+                rows.push(&delivery_columns(message, &buffer, duration, call, partner))?;
             }
         }
         Ok(())
+    }
+}
+
+fn call_columns(call: &Call, opener: &Message, duration: Option<u64>) -> [Column<'static>; 9]
+    ensures { AreColumns call.now result }
+{
+    columns! {
+        place: call.place,
+        seq: opener.sequence,
+        utid: opener.utid,
+        served: u64::from(call.served),
+        depth: call.depth,
+        parent: call.parent,
+        verdict: verdict_number(call.verdict),
+        closer: call.end(),
+        dur_seq: duration,
     }
 }
 
@@ -268,7 +282,8 @@ fn send_columns(message: &Message, sent: Sent, partner: Option<u32>) -> [Column<
 fn delivery_columns(
     message: &Message,
     buffer: &Buffer,
-    calls: &Numbered<Call>,
+    duration: Option<u64>,
+    call: Option<u32>,
     partner: Option<u32>,
 ) -> [Column<'static>; 8]
     ensures { AreBufferColumns buffer.now result }
@@ -278,18 +293,18 @@ fn delivery_columns(
         seq: message.sequence,
         utid: message.utid,
         freed_by: buffer.freed,
-        dur_seq: buffer.freed_after(message.sequence),
-        call: call_place(message, calls),
+        dur_seq: duration,
+        call: call,
         send: partner,
         held: buffer.held,
     }
 }
 
 /// The place of the call that a delivery opens, or that it answers.
-fn call_place(message: &Message, calls: &Numbered<Call>) -> Option<u32> {
-    let call = calls.get(message.call?)?;
-    if message.kind == Kind::BrReply && !matches!(call.verdict, Verdict::Answered) {
-        return None;
+fn call_place(message: &Message, calls: &Numbered<Call>) -> Result<Option<u32>, ListingError> {
+    match calls.find(message.call)? {
+        Some(call) if message.kind == Kind::BrReply && !call.is_answered() => Ok(None),
+        Some(call) => Ok(Some(call.place)),
+        None => Ok(None),
     }
-    Some(call.place)
 }

@@ -1,7 +1,9 @@
 //! Things that are known by their index. A capture has millions of them, so an index takes four
 //! bytes, as the place of a record does.
 
-ghost use Rattle.std.specs.Prelude.{◌≡◌, ◌+◌, ◌++◌, ◌∷◌, [], length, slice_get, Some, IfOk, OnOk};
+ghost use Rattle.std.specs.Prelude.{◌≡◌, ◌+◌, ◌++◌, ◌∷◌, [], length, slice_get, Some};
+ghost use Rattle.std.specs.Prelude.{IfOk, IfSome, OnOk};
+ghost use Rattle.listing_tables.specs.Numbered.{IsAt};
 
 use listing_fields::ListingError;
 use std::alloc::Global;
@@ -12,7 +14,7 @@ pub(crate) struct Numbered<T> {
     pub all: Vec<T>,
 }
 
-impl<T: Copy + Drop> Numbered<T> {
+impl<T: Drop> Numbered<T> {
     pub(crate) fn new(alloc: Global) -> Numbered<T>
         ensures { result.all.items ≡ [] }
     {
@@ -37,25 +39,36 @@ impl<T: Copy + Drop> Numbered<T> {
         Ok(index)
     }
 
-    pub(crate) fn get(&self, index: u32) -> Option<T>
-        ensures { result ≡ slice_get self.now.all.items index }
-    {
-        self.all.as_slice().get(index as usize).copied()
+    /// The thing at this index, as `at` has it, to be changed.
+    pub(crate) fn at_mut(&mut self, index: u32) -> Result<&mut T, ListingError> {
+        self.all
+            .as_mut_slice()
+            .get_mut(index as usize)
+            .ok_or(ListingError::TooLarge)
     }
+}
 
+impl<T: Copy + Drop> Numbered<T> {
     /// The thing at this index. Each index was given by `push`, so there is one; if there were not,
     /// no row would be wrong for it: that would be `TooLarge`.
     pub(crate) fn at(&self, index: u32) -> Result<T, ListingError>
         ensures { IfOk result (λ thing. slice_get self.now.all.items index ≡ Some thing) }
     {
-        match self.get(index) {
-            Some(thing) => Ok(thing),
-            None => Err(ListingError::TooLarge),
-        }
+        self.all
+            .as_slice()
+            .get(index as usize)
+            .copied()
+            .ok_or(ListingError::TooLarge)
     }
 
-    pub(crate) fn get_mut(&mut self, index: u32) -> Option<&mut T> {
-        self.all.as_mut_slice().get_mut(index as usize)
+    /// The thing at this index, if it is known of an index at all.
+    pub(crate) fn find(&self, index: Option<u32>) -> Result<Option<T>, ListingError>
+        ensures { IfOk result (λ found. IfSome found (IsAt self.now.all.items index)) }
+    {
+        match index {
+            Some(index) => Ok(Some(self.at(index)?)),
+            None => Ok(None),
+        }
     }
 }
 
@@ -75,8 +88,26 @@ pub(crate) fn narrow(number: u64) -> Result<u32, ListingError>
 pub(crate) fn sum(first: u64, second: u64) -> Result<u64, ListingError>
     ensures { IfOk result (λ sum. sum ≡ first + second) }
 {
-    match first.checked_add(second) {
-        Some(sum) => Ok(sum),
-        None => Err(ListingError::TooLarge),
-    }
+    first.checked_add(second).ok_or(ListingError::TooLarge)
+}
+
+/// How much later a sequence is than an earlier one.
+pub(crate) fn difference(later: u64, earlier: u64) -> Result<u64, ListingError>
+    ensures { IfOk result (λ difference. difference + earlier ≡ later) }
+{
+    later.checked_sub(earlier).ok_or(ListingError::TooLarge)
+}
+
+/// A count with one more. What is counted has an index each, so the count fits.
+pub(crate) fn one_more(count: u32) -> Result<u32, ListingError>
+    ensures { IfOk result (λ more. more ≡ count + 1) }
+{
+    count.checked_add(1).ok_or(ListingError::TooLarge)
+}
+
+/// A count with one fewer, of things of which one was counted before.
+pub(crate) fn one_fewer(count: u32) -> Result<u32, ListingError>
+    ensures { IfOk result (λ fewer. fewer + 1 ≡ count) }
+{
+    count.checked_sub(1).ok_or(ListingError::TooLarge)
 }

@@ -3,16 +3,19 @@
 ghost use Rattle.std.specs.Prelude.{◌≡◌, IfOk};
 ghost use Rattle.listing_tables.specs.Judging.{IsListOf};
 
+use crate::buffers::Buffers;
 use crate::calls::{Call, Closer};
 use crate::fitting::{Fit, Fitting};
-use crate::handed::Object;
-use crate::judging::{Judged, Mark, Sought, is_refused, replied_by};
-use crate::lists::Lists;
+use crate::generations::Generations;
+use crate::handed::{HandedOver, Object, numbered};
+use crate::judging::{Judge, Judged, Mark, Marked, Sought, is_refused, replied_by};
 use crate::meanings::Meanings;
-use crate::messages::{Detail, Message, Sent};
+use crate::messages::{Detail, Message, Messages, Sent};
+use crate::numbered::{Numbered, one_more};
+use crate::seen::Seen;
+use crate::traffic::Traffic;
 use crate::waiting::{Listed, Waiting, list_of};
 use binder_code::Kind;
-use call_stacks::Verdict;
 use indexmap::IndexSet;
 use listing_fields::{ListingError, Outcome, is_reply};
 use std::alloc::Global;
@@ -20,149 +23,148 @@ use std::alloc::Global;
 /// How often all messages are gone through at most.
 const WALKS: u32 = 5;
 
-/// What is found on a walk. Only what generations mean is kept for the next one, and the pairs of
-/// which no other send can have been meant.
+const UNMARKED: Mark = Mark {
+    other: Marked::Unmarked,
+    guess: None,
+};
+
+/// What stays as it is while messages are paired.
+#[derive(Clone, Copy)]
+struct Facts<'f> {
+    buffers: &'f Buffers,
+    generations: &'f Generations,
+    seen: &'f Seen,
+    calls: &'f Numbered<Call>,
+}
+
+/// Pairs the messages. Of what is found on a walk only what generations mean is kept for the next
+/// one, and the pairs of which no other send can have been meant.
 #[derive(Drop)]
-struct Found {
+struct Pairing<'p, 'f> {
+    messages: &'p mut Messages,
+    handed: &'p mut HandedOver,
+    facts: Facts<'f>,
     meanings: Meanings,
     waiting: Waiting,
     fitting: Fitting,
     /// Of each message.
-    marks: Vec<Mark>,
+    marks: Numbered<Mark>,
     /// The keys of which more sends waited than were looked at.
     crowded: IndexSet<u64>,
     /// Whether another walk may find more.
     news: bool,
 }
 
-const UNMARKED: Mark = Mark {
-    count: 0,
-    other: 0,
-    guess: None,
-};
+/// Of the delivery of a call that a reply closes: that reply, the answer of the same key that
+/// closes the call of its send, and that send.
+#[derive(Clone, Copy)]
+struct Ends {
+    replied: u32,
+    answered: Closer,
+    send: u32,
+}
 
-impl Lists {
-    /// Finds the delivery of each send, and the send of each delivery.
-    pub(crate) fn pair(&mut self, alloc: Global) -> Outcome {
-        let mut found = Found {
-            meanings: Meanings::new(alloc),
-            waiting: Waiting::new(alloc),
-            fitting: Fitting::new(alloc),
-            marks: Vec::new(alloc),
-            crowded: IndexSet::new(alloc),
-            news: false,
-        };
-        self.pair_all(&mut found)
-    }
+/// Finds the delivery of each send, and the send of each delivery.
+pub(crate) fn pair_all(alloc: Global, traffic: &mut Traffic, calls: &Numbered<Call>) -> Outcome {
+    let facts = Facts {
+        buffers: &traffic.buffers,
+        generations: &traffic.handles.generations,
+        seen: &traffic.seen,
+        calls,
+    };
+    let mut pairing = Pairing {
+        messages: &mut traffic.messages,
+        handed: &mut traffic.handles.handed,
+        facts,
+        meanings: Meanings::new(alloc),
+        waiting: Waiting::new(alloc),
+        fitting: Fitting::new(alloc),
+        marks: Numbered::new(alloc),
+        crowded: IndexSet::new(alloc),
+        news: false,
+    };
+    pairing.pair()
+}
 
-    fn pair_all(&mut self, found: &mut Found) -> Outcome {
-        found.meanings.begin(&self.generations, &self.seen)?;
-        self.find_old()?;
+impl Pairing<'_, '_> {
+    fn pair(&mut self) -> Outcome {
+        self.meanings
+            .begin(self.facts.generations, self.facts.seen)?;
         for walk in 0..WALKS {
-            self.walk(found, walk == 0)?;
-            if !found.news && walk > 0 {
+            self.walk(walk == 0)?;
+            if !self.news && walk > 0 {
                 break;
             }
         }
         for index in 0..self.messages.list.next()? {
-            self.keep_guess(found, index);
+            self.keep_guess(index)?;
         }
         for index in 0..self.messages.list.next()? {
-            self.pair_reply(index);
+            self.pair_reply(index)?;
         }
         Ok(())
-    }
-
-    /// Finds the processes that are older than the capture, as far as deliveries to them show it.
-    fn find_old(&mut self) -> Outcome {
-        for index in 0..self.messages.list.next()? {
-            if let Some(message) = self.messages.list.get(index)
-                && let Detail::Delivered(buffer) = message.detail
-                && let Some(buffer) = self.buffers.get(buffer)
-                && let Some(node) = self.messages.node_of(buffer.path)
-                && self.is_outermost(&message)
-            {
-                self.seen.take_delivery(message.utid, node.upid);
-            }
-        }
-        Ok(())
-    }
-
-    /// Whether a delivery is a oneway transaction, or a call that comes within no other one.
-    fn is_outermost(&self, delivery: &Message) -> bool {
-        if delivery.oneway {
-            return true;
-        }
-        match self.call_of(delivery) {
-            Some(call) => call.place == delivery.place && call.depth == 1,
-            None => false,
-        }
     }
 
     /// Goes through all messages, or only through those of calls.
-    fn walk(&mut self, found: &mut Found, calls: bool) -> Outcome {
-        found.news = false;
-        found.waiting.clear();
-        found.crowded.clear();
-        found.marks.clear();
-        found.marks.resize(self.messages.list.all.len(), UNMARKED)?;
+    fn walk(&mut self, calls: bool) -> Outcome {
+        self.news = false;
+        self.waiting.clear();
+        self.crowded.clear();
+        let count = self.messages.list.all.len();
+        self.marks.all.clear();
+        self.marks.all.resize(count, UNMARKED)?;
         for index in 0..self.messages.list.next()? {
-            if let Some(message) = self.messages.list.get(index)
-                && !(calls && message.oneway)
-            {
-                self.pair_message(found, index, &message)?;
+            let message = self.messages.list.at(index)?;
+            if !(calls && message.oneway) {
+                self.pair_message(index, &message)?;
             }
         }
-        self.claim_all(found)?;
-        if found.meanings.settle(&self.generations)? {
-            found.news = true;
+        self.claim_all()?;
+        if self.meanings.settle(self.facts.generations)? {
+            self.news = true;
         }
         Ok(())
     }
 
-    fn pair_message(&mut self, found: &mut Found, index: u32, message: &Message) -> Outcome {
-        if let Some(closed) = self.closed_send(&found.meanings, message)? {
-            found.waiting.close(closed)?;
-        }
+    fn pair_message(&mut self, index: u32, message: &Message) -> Outcome {
+        self.close_send(message)?;
         if is_reply(message.kind) || message.partner.is_some() {
             return Ok(());
         }
         match message.detail {
-            Detail::Sent(sent) => self.add_send(found, index, message, &sent),
-            Detail::Delivered(buffer) => match self.sought(index, message, buffer)? {
-                Some(sought) => self.pair_delivery(found, &sought),
-                None => Ok(()),
-            },
-            _ => Ok(()),
+            Detail::Sent(sent) => self.add_send(index, message, &sent),
+            Detail::Delivered(buffer) => {
+                let sought = self.sought(index, message, buffer)?;
+                self.pair_delivery(&sought)
+            }
+            Detail::Failed => Ok(()),
         }
     }
 
     /// Adds a send to those that wait, unless it is refused. If it is after a gap, the error may be
     /// that of another send.
-    fn add_send(&self, found: &mut Found, index: u32, send: &Message, sent: &Sent) -> Outcome {
+    fn add_send(&mut self, index: u32, send: &Message, sent: &Sent) -> Outcome {
         if is_refused(sent) && send.gaps == 0 {
             return Ok(());
         }
-        let listed = listed(&found.meanings, index, send, sent)?;
-        found.waiting.add(listed)
+        self.waiting.add(listed(&self.meanings, index, send, sent)?)
     }
 
-    /// The send whose call a message closes, if its delivery is not sure.
-    fn closed_send(
-        &self,
-        meanings: &Meanings,
-        message: &Message,
-    ) -> Result<Option<Listed>, ListingError> {
-        if let Some(call) = self.call_of(message)
-            && !call.served
-            && call.place != message.place
-            && let Some(send) = self.messages.list.get(call.opener)
-            && send.partner.is_none()
-            && let Detail::Sent(sent) = send.detail
-        {
-            return Ok(Some(listed(meanings, call.opener, &send, &sent)?));
+    /// Takes out the send whose call a message closes, if its delivery is not sure.
+    fn close_send(&mut self, message: &Message) -> Outcome {
+        let Some(call) = self.facts.calls.find(message.call)? else {
+            return Ok(());
+        };
+        if call.served || call.place == message.place {
+            return Ok(());
         }
-        Ok(None)
+        let send = self.messages.list.at(call.opener)?;
+        if send.partner.is_some() {
+            return Ok(());
+        }
+        let sent = self.messages.sent(call.opener)?;
+        self.waiting
+            .close(listed(&self.meanings, call.opener, &send, &sent)?)
     }
 
     fn sought(
@@ -170,136 +172,127 @@ impl Lists {
         index: u32,
         message: &Message,
         buffer: u32,
-    ) -> Result<Option<Sought>, ListingError> {
-        let Some(buffer) = self.buffers.get(buffer) else {
-            return Ok(None);
-        };
-        let Some(node) = self.messages.node_of(buffer.path) else {
-            return Ok(None);
-        };
-        let upid = node.upid;
-        let node = self.handed.index_of(node)?;
-        Ok(Some(Sought {
+    ) -> Result<Sought, ListingError> {
+        let buffer = self.facts.buffers.list.at(buffer)?;
+        let node = self.messages.node_of(buffer.path)?;
+        Ok(Sought {
             index,
             message: *message,
             sender: buffer.sender,
-            node,
-            upid,
-        }))
+            node: self.handed.index_of(node)?,
+            upid: node.upid,
+        })
     }
 
-    fn pair_delivery(&mut self, found: &mut Found, sought: &Sought) -> Outcome {
-        let judged = self.judge(
-            &found.meanings,
-            &found.waiting,
-            found.marks.as_slice(),
-            &mut found.fitting,
-            sought,
-        )?;
-        if !found.fitting.is_whole {
-            found.crowded.insert(sought.message.key)?;
+    fn pair_delivery(&mut self, sought: &Sought) -> Outcome {
+        let judge = Judge {
+            messages: self.messages,
+            calls: self.facts.calls,
+            generations: self.facts.generations,
+            seen: self.facts.seen,
+            meanings: &self.meanings,
+            waiting: &self.waiting,
+            marks: &self.marks,
+        };
+        let judged = judge.judge(&mut self.fitting, sought)?;
+        if !self.fitting.is_whole {
+            self.crowded.insert(sought.message.key)?;
         }
-        let fits = found.fitting.count();
+        let fits = self.fitting.count()?;
         match judged {
-            Judged::Sure(fit) => self.take(found, sought, &fit),
-            Judged::OneHandle => self.take_one(found, sought),
+            Judged::Sure(fit) => self.take(sought, &fit),
+            Judged::OneHandle => self.take_one(sought),
             Judged::Several => {
-                self.guess(found, sought, fits, false)?;
-                doubt_all(found, sought.message.key)
+                self.guess(sought, fits, false)?;
+                self.doubt_all(sought.message.key)
             }
-            Judged::Unknown => self.guess(found, sought, fits.saturating_add(1), false),
+            Judged::Unknown => self.guess(sought, one_more(fits)?, false),
         }
     }
 
     /// Takes the only send that a delivery can have come from.
-    fn take(&mut self, found: &mut Found, sought: &Sought, fit: &Fit) -> Outcome {
+    fn take(&mut self, sought: &Sought, fit: &Fit) -> Outcome {
         if !fit.fresh {
-            found.news = true;
+            self.news = true;
         }
-        found.waiting.take(fit.listed)?;
-        self.keep_pair(&mut found.meanings, fit.listed.index, sought)
+        self.waiting.take(fit.listed)?;
+        self.keep_pair(fit.listed.index, sought)
     }
 
     /// Takes one of several sends of one generation.
-    fn take_one(&mut self, found: &mut Found, sought: &Sought) -> Outcome {
-        if let Some(fit) = found.fitting.first() {
-            if let Some(generation) = fit.sent.generation {
-                found.meanings.learn(generation, fit.gaps, sought.node);
-            }
-            let fits = found.fitting.count();
-            self.guess(found, sought, fits, true)?;
-            doubt_all(found, sought.message.key)?;
+    fn take_one(&mut self, sought: &Sought) -> Outcome {
+        let Some(fit) = self.fitting.first() else {
+            return Err(ListingError::TooLarge);
+        };
+        if let Some(generation) = fit.sent.generation {
+            self.meanings.learn(generation, fit.gaps, sought.node)?;
+        }
+        let fits = self.fitting.count()?;
+        self.guess(sought, fits, true)?;
+        self.doubt_all(sought.message.key)
+    }
+
+    /// Takes the best send by guess, if there is one that no other delivery has taken. So many
+    /// sends fit, and it may be certain that it is one of this generation.
+    fn guess(&mut self, sought: &Sought, fits: u32, certain: bool) -> Outcome {
+        if self.fitting.rank == 0 {
+            self.mark_all(sought.index)?;
+        }
+        if let Some(fit) = self.fitting.best(sought.message.oneway) {
+            let index = fit.listed.index;
+            self.waiting.guess(fit.listed)?;
+            self.messages.rate(index, fits, certain)?;
+            self.marks.at_mut(index)?.guess = Some(sought.index);
         }
         Ok(())
     }
 
-    /// Takes the best send by guess, if there is one that no other delivery has taken. So many sends
-    /// fit, and it may be certain that it is one of this generation.
-    fn guess(&mut self, found: &mut Found, sought: &Sought, fits: u8, certain: bool) -> Outcome {
-        if found.fitting.rank == 0 {
-            mark_all(found, sought.index);
-        }
-        if let Some(fit) = found.fitting.best(sought.message.oneway) {
-            let index = fit.listed.index;
-            found.waiting.guess(fit.listed)?;
-            self.messages.rate(index, fits, certain);
-            if let Some(mark) = found.marks.as_mut_slice().get_mut(index as usize) {
-                mark.guess = Some(sought.index);
-            }
+    /// Notes of the sends that fit a delivery that it may be that of each of them.
+    fn mark_all(&mut self, delivery: u32) -> Outcome {
+        for fit in &self.fitting.list {
+            let mark = self.marks.at_mut(fit.listed.index)?;
+            mark.other = mark.other.and(delivery);
         }
         Ok(())
+    }
+
+    /// Puts the sends that fit a delivery among those in doubt, of which one came.
+    fn doubt_all(&mut self, key: u64) -> Outcome {
+        for fit in &self.fitting.list {
+            self.waiting.doubt(fit.listed)?;
+        }
+        self.waiting.came(key)
     }
 
     /// Keeps a pair of which no other send can have been meant, and what follows from it.
-    fn keep_pair(&mut self, meanings: &mut Meanings, index: u32, sought: &Sought) -> Outcome {
-        let Some(send) = self.messages.list.get(index) else {
-            return Ok(());
-        };
-        if let Detail::Sent(sent) = send.detail
-            && let Some(generation) = sent.generation
-        {
-            meanings.learn(generation, send.gaps, sought.node);
+    fn keep_pair(&mut self, index: u32, sought: &Sought) -> Outcome {
+        let sent = self.messages.sent(index)?;
+        if let Some(generation) = sent.generation {
+            let gaps = self.messages.list.at(index)?.gaps;
+            self.meanings.learn(generation, gaps, sought.node)?;
         }
-        self.messages.rate(index, 1, true);
-        self.messages.couple(index, sought.index);
-        self.learn_objects(meanings, index, sought.index)?;
-        if let Some(delivery) = self.messages.list.get(sought.index)
-            && let Some((replied, answered, _)) = self.ends_of(&delivery)
-            && self.has_no_gap_before(&delivery, answered)
+        self.messages.rate(index, 1, true)?;
+        self.messages.couple(index, sought.index)?;
+        self.learn_objects(index, sought.index)?;
+        if let Some(ends) = self.ends_of(sought.index)?
+            && self.is_whole(&ends)?
         {
-            self.learn_objects(meanings, replied.message, answered.message)?;
+            self.learn_objects(ends.replied, ends.answered.message)?;
         }
         Ok(())
     }
 
     /// Notes what is known of the objects that one message hands over and another one delivers.
-    fn learn_objects(&self, meanings: &mut Meanings, sent: u32, came: u32) -> Outcome {
-        let (Some(send), Some(delivery)) = (
-            self.messages.list.get(sent),
-            self.messages.list.get(came),
-        ) else {
-            return Ok(());
-        };
-        let mut at = self.handed.first_of(sent);
-        let mut other = self.handed.first_of(came);
-        for _ in 0..self.handed.len() {
-            let (Some(one), Some(two)) = (
-                self.handed.object_of(sent, at),
-                self.handed.object_of(came, other),
-            ) else {
-                break;
-            };
-            if one.number <= two.number {
-                at = at.saturating_add(1);
-            }
-            if two.number <= one.number {
-                other = other.saturating_add(1);
-            }
-            if one.number == two.number {
+    fn learn_objects(&mut self, sent: u32, came: u32) -> Outcome {
+        let before = self.messages.list.at(sent)?.gaps;
+        let after = self.messages.list.at(came)?.gaps;
+        let others = self.handed.objects_of(came);
+        for one in self.handed.objects_of(sent) {
+            if let Some(other) = numbered(others, one.number) {
                 learn_object(
-                    meanings,
-                    (one.object, send.gaps),
-                    (two.object, delivery.gaps),
+                    &mut self.meanings,
+                    (one.object, before),
+                    (other.object, after),
                 )?;
             }
         }
@@ -307,116 +300,117 @@ impl Lists {
     }
 
     /// Takes each call that was answered, and that only one delivery can be of: so that is its own.
-    fn claim_all(&mut self, found: &mut Found) -> Outcome {
+    fn claim_all(&mut self) -> Outcome {
         for index in 0..self.messages.list.next()? {
-            self.mark_claimed(found, index);
+            self.mark_claimed(index)?;
         }
         for index in 0..self.messages.list.next()? {
-            self.claim(found, index)?;
+            self.claim(index)?;
         }
         Ok(())
     }
 
     /// Marks the delivery by which a call must have come.
-    fn mark_claimed(&self, found: &mut Found, index: u32) {
-        if let Some(mark) = found.marks.as_slice().get(index as usize).copied()
-            && mark.count == 1
-            && self.must_have_come(found, index)
-            && let Some(claimed) = found.marks.as_mut_slice().get_mut(mark.other as usize)
+    fn mark_claimed(&mut self, index: u32) -> Outcome {
+        if let Marked::By(delivery) = self.marks.at(index)?.other
+            && self.must_have_come(index)?
         {
-            claimed.count = claimed.count.saturating_add(1);
-            claimed.other = index;
+            let claimed = self.marks.at_mut(delivery)?;
+            claimed.other = claimed.other.and(index);
         }
+        Ok(())
     }
 
     /// Whether a message is a call that was answered, and no frame is missing between the two.
-    fn must_have_come(&self, found: &Found, index: u32) -> bool {
-        if let Some(message) = self.messages.list.get(index)
-            && let Detail::Sent(_) = message.detail
-            && message.partner.is_none()
-            && found.crowded.get(&message.key).is_none()
-            && let Some(call) = self.call_of(&message)
+    fn must_have_come(&self, index: u32) -> Result<bool, ListingError> {
+        let message = self.messages.list.at(index)?;
+        if !matches!(message.detail, Detail::Sent(_))
+            || message.partner.is_some()
+            || self.crowded.contains(&message.key)
         {
-            return matches!(call.verdict, Verdict::Answered) && self.is_whole_call(call, &message);
+            return Ok(false);
         }
-        false
+        match self.facts.calls.find(message.call)? {
+            Some(call) if call.is_answered() => self.facts.seen.has_whole_call(call, &message),
+            _ => Ok(false),
+        }
     }
 
     /// Takes the one call that must have come by a delivery, if there is one.
-    fn claim(&mut self, found: &mut Found, index: u32) -> Outcome {
-        if let Some(mark) = found.marks.as_slice().get(index as usize).copied()
-            && mark.count == 1
-            && let Some(delivery) = self.messages.list.get(index)
-            && delivery.partner.is_none()
+    fn claim(&mut self, index: u32) -> Outcome {
+        let delivery = self.messages.list.at(index)?;
+        if let Marked::By(send) = self.marks.at(index)?.other
             && let Detail::Delivered(buffer) = delivery.detail
-            && let Some(sought) = self.sought(index, &delivery, buffer)?
+            && delivery.partner.is_none()
         {
-            found.news = true;
-            self.keep_pair(&mut found.meanings, mark.other, &sought)?;
+            self.news = true;
+            let sought = self.sought(index, &delivery, buffer)?;
+            self.keep_pair(send, &sought)?;
         }
         Ok(())
     }
 
     /// Keeps what the last walk guessed.
-    fn keep_guess(&mut self, found: &Found, index: u32) {
-        if let Some(mark) = found.marks.as_slice().get(index as usize).copied()
-            && let Some(delivery) = mark.guess
-            && self.has_no_partner(index)
-            && self.has_no_partner(delivery)
+    fn keep_guess(&mut self, index: u32) -> Outcome {
+        if let Some(delivery) = self.marks.at(index)?.guess
+            && self.messages.list.at(index)?.partner.is_none()
+            && self.messages.list.at(delivery)?.partner.is_none()
         {
-            self.messages.couple(index, delivery);
+            self.messages.couple(index, delivery)?;
         }
-    }
-
-    fn has_no_partner(&self, index: u32) -> bool {
-        match self.messages.list.get(index) {
-            Some(message) => message.partner.is_none(),
-            None => false,
-        }
+        Ok(())
     }
 
     /// Finds the delivery of the reply to a call whose own delivery is found.
-    fn pair_reply(&mut self, index: u32) {
-        if let Some(delivery) = self.messages.list.get(index)
-            && let Some((replied, answered, sent)) = self.ends_of(&delivery)
-        {
-            // With a frame missing, the answer may be that of another call.
-            if self.has_no_gap_before(&delivery, answered) {
-                self.messages.rate(replied.message, sent.fits, sent.certain);
-            } else {
-                let fits = sent.fits.saturating_add(1);
-                self.messages.rate(replied.message, fits, false);
-            }
-            self.messages.couple(replied.message, answered.message);
+    fn pair_reply(&mut self, index: u32) -> Outcome {
+        let Some(ends) = self.ends_of(index)? else {
+            return Ok(());
+        };
+        let sent = self.messages.sent(ends.send)?;
+        let fits = u32::from(sent.fits);
+        // With a frame missing, the answer may be that of another call.
+        if self.is_whole(&ends)? {
+            self.messages.rate(ends.replied, fits, sent.certain)?;
+        } else {
+            self.messages.rate(ends.replied, fits + 1, false)?;
         }
+        self.messages.couple(ends.replied, ends.answered.message)
     }
 
-    /// Whether no frame is missing from the send of a delivery to the answer of its call.
-    fn has_no_gap_before(&self, delivery: &Message, answered: Closer) -> bool {
-        if let Some(index) = delivery.partner
-            && let Some(send) = self.messages.list.get(index)
-        {
-            return self.seen.gaps_before(answered.place) == send.gaps;
-        }
-        false
+    /// Whether no frame is missing from the send of a call to its answer.
+    fn is_whole(&self, ends: &Ends) -> Result<bool, ListingError> {
+        let gaps = self.messages.list.at(ends.send)?.gaps;
+        Ok(self.facts.seen.gaps_before(ends.answered.place)? == gaps)
     }
 
-    /// For a delivery that opens a call: the reply that closes it, and the answer of the same key
-    /// that closes the call of its send, with that send.
-    fn ends_of(&self, delivery: &Message) -> Option<(Closer, Closer, Sent)> {
+    /// The ends of the call that a delivery opens, if its send is found.
+    fn ends_of(&self, index: u32) -> Result<Option<Ends>, ListingError> {
+        let delivery = self.messages.list.at(index)?;
         if !matches!(
             delivery.kind,
             Kind::BrTransaction | Kind::BrTransactionSecCtx
         ) {
-            return None;
+            return Ok(None);
         }
-        let replied = replied_by(self.call_of(delivery)?)?;
-        let send = self.messages.list.get(delivery.partner?)?;
-        let answered = answered_by(self.call_of(&send)?)?;
-        if !self.are_alike(replied, answered) {
-            return None;
+        let Some(send) = delivery.partner else {
+            return Ok(None);
+        };
+        let made = self.facts.calls.find(self.messages.list.at(send)?.call)?;
+        let served = self.facts.calls.find(delivery.call)?;
+        if let Some(made) = made
+            && made.is_answered()
+            && let Some(answered) = made.closer
+            && let Some(served) = served
+            && let Some(replied) = replied_by(served)
+            && self.messages.are_alike(replied, answered)?
+        {
+            return Ok(Some(Ends {
+                replied: replied.message,
+                answered,
+                send,
+            }));
         }
-        Some((replied, answered, self.messages.sent(delivery.partner?)?))
+        Ok(None)
     }
 }
 
@@ -428,13 +422,15 @@ fn listed(
     sent: &Sent,
 ) -> Result<Listed, ListingError>
     ensures named { IfOk result (λ listed. (listed.key ≡ send.now.key) × (listed.index ≡ index)) }
-    ensures list { IfOk result (λ listed. IsListOf meanings.now sent.now.generation send.now.gaps listed.list) }
+    ensures list { IfOk result (λ listed.
+        IsListOf meanings.now sent.now.generation send.now.gaps listed.list) }
 {
-    let list = match sent.generation {
-        Some(generation) => match meanings.node_of(generation, send.gaps) {
-            Some(node) => list_of(node)?,
-            None => 0,
-        },
+    let node = match sent.generation {
+        Some(generation) => meanings.node_of(generation, send.gaps)?,
+        None => None,
+    };
+    let list = match node {
+        Some(node) => list_of(node)?,
         None => 0,
     };
     Ok(Listed {
@@ -444,48 +440,17 @@ fn listed(
     })
 }
 
-/// Notes of the sends that fit a delivery that it may be that of each of them.
-fn mark_all(found: &mut Found, delivery: u32) {
-    for fit in &found.fitting.list {
-        if let Some(mark) = found
-            .marks
-            .as_mut_slice()
-            .get_mut(fit.listed.index as usize)
-        {
-            mark.count = mark.count.saturating_add(1);
-            mark.other = delivery;
-        }
-    }
-}
-
-/// Puts the sends that fit a delivery among those in doubt, of which one came.
-fn doubt_all(found: &mut Found, key: u64) -> Outcome {
-    for fit in &found.fitting.list {
-        found.waiting.doubt(fit.listed)?;
-    }
-    found.waiting.came(key)
-}
-
 /// Notes what is known of an object, by what it is to the process that hands it over and to the one
 /// that gets it, each after so many gaps.
 fn learn_object(meanings: &mut Meanings, sent: (Object, u32), came: (Object, u32)) -> Outcome {
     match (sent, came) {
-        ((Object::Own(node), _), (Object::Of(generation), gaps))
-        | ((Object::Of(generation), gaps), (Object::Own(node), _)) => {
-            meanings.learn(generation, gaps, node);
-            Ok(())
+        ((Object::Own(node), _), (Object::Of(reference), gaps))
+        | ((Object::Of(reference), gaps), (Object::Own(node), _)) => {
+            meanings.learn(reference.generation, gaps, node)
         }
-        ((Object::Of(one), here), (Object::Of(other), there)) => {
-            meanings.learn_same((one, here), (other, there))
+        ((Object::Of(one), before), (Object::Of(other), after)) => {
+            meanings.learn_same((one.generation, before), (other.generation, after))
         }
         _ => Ok(()),
     }
-}
-
-/// The reply that answers a call.
-fn answered_by(call: Call) -> Option<Closer> {
-    if matches!(call.verdict, Verdict::Answered) {
-        return call.closer;
-    }
-    None
 }

@@ -7,6 +7,7 @@ ghost use Rattle.listing_fields.specs.Content.{record_of_item};
 ghost use Rattle.listing_tables.specs.Walk.{BeginsWith, IsFrameRow, record_begin};
 
 use crate::rows::{Column, RowWriter, columns, signed};
+use crate::spans::Utid;
 use binder_code::Kind;
 use capture_frame::{Direction, Frame, u32_at};
 use listing_fields::{
@@ -21,7 +22,7 @@ use transaction_view::Transaction;
 const STATUS_CODE: u32 = 0x08;
 
 /// The row of a frame with this many records.
-pub(crate) fn frame_columns(frame: Frame<'_>, utid: u32, records: u64) -> [Column<'static>; 7]
+pub(crate) fn frame_columns(frame: Frame<'_>, utid: Utid, records: u64) -> [Column<'static>; 7]
     requires { records ≡ length (records_of (placed_frame frame)).units }
     ensures { IsFrameRow (placed_frame frame.entry) result }
 {
@@ -39,7 +40,7 @@ pub(crate) fn frame_columns(frame: Frame<'_>, utid: u32, records: u64) -> [Colum
 /// The row of a record, which names the interface and the service of these numbers.
 pub(crate) fn record_columns(
     frame: Frame<'_>,
-    utid: u32,
+    utid: Utid,
     item: Item<'_>,
     named: Named,
     interface: Option<u64>,

@@ -1,15 +1,17 @@
-//! Whether all that was sent to a node is in the capture: frames may be missing, and a process may be
-//! older than the capture.
+//! Whether all that was sent to a node is in the capture: frames may be missing, and a process may
+//! be older than the capture.
 
-ghost use Rattle.std.specs.Prelude.{◌≡◌, ◌-◌, slice_get};
+ghost use Rattle.std.specs.Prelude.{IfOk};
 ghost use Rattle.std.specs.Bool.{OnTrue};
 ghost use Rattle.listing_tables.specs.Judging.{HasAll, IsReferred, IsWhole};
 
-use crate::numbered::narrow;
-use crate::spans::Owner;
+use crate::calls::Call;
+use crate::messages::Message;
+use crate::numbered::{Numbered, difference, narrow};
+use crate::spans::{Owner, Upid, Utid};
 use capture_frame::{Direction, Frame};
 use indexmap::IndexMap;
-use listing_fields::Outcome;
+use listing_fields::{ListingError, Outcome};
 use std::alloc::Global;
 
 /// What is seen of a thread so far.
@@ -29,9 +31,9 @@ pub(crate) struct Seen {
     sequence: Option<u64>,
     /// Of each gap in the sequences, the place of the frame after it.
     gaps: Vec<u32>,
-    threads: Vec<Watched>,
+    threads: Numbered<Watched>,
     /// Of each process, whether it is seen to be older than the capture.
-    old: Vec<bool>,
+    old: Numbered<bool>,
     /// For a node and a number of gaps, the place at which the driver first tells of references to
     /// the node after so many gaps.
     referred: IndexMap<(u32, u32), u32>,
@@ -42,8 +44,8 @@ impl Seen {
         Seen {
             sequence: None,
             gaps: Vec::new(alloc),
-            threads: Vec::new(alloc),
-            old: Vec::new(alloc),
+            threads: Numbered::new(alloc),
+            old: Numbered::new(alloc),
             referred: IndexMap::new(alloc),
         }
     }
@@ -51,17 +53,17 @@ impl Seen {
     /// Takes a frame, before its records.
     pub(crate) fn add_frame(&mut self, frame: Frame<'_>, owner: Owner) -> Outcome {
         if let Some(last) = self.sequence
-            && frame.sequence.wrapping_sub(last) != 1
+            && difference(frame.sequence, last)? != 1
         {
             self.gaps.push(narrow(frame.place)?)?;
         }
         self.sequence = Some(frame.sequence);
-        if self.old.len() as u64 == u64::from(owner.upid.saturating_sub(1)) {
+        if owner.upid.index == self.old.next()? {
             self.old.push(false)?;
         }
-        let gaps = self.gaps();
-        let at = owner.utid.saturating_sub(1) as usize;
-        if let Some(thread) = self.threads.as_mut_slice().get_mut(at) {
+        let gaps = self.gaps()?;
+        if owner.utid.index < self.threads.next()? {
+            let thread = self.threads.at_mut(owner.utid.index)?;
             thread.earlier = Some(thread.last);
             thread.last = gaps;
             return Ok(());
@@ -73,72 +75,81 @@ impl Seen {
         })?;
         // It waited in the driver before the capture began.
         if frame.direction == Direction::Read {
-            self.is_old(owner.upid);
+            self.is_old(owner.upid)?;
         }
         Ok(())
     }
 
-    fn is_old(&mut self, upid: u32) {
-        let at = upid.saturating_sub(1) as usize;
-        if let Some(old) = self.old.as_mut_slice().get_mut(at) {
-            *old = true;
-        }
+    fn is_old(&mut self, upid: Upid) -> Outcome {
+        *self.old.at_mut(upid.index)? = true;
+        Ok(())
     }
 
     /// Takes a record by which a thread says that it takes calls.
-    pub(crate) fn take_calls(&mut self, utid: u32) {
-        let at = utid.saturating_sub(1) as usize;
-        if let Some(thread) = self.threads.as_mut_slice().get_mut(at) {
-            thread.takes_calls = true;
-        }
+    pub(crate) fn take_calls(&mut self, utid: Utid) -> Outcome {
+        self.threads.at_mut(utid.index)?.takes_calls = true;
+        Ok(())
     }
 
     /// Takes a delivery that only a thread that takes calls gets.
-    pub(crate) fn take_delivery(&mut self, utid: u32, upid: u32) {
-        let at = utid.saturating_sub(1) as usize;
-        if let Some(thread) = self.threads.as_slice().get(at)
-            && !thread.takes_calls
-        {
-            self.is_old(upid);
+    pub(crate) fn take_delivery(&mut self, utid: Utid, upid: Upid) -> Outcome {
+        if self.threads.at(utid.index)?.takes_calls {
+            return Ok(());
         }
+        self.is_old(upid)
     }
 
     /// Takes a record by which a thread is told that there are references to a node now, and none
-    /// were before. It counts if the thread has a frame before that since the last gap: so what made
-    /// the first one is in the capture, and comes after the gap.
-    pub(crate) fn refer(&mut self, utid: u32, node: u32, place: u32) -> Outcome {
-        let at = utid.saturating_sub(1) as usize;
-        if let Some(thread) = self.threads.as_slice().get(at)
-            && thread.earlier == Some(thread.last)
-        {
-            let key = (node, thread.last);
-            if self.referred.get(&key).is_none() {
-                self.referred.insert(key, place)?;
-            }
+    /// were before. It counts if the thread has a frame before that since the last gap: so what
+    /// made the first one is in the capture, and comes after the gap.
+    pub(crate) fn refer(&mut self, utid: Utid, node: u32, place: u32) -> Outcome {
+        let thread = self.threads.at(utid.index)?;
+        let key = (node, thread.last);
+        if thread.earlier == Some(thread.last) && self.referred.get(&key).is_none() {
+            self.referred.insert(key, place)?;
         }
         Ok(())
     }
 
     /// How many gaps there are so far.
-    pub(crate) fn gaps(&self) -> u32 {
-        count_of(self.gaps.len())
+    pub(crate) fn gaps(&self) -> Result<u32, ListingError> {
+        narrow(self.gaps.len() as u64)
     }
 
     /// How many gaps come before a place.
-    pub(crate) fn gaps_before(&self, place: u32) -> u32 {
-        count_of(self.gaps.as_slice().partition_point(|gap| *gap <= place))
+    pub(crate) fn gaps_before(&self, place: u32) -> Result<u32, ListingError> {
+        narrow(self.gaps.as_slice().partition_point(|gap| *gap <= place) as u64)
     }
 
-    /// Whether all that is sent to a node of a process, and delivered at a place after so many gaps,
-    /// is in the capture after the last of them.
-    pub(crate) fn has_all(&self, upid: u32, node: u32, place: u32, gaps: u32) -> bool
-        ensures { OnTrue result (HasAll self.now upid node place gaps) }
+    /// Whether no frame is missing in a call with this opener, so that it is known what closes it.
+    pub(crate) fn has_whole_call(
+        &self,
+        call: Call,
+        opener: &Message,
+    ) -> Result<bool, ListingError> {
+        let gaps = match call.closer {
+            Some(closer) => self.gaps_before(closer.place)?,
+            None => self.gaps()?,
+        };
+        Ok(gaps == opener.gaps)
+    }
+
+    /// Whether all that is sent to a node of a process, and delivered at a place after so many
+    /// gaps, is in the capture after the last of them.
+    pub(crate) fn has_all(
+        &self,
+        upid: Upid,
+        node: u32,
+        place: u32,
+        gaps: u32,
+    ) -> Result<bool, ListingError>
+        ensures { IfOk result (λ all. OnTrue all (HasAll self.now upid.index node place gaps)) }
     {
         if self.is_referred(node, gaps, place) {
-            return true;
+            return Ok(true);
         }
         if gaps != 0 {
-            return false;
+            return Ok(false);
         }
         self.is_whole(upid)
     }
@@ -156,29 +167,9 @@ impl Seen {
     }
 
     /// Whether nothing shows that a process is older than the capture.
-    fn is_whole(&self, upid: u32) -> bool
-        ensures { OnTrue result (IsWhole self.now upid) }
+    fn is_whole(&self, upid: Upid) -> Result<bool, ListingError>
+        ensures { IfOk result (λ whole. OnTrue whole (IsWhole self.now upid.index)) }
     {
-        if let Some(old) = self.old_at(upid)
-            && !old
-        {
-            return true;
-        }
-        false
-    }
-
-    fn old_at(&self, upid: u32) -> Option<bool>
-        ensures { result ≡ slice_get self.now.old.items (upid - 1) }
-    {
-        let at = upid.saturating_sub(1) as usize;
-        self.old.as_slice().get(at).copied()
-    }
-}
-
-/// A capture has no more gaps than fit.
-fn count_of(gaps: usize) -> u32 {
-    match u32::try_from(gaps) {
-        Ok(count) => count,
-        Err(_) => u32::MAX,
+        Ok(!self.old.at(upid.index)?)
     }
 }

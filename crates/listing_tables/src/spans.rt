@@ -1,6 +1,9 @@
 //! The processes and the threads of a capture, each with its number and its span.
 
-use crate::numbered::narrow;
+ghost use Rattle.std.specs.Prelude.{◌≡◌, ◌+◌};
+ghost use Rattle.listing_tables.specs.declared.rows.Column.TheVariants.{Number};
+
+use crate::numbered::{narrow, sum};
 use crate::rows::{Column, RowWriter, columns};
 use capture_frame::{Direction, Frame, Process, Thread};
 use indexmap::IndexMap;
@@ -9,18 +12,47 @@ use std::alloc::Global;
 use std::hash::Hash;
 use std::io::Write;
 
-/// The numbers of a frame's process and of its thread.
+/// A process of the capture, by its index: in the order of the first frames, from 0.
+#[derive(Clone, Copy, PartialEq, Eq, Hash)]
+pub(crate) struct Upid {
+    pub index: u32,
+}
+
+/// A thread of the capture, by its index: in the order of the first frames, from 0.
+#[derive(Clone, Copy)]
+pub(crate) struct Utid {
+    pub index: u32,
+}
+
+/// In a row a process has its number, which is 1 for the first.
+impl From<Upid> for Column<'_> {
+    ghost from_gives = { λ upid column. column ≡ Number (upid.index + 1) };
+
+    fn from(upid: Upid) -> Self {
+        Column::Number(u64::from(upid.index) + 1)
+    }
+}
+
+/// In a row a thread has its number, which is 1 for the first.
+impl From<Utid> for Column<'_> {
+    ghost from_gives = { λ utid column. column ≡ Number (utid.index + 1) };
+
+    fn from(utid: Utid) -> Self {
+        Column::Number(u64::from(utid.index) + 1)
+    }
+}
+
+/// A frame's process and its thread.
 #[derive(Clone, Copy)]
 pub(crate) struct Owner {
-    pub upid: u32,
-    pub utid: u32,
+    pub upid: Upid,
+    pub utid: Utid,
 }
 
 /// From which frame to which a process or a thread has frames.
 #[derive(Clone, Copy)]
 struct Span {
-    /// The number of the process.
-    upid: u32,
+    upid: Upid,
     /// The sequence of its first frame.
     first: u64,
     /// The sequence of its last frame so far.
@@ -32,8 +64,7 @@ struct Span {
     written: Option<u64>,
 }
 
-/// The processes and the threads so far, in the order of their first frames. The first one has the
-/// number 1.
+/// The processes and the threads so far, in the order of their first frames.
 #[derive(Drop)]
 pub(crate) struct Spans {
     processes: IndexMap<Process, Span>,
@@ -48,39 +79,36 @@ impl Spans {
         }
     }
 
-    /// Counts a frame, and returns the numbers of its process and of its thread.
+    /// Counts a frame, and returns its process and its thread.
     pub(crate) fn add(&mut self, frame: Frame<'_>) -> Result<Owner, ListingError> {
-        let upid = number_in(
-            &mut self.processes,
-            frame.of_process(),
-            None,
-            frame.sequence,
-        )?;
-        let utid = number_in(
-            &mut self.threads,
-            thread_of(frame),
-            Some(upid),
-            frame.sequence,
-        )?;
+        let process = frame.of_process();
+        let upid = Upid {
+            index: index_in(&mut self.processes, process, None, frame.sequence)?,
+        };
+        let thread = thread_of(frame);
+        let utid = Utid {
+            index: index_in(&mut self.threads, thread, Some(upid), frame.sequence)?,
+        };
         Ok(Owner { upid, utid })
     }
 
     /// Takes the place of a record of a thread.
-    pub(crate) fn add_record(&mut self, utid: u32, direction: Direction, place: u64) {
-        let index = utid.saturating_sub(1) as usize;
-        if let Some(span) = self.threads.get_index_mut(index) {
-            span.record = Some(place);
-            if direction == Direction::Write {
-                span.written = Some(place);
-            }
+    pub(crate) fn add_record(&mut self, utid: Utid, direction: Direction, place: u64) -> Outcome {
+        let Some(span) = self.threads.get_index_mut(utid.index as usize) else {
+            return Err(ListingError::TooLarge);
+        };
+        span.record = Some(place);
+        if direction == Direction::Write {
+            span.written = Some(place);
         }
+        Ok(())
     }
 
-    /// The number of a thread's process; 0 if there is no such thread.
-    pub(crate) fn upid_of(&self, utid: u32) -> u32 {
-        match self.threads.get_index(utid.saturating_sub(1) as usize) {
-            Some((_, span)) => span.upid,
-            None => 0,
+    /// The process of a thread.
+    pub(crate) fn upid_of(&self, utid: Utid) -> Result<Upid, ListingError> {
+        match self.threads.get_index(utid.index as usize) {
+            Some((_, span)) => Ok(span.upid),
+            None => Err(ListingError::TooLarge),
         }
     }
 
@@ -108,7 +136,7 @@ impl Spans {
     pub(crate) fn write_threads<W: Write + Drop>(&self, rows: &mut RowWriter<W>) -> Outcome {
         let mut utid = 0u64;
         for (thread, span) in self.threads.iter() {
-            utid = utid.saturating_add(1);
+            utid = sum(utid, 1)?;
             rows.push(&columns! {
                 utid: utid,
                 upid: span.upid,
@@ -129,25 +157,25 @@ pub(crate) fn number_at(index: usize) -> u64 {
     (index as u64).saturating_add(1)
 }
 
-/// Counts a frame of a process, or of a thread of the process `upid`, and returns its number.
-fn number_in<K: Eq + Hash + Copy>(
+/// Counts a frame of a process, or of a thread of the process `upid`, and returns its index.
+fn index_in<K: Eq + Hash + Copy>(
     spans: &mut IndexMap<K, Span>,
     key: K,
-    upid: Option<u32>,
+    upid: Option<Upid>,
     sequence: u64,
 ) -> Result<u32, ListingError> {
-    let index = match spans.get_index_of(&key) {
-        Some(index) => index,
+    let at = match spans.get_index_of(&key) {
+        Some(at) => at,
         None => spans.len(),
     };
-    let number = narrow(number_at(index))?;
-    if let Some(span) = spans.get_index_mut(index) {
+    let index = narrow(at as u64)?;
+    if let Some(span) = spans.get_index_mut(at) {
         span.last = sequence;
-        span.frames = span.frames.saturating_add(1);
-        return Ok(number);
+        span.frames = sum(span.frames, 1)?;
+        return Ok(index);
     }
     let span = Span {
-        upid: upid.unwrap_or(number),
+        upid: upid.unwrap_or(Upid { index }),
         first: sequence,
         last: sequence,
         frames: 1,
@@ -155,5 +183,5 @@ fn number_in<K: Eq + Hash + Copy>(
         written: None,
     };
     spans.insert(key, span)?;
-    Ok(number)
+    Ok(index)
 }

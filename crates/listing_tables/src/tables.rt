@@ -3,18 +3,21 @@
 ghost use Rattle.std.specs.Prelude.{◌≡◌, List, OnOk};
 ghost use Rattle.capture_frame.specs.Envelope.{placed_frame};
 ghost use Rattle.record_view.specs.State.{placed_record};
-ghost use Rattle.listing_tables.specs.Steps.{AddsMarked, IsKept, KeepsAll, Marked, WritesCalls, marked_of};
+ghost use Rattle.listing_tables.specs.Steps.{AddsMarked, IsKept, KeepsAll, Marked, WritesCalls};
+ghost use Rattle.listing_tables.specs.Steps.{marked_of};
 ghost use Rattle.listing_tables.specs.Walk.{HasNoSteps};
 
-use crate::calls::all_calls;
+use crate::calls::{Call, all_calls};
 use crate::judge::Ending;
-use crate::lists::{Lists, Origin};
 use crate::names::Names;
-use crate::numbered::{narrow, sum};
+use crate::numbered::{Numbered, narrow, sum};
+use crate::origin::Origin;
+use crate::pairs::pair_all;
 use crate::rows::RowWriter;
 use crate::slices::Slices;
 use crate::spans::{Owner, Spans};
 use crate::steps::{Steps, add_step};
+use crate::traffic::Traffic;
 use capture_frame::Frame;
 use listing_fields::{Item, ListingError, Named, Outcome};
 use std::alloc::Global;
@@ -82,7 +85,9 @@ pub struct Tables {
     spans: Spans,
     pub(crate) names: Names,
     steps: Steps,
-    lists: Lists,
+    traffic: Traffic,
+    /// In the order of their openers. They are found when all records are there.
+    calls: Numbered<Call>,
     records: u64,
 }
 
@@ -95,7 +100,8 @@ impl Tables {
             spans: Spans::new(alloc),
             names: Names::new(alloc),
             steps: Steps::empty(alloc),
-            lists: Lists::new(alloc),
+            traffic: Traffic::new(alloc),
+            calls: Numbered::new(alloc),
             records: 0,
         }
     }
@@ -104,7 +110,8 @@ impl Tables {
     pub(crate) fn begin(&mut self, ending: Ending)
         ensures { self.new.steps ≡ self.old.steps }
     {
-        self.lists.levels.set_span(ending.span.unwrap_or((0, 0)));
+        let span = ending.span.unwrap_or((0, 0));
+        self.traffic.levels.set_span(span);
     }
 
     /// Takes a frame, before its records.
@@ -112,7 +119,7 @@ impl Tables {
         ensures { self.new.steps ≡ self.old.steps }
     {
         let owner = self.spans.add(frame)?;
-        self.lists.add_frame(frame, owner)?;
+        self.traffic.add_frame(frame, owner)?;
         Ok(owner)
     }
 
@@ -131,8 +138,8 @@ impl Tables {
     {
         self.records = sum(self.records, 1)?;
         self.spans
-            .add_record(owner.utid, frame.direction, item.record.place);
-        let before = self.lists.messages.list.next()?;
+            .add_record(owner.utid, frame.direction, item.record.place)?;
+        let before = self.traffic.messages.list.next()?;
         add_step(&mut self.steps, frame, item.record, before)?;
         let origin = Origin {
             place: narrow(item.record.place)?,
@@ -142,7 +149,7 @@ impl Tables {
             upid: owner.upid,
             utid: owner.utid,
         };
-        self.lists.add_item(origin, item, named)
+        self.traffic.add_item(origin, item, named)
     }
 
     /// Finds what is known only when all records are there, and writes the rows of the table call.
@@ -156,9 +163,11 @@ impl Tables {
             WritesCalls rows.old rows.new marked) }
     {
         let calls = all_calls(alloc, &mem::replace(&mut self.steps, Steps::empty(alloc)))?;
-        self.lists.messages.write_calls(&calls, rows)?;
-        self.lists.finish(calls, &self.spans)?;
-        self.lists.pair(alloc)
+        self.traffic.messages.write_calls(&calls, rows)?;
+        self.traffic.follow(alloc, &calls, &self.spans)?;
+        pair_all(alloc, &mut self.traffic, &calls)?;
+        self.calls = calls;
+        Ok(())
     }
 
     /// Writes a table of the capture that was walked through, and that goes this far. Nothing is
@@ -169,7 +178,7 @@ impl Tables {
         ending: Ending,
         rows: &mut RowWriter<W>,
     ) -> Outcome {
-        let lists = &mut self.lists;
+        let traffic = &mut self.traffic;
         match name {
             Name::Frame | Name::Record | Name::Object | Name::Call => Ok(()),
             Name::Capture => ending.write(self.records, rows),
@@ -177,18 +186,18 @@ impl Tables {
             Name::Thread => self.spans.write_threads(rows),
             Name::Interface => self.names.write_interfaces(rows),
             Name::Service => self.names.write_services(rows),
-            Name::Generation => lists.generations.write(rows),
-            Name::Send => lists.messages.write_sends(rows),
+            Name::Generation => traffic.handles.generations.write(rows),
+            Name::Send => traffic.messages.write_sends(rows),
             Name::Delivery => {
-                lists
+                traffic
                     .messages
-                    .write_deliveries(&lists.buffers, &lists.calls, rows)
+                    .write_deliveries(&traffic.buffers, &self.calls, rows)
             }
             Name::Slice => match ending.span {
                 Some(span) => Slices::of(span).write(rows),
                 None => Ok(()),
             },
-            Name::Level => lists.levels.write(self.spans.processes()?, rows),
+            Name::Level => traffic.levels.write(self.spans.processes()?, rows),
         }
     }
 }

@@ -3,10 +3,11 @@
 ghost use Rattle.std.specs.Prelude.{◌≡◌, ◌≤◌, ◌⊎◌, ◌++◌, ◌+◌, map, IsTrue, IfOk, IfSome, OnOk};
 ghost use Rattle.std.specs.Bool.{OnTrue};
 ghost use Rattle.std.specs.BTreeSet.{contains};
-ghost use Rattle.listing_tables.specs.Waiting.{AllWait, Entry, OthersWait, OthersWaitBut, all_looks, doubt_of};
-ghost use Rattle.listing_tables.specs.Waiting.{entry_cmp, entry_of, in_doubt, look_at, sends_in, waits};
+ghost use Rattle.listing_tables.specs.Waiting.{AllWait, Entry, OthersWait, OthersWaitBut};
+ghost use Rattle.listing_tables.specs.Waiting.{all_looks, doubt_of, entry_cmp, entry_of, in_doubt};
+ghost use Rattle.listing_tables.specs.Waiting.{look_at, sends_in, waits};
 
-use crate::numbered::narrow;
+use crate::numbered::{narrow, one_fewer, one_more};
 use indexmap::IndexMap;
 use listing_fields::{ListingError, Outcome};
 use std::alloc::Global;
@@ -18,7 +19,8 @@ const LOOKED_AT: usize = 64;
 /// Sends by their key, their list, and their index.
 type Sends = BTreeSet<(u64, u32, u32)>;
 
-/// A send that waits. Its list is 0, or 1 more than the index of the node to which it is known to go.
+/// A send that waits. Its list is 0, or 1 more than the index of the node to which it is known to
+/// go.
 #[derive(Clone, Copy)]
 pub(crate) struct Listed {
     pub key: u64,
@@ -78,8 +80,8 @@ impl Waiting {
         Ok(())
     }
 
-    /// Looks at those of this list and of list 0, as long as there is room, and first at those that no
-    /// guess has taken. Returns whether these are all.
+    /// Looks at those of this list and of list 0, as long as there is room, and first at those that
+    /// no guess has taken. Returns whether these are all.
     pub(crate) fn look(
         &self,
         key: u64,
@@ -97,7 +99,8 @@ impl Waiting {
     }
 
     fn remove(&mut self, send: Listed)
-        ensures waits { (other : Entry) → IsTrue (waits self.old other) → IsTrue (waits self.new other) ⊎ (other ≡ entry_of send) }
+        ensures waits { (other : Entry) → IsTrue (waits self.old other) →
+            IsTrue (waits self.new other) ⊎ (other ≡ entry_of send) }
         ensures doubted { self.new.doubted ≡ self.old.doubted }
         ensures doubts { self.new.doubts ≡ self.old.doubts }
     {
@@ -122,7 +125,7 @@ impl Waiting {
         self.leave(send, 1)
     }
 
-    /// Takes a send out of those in doubt. So many of what came may have been it.
+    /// Takes a send out of those in doubt. So many of what came may have been it, if any came.
     fn leave(&mut self, send: Listed, came: u32) -> Outcome
         requires { came ≤ 1 }
         ensures { OnOk result (OthersWait self.old self.new) }
@@ -130,7 +133,7 @@ impl Waiting {
         if self.doubted.remove(&(send.key, send.index, send.list)) {
             let doubt = self.doubt_of(send.key);
             let left = Doubt {
-                sends: doubt.sends.saturating_sub(1),
+                sends: one_fewer(doubt.sends)?,
                 came: doubt.came.saturating_sub(came),
             };
             self.doubts.insert(send.key, left)?;
@@ -157,7 +160,7 @@ impl Waiting {
         if self.doubted.insert((send.key, send.index, send.list))? {
             let doubt = self.doubt_of(send.key);
             let more = Doubt {
-                sends: doubt.sends.saturating_add(1),
+                sends: one_more(doubt.sends)?,
                 ..doubt
             };
             self.doubts.insert(send.key, more)?;
@@ -171,7 +174,7 @@ impl Waiting {
     {
         let doubt = self.doubt_of(key);
         let more = Doubt {
-            came: doubt.came.saturating_add(1),
+            came: one_more(doubt.came)?,
             ..doubt
         };
         self.doubts.insert(key, more)?;
@@ -209,7 +212,8 @@ impl Waiting {
     }
 
     fn first_doubted(&self, key: u64) -> Option<Listed>
-        ensures { IfSome result (λ send. (send.key ≡ key) × IsTrue (in_doubt self.now (entry_of send))) }
+        ensures { IfSome result (λ send.
+            (send.key ≡ key) × IsTrue (in_doubt self.now (entry_of send))) }
     {
         let (at, index, list) = *self.doubted.range((key, 0, 0)..).next()?;
         if at != key {
@@ -234,8 +238,8 @@ fn look_in(
     guessed: bool,
     looked: &mut Vec<Look>,
 ) -> Result<bool, ListingError>
-    ensures { IfOk result (λ all. OnTrue all
-        (looked.new.items ≡ looked.old.items ++ map (look_at guessed) (sends_in sends.now key list))) }
+    ensures { IfOk result (λ all. OnTrue all (looked.new.items ≡
+        looked.old.items ++ map (look_at guessed) (sends_in sends.now key list))) }
 {
     for send in sends.range((key, list, 0)..=(key, list, u32::MAX)) {
         if looked.len() >= LOOKED_AT {

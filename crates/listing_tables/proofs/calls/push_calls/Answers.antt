@@ -21,5 +21,5 @@ one_more first calls new openers i d call within so_far pushed is =
 pub loop-opener-preserved : goal.loop-opener-preserved
 loop-opener-preserved c =
     one_more (map row_of_call c.args.calls.now.all.items) c.loop-opener.calls.all.items c.push.new.self.all.items c.args.openers.now
-    c.loop-opener.opener-index _ c.nested-call.result c.loop-opener-test.true c.loop-opener.invariant c.in_ok-push.ensures
-    (c.nested-call.ensures ∙ c.in_ok-call_of.ensures)
+    c.loop-opener.opener-index _ c.in_ok-call.call c.loop-opener-test.true c.loop-opener.invariant c.in_ok-push.ensures
+    (c.in_ok-call.ensures ∙ c.in_ok-call_of.ensures)

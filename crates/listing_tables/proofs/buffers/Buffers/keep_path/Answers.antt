@@ -6,8 +6,8 @@ use Rattle.listing_tables.specs.Buffers.{row_of_buffer}
 use Rattle.listing_tables.proofs.BufferLaws.{set_same}
 use Rattle.listing_tables.proofs.buffers.Buffers.keep_path.Goals as goal
 
-pub returns-then-at-len : goal.returns-then-at-len
-returns-then-at-len c =
+pub returns : goal.returns
+returns c =
     let list = c.args.self.now.list.all.items in
     let buffer = c.index-buffer.result.now in
     let is : slice_get list c.args.index ≡ Some buffer

@@ -5,16 +5,16 @@ use Rattle.listing_tables.specs.declared.generations.Effect.TheVariants.{Takes}
 use Rattle.listing_tables.proofs.CountLaws.{counts_strong, counts_weak}
 use Rattle.listing_tables.proofs.generations.Generation.count.Goals as goal
 
-pub returns-in-Strong-clause-counts : goal.returns-in-Strong-clause-counts
-returns-in-Strong-clause-counts c =
+pub returns-in_ok-self-in-Strong-clause-counts : goal.returns-in_ok-self-in-Strong-clause-counts
+returns-in_ok-self-in-Strong-clause-counts c =
     let old = c.args.self.now in
-    let new = record old { strong = c.after-self.result } in
+    let new = record old { strong = c.in_ok-self-in-Strong.field-0 } in
     subst (λ (s : Strength). CountsEffect old (Takes s c.args.change) new) (sym c.in-Strong.is)
-    (counts_strong old new c.args.change c.after-self.ensures refl)
+    (counts_strong old new c.args.change c.in_ok-self-in-Strong.ensures refl)
 
-pub returns-in-Weak-clause-counts : goal.returns-in-Weak-clause-counts
-returns-in-Weak-clause-counts c =
+pub returns-in_ok-self-in-Weak-clause-counts : goal.returns-in_ok-self-in-Weak-clause-counts
+returns-in_ok-self-in-Weak-clause-counts c =
     let old = c.args.self.now in
-    let new = record old { weak = c.after-self-in-Weak.result } in
+    let new = record old { weak = c.in_ok-self-in-Weak.field-0 } in
     subst (λ (s : Strength). CountsEffect old (Takes s c.args.change) new) (sym c.in-Weak.is)
-    (counts_weak old new c.args.change c.after-self-in-Weak.ensures refl)
+    (counts_weak old new c.args.change c.in_ok-self-in-Weak.ensures refl)

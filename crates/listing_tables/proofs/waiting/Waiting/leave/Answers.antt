@@ -6,7 +6,7 @@ use Rattle.listing_tables.specs.declared.waiting.Waiting.{Waiting}
 use Rattle.listing_tables.specs.Waiting.{Entry, doubt_of, entry_cmp}
 use Rattle.listing_tables.proofs.WaitingLaws.{leave_doubt, was_there}
 use Rattle.listing_tables.proofs.waiting.Waiting.leave.Goals as goal
-use Rattle.listing_tables.proofs.waiting.Waiting.leave.Goals.{then-remove+in_ok-insert, else-remove}
+use Rattle.listing_tables.proofs.waiting.Waiting.leave.Goals.{then-remove+in_ok-one_fewer+in_ok-insert, else-remove}
 
 pub returns : goal.returns
 returns c =
@@ -15,8 +15,8 @@ returns c =
     let mid = c.if-remove.self in
     let gone : Entry = (send.key, send.index, send.list) in
     elim c.if-remove.branch [
-      | then-remove+in_ok-insert w ↦
-          let left : doubt_of mid send.key ≡ record { sends = w.saturating_sub.result; came = w.saturating_sub-then-remove.result }
+      | then-remove+in_ok-one_fewer+in_ok-insert w ↦
+          let left : doubt_of mid send.key ≡ record { sends = w.in_ok-one_fewer.field-0; came = w.saturating_sub.result }
           = ap (λ (m : Waiting). doubt_of m send.key) w.self-is ∙ ap (λ (o : Option Doubt). unwrap_or o (record { sends = 0; came = 0 })) w.in_ok-insert.ensures.updates.1 in
           leave_doubt old mid c.forget.new.self send.key (ap (λ (m : Waiting). m.untaken) w.self-is) (ap (λ (m : Waiting). m.guessed) w.self-is)
           (λ other h. was_there old.doubted c.remove.new.self gone c.remove.ensures.updates (other.0, other.2, other.1)
@@ -24,7 +24,7 @@ returns c =
           (λ h.
           let all = subst (λ (d : Doubt). d.sends ≤ d.came) left h in
           subst (λ (d : Doubt). d.sends ≤ d.came + 1) w.doubt_of-doubt.ensures
-          (omega (arith, all, w.saturating_sub.ensures, w.saturating_sub-then-remove.ensures, c.requires)))
+          (omega (arith, all, w.in_ok-one_fewer.ensures, w.saturating_sub.ensures, c.requires)))
           c.forget.ensures
       | else-remove w ↦
           leave_doubt old mid c.forget.new.self send.key (ap (λ (m : Waiting). m.untaken) w.self-is) (ap (λ (m : Waiting). m.guessed) w.self-is)

@@ -3,12 +3,12 @@ use Rattle.std.proofs.lemmas.Option.{slice_get_read}
 use Rattle.listing_tables.specs.Judging.{LooksAt}
 use Rattle.listing_tables.specs.Waiting.{all_looks}
 use Rattle.listing_tables.proofs.JudgingLaws.{holds_if, no_look, one_look}
-use Rattle.listing_tables.proofs.lists.Lists.look_at_all.Goals as goal
+use Rattle.listing_tables.proofs.judging.Judge.look_at_all.Goals as goal
 
 pub loop-at-init : goal.loop-at-init
 loop-at-init c = record {
-  looks = no_look c.args.self.now c.args.meanings.now c.args.marks.now c.args.sought.now _ c.begin.ensures;
-  all = λ e. holds_if c.in_ok-is_whole.is_whole c.in_ok-is_whole.ensures e ∙ ap (all_looks c.args.waiting.now c.args.sought.now.message.key) c.in_ok-list.ensures;
+  looks = no_look c.args.self.now c.args.sought.now _ c.begin.ensures;
+  all = λ e. holds_if c.in_ok-is_whole.is_whole c.in_ok-is_whole.ensures e ∙ ap (all_looks c.args.self.now.waiting.now c.args.sought.now.message.key) c.in_ok-list.ensures;
   end = search rules;
 }
 
@@ -22,7 +22,7 @@ loop-at-preserved c =
     = slice_get_read before.looked.items _ c.loop-at.at look refl (omega (arith, inside, end)) c.index-look.ensures in
     let one = c.in_ok-look_at.ensures in
     record {
-      looks = one_look c.args.self.now c.args.meanings.now c.args.marks.now c.args.sought.now before c.look_at.new.fitting c.loop-at.at look
+      looks = one_look c.args.self.now c.args.sought.now before c.look_at.new.fitting c.loop-at.at look
           c.loop-at.invariant.looks is one;
       all = λ e. ap (λ l. l.items) one.looked ∙ c.loop-at.invariant.all (sym one.whole ∙ e);
       end = end ∙ sym (ap (λ l. length l.items) one.looked);
@@ -41,6 +41,6 @@ returns c =
     let upto = c.loop-at.auto.at-end in
     let all : c.loop-at.at ≡ length c.loop-at.fitting.looked.items = omega (arith, past, end, upto) in
     record {
-      looks = subst (LooksAt c.args.self.now c.args.meanings.now c.args.marks.now c.args.sought.now c.loop-at.fitting) all c.loop-at.invariant.looks;
+      looks = subst (LooksAt c.args.self.now c.args.sought.now c.loop-at.fitting) all c.loop-at.invariant.looks;
       all = c.loop-at.invariant.all;
     }

@@ -1,0 +1,42 @@
+//! The sends of each thread that wait to be confirmed.
+
+use crate::numbered::Numbered;
+use crate::spans::Utid;
+use listing_fields::{ListingError, Outcome};
+use std::alloc::Global;
+use std::collections::VecDeque;
+
+/// Of each thread, the sends that wait to be confirmed, by their index among the messages.
+#[derive(Drop)]
+pub(crate) struct Sends {
+    queues: Numbered<VecDeque<u32>>,
+    alloc: Global,
+}
+
+impl Sends {
+    pub(crate) fn new(alloc: Global) -> Sends {
+        Sends {
+            queues: Numbered::new(alloc),
+            alloc,
+        }
+    }
+
+    /// Takes a frame of a thread, before its records.
+    pub(crate) fn add_frame(&mut self, utid: Utid) -> Outcome {
+        if utid.index == self.queues.next()? {
+            self.queues.push(VecDeque::new(self.alloc))?;
+        }
+        Ok(())
+    }
+
+    /// Takes a send.
+    pub(crate) fn add(&mut self, utid: Utid, send: u32) -> Outcome {
+        self.queues.at_mut(utid.index)?.push_back(send)?;
+        Ok(())
+    }
+
+    /// The first send of a thread that waits. Then it does not wait any more.
+    pub(crate) fn take_first(&mut self, utid: Utid) -> Result<Option<u32>, ListingError> {
+        Ok(self.queues.at_mut(utid.index)?.pop_front())
+    }
+}
