@@ -17,6 +17,7 @@ is refused, one worker always answers Memory.
 
 from typing import NamedTuple
 
+from checks.kit.captures import BC_ENTER_LOOPER, HEADER, record, write
 from checks.kit.checking import FLAG, check
 from checks.kit.programs import CASES, ROOT, preloadable
 from checks.kit.runs import MEMORY, answer, as_answer, report_by, with_library
@@ -259,7 +260,18 @@ def sweep_program(room, program, whole, fail):
             numbers = judged(of_program(room, program, capture, workers), workers, least,
                              lambda what: fail(f"{program}: {capture} by {workers}: {what}"))
             table.add(capture, workers, *numbers)
+    if whole:
+        sweep_large(room, program, table, fail)
     return table
+
+
+def sweep_large(room, program, table, fail):
+    """Tries the program on a file that is large enough to be read by all workers at once."""
+    (room / "large.cap").write_bytes(HEADER + b"".join(
+        write(number, 100, 101, record(BC_ENTER_LOOPER)) for number in range(1, 30_000)))
+    for workers in (1, 4):
+        sweep = of_program(room, program, str(room / "large.cap"), workers)
+        table.add("large.cap", workers, *judged(sweep, workers, 120, lambda what: fail(f"{program}: large.cap: {what}")))
 
 
 def sweep_calls(room, fail):
