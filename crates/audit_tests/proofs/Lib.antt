@@ -1,3 +1,2 @@
 pub mod ListedThere
 pub mod Spacing
-pub mod StoreLaws
