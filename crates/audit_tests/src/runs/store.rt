@@ -187,7 +187,7 @@ fn expect_alike<T: Threads + Sync + Abort>(
 }
 
 /// How many bytes are between two places where a capture is cut off. A frame of `loopers` has 36.
-const CUT: usize = 11;
+const CUT: usize = 41;
 
 #[test]
 fn reads_in_stretches_what_one_reads(rt: HostRuntime) -> Result<(), Fail> {
