@@ -2,7 +2,7 @@
 
     checks/run devices [-- PROGRAM..]
 
-It is run by hand and not by `.ci/run`: it makes some 3,400 runs, which took a minute and a half on a busy machine. It
+It is run by hand and not by `.ci/run`: it makes some 3,800 runs, which took two minutes and a half on a busy machine. It
 builds only `devices.c` beside it, for which it needs `cc`. A device that hangs is not tested.
 
 The answer that is due for a capture comes from kit/second_reading.py. For a file that changes while it is read, it is
