@@ -45,5 +45,9 @@ fn places_of(alloc: Global, sends: &[RefusedSend<u64>]) -> Result<Vec<u64>, Allo
     ensures { IfOk result (λ places.
         places.items ≡ map (λ (s : RefusedSend ℕ). s.event) sends.now) }
 {
-    sends.iter().map(|sent| sent.event).collect(alloc)
+    let mut places = Vec::new(alloc);
+    for sent in sends {
+        places.push(sent.event)?;
+    }
+    Ok(places)
 }
