@@ -120,8 +120,9 @@ def answers(programs: Programs, room: pathlib.Path, data: bytes) -> tuple[str, d
 
 
 def check_same(programs: Programs, room: pathlib.Path, name: str, data: bytes, fail: Fail) -> bytes:
-    """A capture and its redacted form have the same answers. Returns that form."""
-    made = redacted(programs, room, data)
+    """A capture and its redacted form have the same answers. Returns that form. The key is the same in each run: with a
+    random one, a payload of a byte is by chance redacted to itself, or as another one is."""
+    made = redacted(programs, room, data, key="k" * 32)
     report, tables = answers(programs, room, data)
     other_report, other_tables = answers(programs, room, made)
     if not report.startswith("BINDER AUDIT "):
