@@ -61,9 +61,10 @@ struct Stretch {
     end: u64,
 }
 
-/// Reads a file by several threads at once, each a stretch of it, as parts of a capture: each stretch
-/// follows the file header of the capture. It is read to its end, even if it has grown since it was
-/// found. None if it has no good file header, or if the parts would pass the limit together.
+/// Reads a file by several threads at once, each a stretch of it, as parts of a capture: each
+/// stretch follows the file header of the capture. It is read to its end, even if it has grown since
+/// it was found. None if it has no good file header, or if the parts would pass the limit together.
+/// Unless the file has grown meanwhile, only its file header has been read then.
 ///
 /// A stretch begins where a frame seems to begin, so that each part is good if the capture is. That
 /// is a guess, and nothing rests on it.
@@ -78,7 +79,8 @@ pub fn read_stretches<T: Threads + Sync, F: SharedFiles + Sync>(
 ) -> Result<Option<Vec<Vec<u8>>>, RunError>
     requires { limit < 2 ^ 62 }
     ensures read { IfOk result (λ found. IfSome found (λ parts.
-        AreStretchesOf limit (F.known files.now name.now) (map (λ part. part.items) parts.items))) }
+        AreStretchesOf limit (F.known files.now name.now)
+        (map (λ part. part.items) parts.items))) }
     ensures faults { IfErr result IsStretchError }
 {
     let head = files.bytes(alloc, name, found, 0, FILE_HEADER)?;
@@ -88,6 +90,10 @@ pub fn read_stretches<T: Threads + Sync, F: SharedFiles + Sync>(
     let size = found.size;
     let most = limit as u64;
     if size < FILE_HEADER as u64 || most < size {
+        return Ok(None);
+    }
+    // Each thread's part has a file header of its own.
+    if (most - size) / (FILE_HEADER as u64) < threads {
         return Ok(None);
     }
     let first = Stretch {
@@ -216,14 +222,16 @@ fn read_side_by_side<T: Threads + Sync, F: SharedFiles + Sync>(
         || -> Result<Vec<Vec<u8>>, RunError>
             requires { IsSync T.row × IsSync F.row × (16 ≤ front.start)
                 × (front.start ≤ front.end) × (front.end < 2 ^ 63) }
-            ensures { IfOk result (λ parts. ArePartsOf (F.known files.entry.now name.entry.now) front.start
+            ensures { IfOk result (λ parts.
+                ArePartsOf (F.known files.entry.now name.entry.now) front.start
                 (front.end - front.start) (map (λ part. part.items) parts.items))
                 × IfErr result IsStretchError }
         { read_side_by_side(rt, alloc, files, name, head, front, some) },
         || -> Result<Vec<Vec<u8>>, RunError>
             requires { IsSync T.row × IsSync F.row × (16 ≤ back.start)
                 × (back.start ≤ back.end) × (back.end < 2 ^ 63) }
-            ensures { IfOk result (λ parts. ArePartsOf (F.known files.entry.now name.entry.now) back.start
+            ensures { IfOk result (λ parts.
+                ArePartsOf (F.known files.entry.now name.entry.now) back.start
                 (back.end - back.start) (map (λ part. part.items) parts.items))
                 × IfErr result IsStretchError }
         { read_side_by_side(rt, alloc, files, name, head, back, others) },
