@@ -1,8 +1,11 @@
--- The reader of events. It passes the records of a frame and its entries side by side.
-use Rattle.std.specs.Prelude.{ℕ, if◌then◌else◌, List, [], ◌∷◌, Option, Some, None}
+-- The reader of events, and the one below it, which passes the records of a frame and its entries side by side.
+use Rattle.std.specs.Prelude.{ℕ, ◌≡◌, if◌then◌else◌, List, [], ◌∷◌, Option, Some, None}
+use Rattle.std.specs.Option.{option_map}
 use Rattle.capture_frame.specs.Envelope.{FrameText}
 use Rattle.capture_frame.specs.Units.{Placed}
+use Rattle.record_view.specs.declared.record.Record.{Record}
 use Rattle.record_view.specs.Records.{RecordText}
+use Rattle.record_view.specs.State.{placed_record}
 use Rattle.transaction_view.specs.declared.entry.Entry.{Entry}
 use Rattle.transaction_view.specs.Attachments.{EntryText}
 use Rattle.transaction_view.specs.State.{placed_entry}
@@ -22,6 +25,20 @@ entry_taken place (e ∷ entries) = if belongs_to place e then Some e else None
 abbrev pub entries_after : ℕ → List (Placed EntryText) → List (Placed EntryText)
 entries_after place [] = []
 entries_after place (e ∷ entries) = if belongs_to place e then entries else e ∷ entries
+
+-- what is ahead of the reader of records and entries
+pub record Beside : Type 0 where
+  pub records : List (Placed RecordText)
+  pub entries : List (Placed EntryText)
+
+-- One call of it. It gives the first record ahead, with the first entry ahead if that belongs to the record; at the end
+-- it gives `None`.
+abbrev pub StepsBeside : Beside → Option (Record × Option Entry) → Beside → Type 0
+StepsBeside ahead (Some (found, taken)) new =
+    (ahead.records ≡ placed_record found ∷ new.records)
+    × (option_map placed_entry taken ≡ entry_taken found.place ahead.entries)
+    × (new.entries ≡ entries_after found.place ahead.entries)
+StepsBeside ahead None new = (ahead.records ≡ []) × (new.records ≡ [])
 
 -- the events of these records of a frame, to which these entries belong, in the order of the records
 abbrev pub events_beside : FrameText → List (Placed RecordText) → List (Placed EntryText) → List EventRead

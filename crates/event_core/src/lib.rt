@@ -16,6 +16,7 @@ mod node;
 mod oneway;
 mod pending;
 mod record_event;
+mod records_and_entries;
 mod request;
 mod strength;
 
@@ -31,5 +32,6 @@ pub use marks::{Bracket, Mark};
 pub use node::{NodeChange, NodeKey, node_step};
 pub use oneway::{OnewayKey, oneway_step};
 pub use pending::{KeyEvent, PendingChange};
+pub use records_and_entries::RecordsAndEntries;
 pub use request::{RequestChange, RequestItem, RequestKey, request_step};
 pub use strength::Strength;

@@ -12,4 +12,4 @@ record_of_item item = placed_record item.record
 
 -- the records that a reader has not given yet
 abbrev pub records_left : Content → List (Placed RecordText)
-records_left content = content.records.units
+records_left content = content.read.records

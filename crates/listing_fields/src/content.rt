@@ -1,13 +1,16 @@
 //! The records of a frame, each with its attachment.
 
-ghost use Rattle.std.specs.Prelude.{◌≡◌, None, OnOk};
+ghost use Rattle.std.specs.Prelude.{◌≡◌, ◌≤◌, None, length};
 ghost use Rattle.capture_frame.specs.Envelope.{placed_frame};
 ghost use Rattle.record_view.specs.Records.{records_of};
+ghost use Rattle.transaction_view.specs.Attachments.{entries_of};
+ghost use Rattle.transaction_view.specs.Grammar.{IsGood};
 ghost use Rattle.listing_fields.specs.Content.{records_left};
 
-use capture_frame::{Fault, Frame};
-use record_view::{Record, Records};
-use transaction_view::{Attachments, Entry};
+use capture_frame::Frame;
+use event_core::RecordsAndEntries;
+use record_view::Record;
+use transaction_view::{Entry, check_frame};
 
 /// A record, and its attachment if it has one.
 #[derive(Clone, Copy)]
@@ -21,10 +24,7 @@ pub struct Item<'c> {
 /// malformed, neither its record nor any later one has an attachment.
 #[derive(Drop)]
 pub struct Content<'c> {
-    records: Records<'c>,
-    entries: Option<Attachments<'c>>,
-    /// The next attachment. It belongs to the record whose place is the attachment's `owner`.
-    ahead: Option<Entry<'c>>,
+    read: RecordsAndEntries<'c>,
 }
 
 impl<'c> Content<'c> {
@@ -32,12 +32,18 @@ impl<'c> Content<'c> {
     pub fn of(frame: Frame<'c>) -> Content<'c>
         ensures { records_left result ≡ (records_of (placed_frame frame.entry)).units }
     {
-        let mut entries = entries_of(frame);
-        let ahead = next_of(&mut entries);
         Content {
-            records: Records::of(frame),
-            entries,
-            ahead,
+            read: RecordsAndEntries::of(with_good_entries(frame)),
+        }
+    }
+
+    /// A reader of what the frame holds, whose records and entries have no fault.
+    pub fn of_good(frame: Frame<'c>) -> Content<'c>
+        requires { IsGood (placed_frame frame) }
+        ensures { records_left result ≡ (records_of (placed_frame frame.entry)).units }
+    {
+        Content {
+            read: RecordsAndEntries::of(frame),
         }
     }
 }
@@ -53,56 +59,47 @@ impl<'c> Iterator for Content<'c> {
     ghost remaining = { item_count records_left };
 
     fn next(&mut self) -> Option<Item<'c>> {
-        match self.records.next_record() {
-            Ok(Some(record)) => {
-                let entry = take_at(&mut self.ahead, &mut self.entries, record.place);
-                Some(Item { record, entry })
-            }
-            _ => None,
-        }
+        let Some((record, entry)) = self.read.next_record() else {
+            return None;
+        };
+        Some(Item { record, entry })
     }
 }
 
-/// Takes the attachment ahead if it belongs to the record at this place, and reads the next one.
-fn take_at<'c>(
-    ahead: &mut Option<Entry<'c>>,
-    entries: &mut Option<Attachments<'c>>,
-    place: u64,
-) -> Option<Entry<'c>> {
-    let Some(entry) = *ahead else {
-        return None;
-    };
-    if entry.owner != place {
-        return None;
-    }
-    *ahead = next_of(entries);
-    Some(entry)
-}
-
-/// The next entry of a reader, if there is one.
-fn next_of<'c>(entries: &mut Option<Attachments<'c>>) -> Option<Entry<'c>> {
-    match entries {
-        Some(reader) => reader.next_entry().unwrap_or(None),
-        None => None,
-    }
-}
-
-/// A reader of the frame's attachments, if it has any and its records have no fault.
-fn entries_of<'c>(frame: Frame<'c>) -> Option<Attachments<'c>> {
-    if frame.attachments.is_empty() {
-        return None;
-    }
-    match check_records(frame) {
-        Ok(()) => Some(Attachments::of(frame)),
-        Err(_) => None,
-    }
-}
-
-/// Checks the records of one frame.
-fn check_records(frame: Frame<'_>) -> Result<(), Fault>
-    ensures { OnOk result ((records_of (placed_frame frame.entry)).fault ≡ None) }
+/// The frame without its first malformed entry and what follows that; without any entry if one of
+/// its records is malformed.
+fn with_good_entries(frame: Frame<'_>) -> Frame<'_>
+    ensures good { (entries_of (placed_frame result)).fault ≡ None }
+    ensures same { records_of (placed_frame result) ≡ records_of (placed_frame frame.entry) }
 {
-    let mut records = Records::of(frame);
-    while let Some(_) = records.next_record()? {}
-    Ok(())
+    if frame.attachments.is_empty() {
+        return frame;
+    }
+    let Some(fault) = check_frame(frame) else {
+        return frame;
+    };
+    let length = fault.place.saturating_sub(frame.attachments_place()) as usize;
+    let front = with_entries(frame, frame.attachments.get(..length).unwrap_or(&[]));
+    match check_frame(front) {
+        None => front,
+        Some(_) => with_entries(frame, &[]),
+    }
+}
+
+/// The frame with these entries in place of its own.
+fn with_entries<'c>(frame: Frame<'c>, entries: &'c [u8]) -> Frame<'c>
+    requires { length entries.now ≤ length frame.attachments.now }
+    ensures entries { result.attachments.now ≡ entries.now }
+    ensures records { records_of (placed_frame result) ≡ records_of (placed_frame frame.entry) }
+{
+    Frame {
+        place: frame.place,
+        sequence: frame.sequence,
+        device: frame.device,
+        process: frame.process,
+        thread: frame.thread,
+        direction: frame.direction,
+        commands: frame.commands,
+        attachments: entries,
+    }
 }

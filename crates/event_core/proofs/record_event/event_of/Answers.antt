@@ -1,4 +1,4 @@
-use Rattle.std.proofs.Common.{rules, refl}
+use Rattle.std.proofs.Common.{refl}
 use Rattle.binder_code.proofs.WordKinds.{kind_of_meant}
 use Rattle.event_core.proofs.record_event.event_of.Goals as goal
 
