@@ -1,12 +1,12 @@
 -- What one more change does to what a process takes of a generation.
-use Rattle.std.proofs.Common.{◌≡◌, ℕ, zero, suc, ◌+◌, ◌-◌, ◌<◌, ◌≤◌, ◌^◌, inl, inr, ⊎_elim, min, refl, sym, ap, subst, ◌∙◌, arith, cond}
-use Rattle.std.proofs.Common.{List, [], ◌∷◌, ◌++◌, length, map, take, drop, length-append}
+use Rattle.std.proofs.Common.{◌≡◌, ℕ, zero, suc, ◌+◌, ◌-◌, ◌<◌, ◌≤◌, inl, inr, ⊎_elim, refl, sym, subst, arith, cond}
+use Rattle.std.proofs.Common.{List, [], ◌∷◌, ◌++◌, map, take}
 use Rattle.std.proofs.lemmas.Bool.{cases_lt}
 use Rattle.std.proofs.lemmas.Int.{ints}
-use Rattle.std.proofs.lemmas.List.{length-drop, length-map, map-append, take-append-drop}
-use Rattle.std.proofs.lemmas.List.Sums.{count_by-le-length, sum_by-append}
+use Rattle.std.proofs.lemmas.List.{map-append}
+use Rattle.std.proofs.lemmas.List.Sums.{sum_by-append}
 use Rattle.std.specs.Prelude.{count_by, pos, negsuc, ◌+ℤ◌, ◌≤ℤ◌}
-use Rattle.summary_law.proofs.CountLaws.{kept_counts, lowered_counts, raised_counts, total-append, total_high}
+use Rattle.summary_law.proofs.CountLaws.{kept_counts, lowered_counts, raised_counts}
 use Rattle.summary_law.specs.Count.{Change, raises, lowers, keeps, is_raise, is_lower, total}
 use Rattle.summary_law.specs.declared.count.Count.{Count}
 use Rattle.event_core.specs.declared.handle.HandleChange.{HandleChange}

@@ -1,7 +1,8 @@
 //! How far a capture goes: up to its end, or up to its first fault.
 
-ghost use Rattle.std.specs.Prelude.{◌≡◌, ◌<◌, ◌≤◌, ◌^◌, length, map, take, IfOk};
+ghost use Rattle.std.specs.Prelude.{◌≡◌, ◌<◌, ◌≤◌, ◌-◌, ◌^◌, All, length, map, take, IfOk};
 ghost use Rattle.std.specs.List.{sum_by};
+ghost use Rattle.transaction_view.specs.Grammar.{IsGood};
 ghost use Rattle.listing_tables.specs.Walk.{counted_frames, up_to_fault};
 
 use crate::numbered::sum;
@@ -31,7 +32,8 @@ pub struct Ending {
     pub(crate) span: Option<(u64, u64)>,
 }
 
-/// The frames of the parts with good headers, and how far the capture goes.
+/// The frames of the parts with good headers, and how far the capture goes. The content of all but
+/// the last frame up to there is good.
 pub(crate) fn frames_of<'c>(
     alloc: Global,
     parts: &[&'c [u8]],
@@ -41,6 +43,7 @@ pub(crate) fn frames_of<'c>(
     ensures few { IfOk result (λ found. found.1.count ≤ length found.0) }
     ensures counted { IfOk result (λ found. take found.1.count found.0
         ≡ counted_frames (map (λ part. part.now) parts.now)) }
+    ensures good { IfOk result (λ found. All IsGood (take (found.1.count - 1) found.0)) }
 {
     match cut_parts(alloc, parts) {
         Ok(frames) => judged(frames, None, parts),
@@ -61,6 +64,7 @@ fn judged<'c>(
     ensures few { IfOk result (λ found. found.1.count ≤ length frames.entry) }
     ensures counted { IfOk result (λ found.
         take found.1.count frames.entry ≡ up_to_fault frames.entry) }
+    ensures good { IfOk result (λ found. All IsGood (take (found.1.count - 1) frames.entry)) }
 {
     let count = count_up_to_fault(&frames.as_slice());
     let fault = if ends_with_fault(&frames.as_slice(), count) {
@@ -82,6 +86,7 @@ fn judged<'c>(
 fn count_up_to_fault(frames: &FrameSlice<'_, '_>) -> usize
     ensures few { result ≤ length frames.now }
     ensures counted { take result frames.now ≡ up_to_fault frames.now }
+    ensures good { All IsGood (take (result - 1) frames.now) }
 {
     for number in 0..frames.len() {
         if check_frame(frames.get(number)).is_some() {

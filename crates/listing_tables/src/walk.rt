@@ -1,10 +1,12 @@
 //! The one walk through a capture that feeds all tables.
 
-ghost use Rattle.std.specs.Prelude.{◌≡◌, ◌<◌, ◌≤◌, ◌^◌, ◌∷◌, [], length, map, take, IfOk, OnOk};
+ghost use Rattle.std.specs.Prelude.{◌≡◌, ◌<◌, ◌≤◌, ◌-◌, ◌^◌, ◌∷◌, [], All, length, map, take, IfOk, OnOk};
 ghost use Rattle.std.specs.Io.KnownBytes.{Keeps};
 ghost use Rattle.std.specs.List.{flat_map, sum_by};
 ghost use Rattle.capture_frame.specs.Envelope.{placed_frame};
-ghost use Rattle.listing_fields.specs.Content.{record_of_item};
+ghost use Rattle.record_view.specs.Records.{records_of};
+ghost use Rattle.transaction_view.specs.Grammar.{IsGood};
+ghost use Rattle.listing_fields.specs.Content.{record_of_item, records_left};
 ghost use Rattle.listing_tables.specs.Columns.{AddsRows};
 ghost use Rattle.listing_tables.specs.Walk.{BeginsWith, HasNoSteps, IsFrameRow, counted_frames, record_begin, record_begins};
 ghost use Rattle.listing_tables.specs.Steps.{AddsMarked, IsKept, WritesCalls, marked_in, marked_of};
@@ -135,7 +137,7 @@ fn walk_capture<F: Write + Drop, R: Write + Drop, O: Write + Drop, C: Write + Dr
     Ok(ending)
 }
 
-/// Walks through the first `count` frames.
+/// Walks through the first `count` frames. The content of all but the last one is good.
 fn walk_frames<F: Write + Drop, R: Write + Drop, O: Write + Drop, C: Write + Drop>(
     frames: &FrameSlice<'_, '_>,
     count: usize,
@@ -144,6 +146,7 @@ fn walk_frames<F: Write + Drop, R: Write + Drop, O: Write + Drop, C: Write + Dro
 ) -> Outcome
     requires kept { IsKept tables.old.steps.entries.entries }
     requires few { count ≤ length frames.now }
+    requires good { All IsGood (take (count - 1) frames.now) }
     ensures frames { OnOk result (AddsRows IsFrameRow streams.old.frames streams.new.frames
         (take count frames.now)) }
     ensures records { OnOk result (AddsRows BeginsWith streams.old.records streams.new.records
@@ -153,17 +156,26 @@ fn walk_frames<F: Write + Drop, R: Write + Drop, O: Write + Drop, C: Write + Dro
         tables.new.steps.entries.entries (flat_map marked_in (take count frames.now))) }
 {
     for number in 0..count {
-        walk_frame(frames.get(number), tables, streams)?;
+        let frame = frames.get(number);
+        let content = if number < count - 1 {
+            Content::of_good(frame)
+        } else {
+            Content::of(frame)
+        };
+        walk_frame(frame, content, tables, streams)?;
     }
     Ok(())
 }
 
+/// Walks through a frame with this content.
 fn walk_frame<F: Write + Drop, R: Write + Drop, O: Write + Drop, C: Write + Drop>(
     frame: Frame<'_>,
+    content: Content<'_>,
     tables: &mut Tables,
     streams: &mut Streams<F, R, O, C>,
 ) -> Outcome
-    requires { IsKept tables.old.steps.entries.entries }
+    requires kept { IsKept tables.old.steps.entries.entries }
+    requires content { records_left content ≡ (records_of (placed_frame frame)).units }
     ensures frames { OnOk result (AddsRows IsFrameRow streams.old.frames streams.new.frames
         (placed_frame frame.entry ∷ [])) }
     ensures records { OnOk result (AddsRows BeginsWith streams.old.records streams.new.records
@@ -174,7 +186,7 @@ fn walk_frame<F: Write + Drop, R: Write + Drop, O: Write + Drop, C: Write + Drop
 {
     let owner = tables.add_frame(frame)?;
     let mut count = 0u64;
-    for item in Content::of(frame) {
+    for item in content {
         walk_item(frame, owner, item, tables, streams)?;
         count = sum(count, 1)?;
     }

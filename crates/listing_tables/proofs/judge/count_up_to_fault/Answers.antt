@@ -1,5 +1,5 @@
-use Rattle.std.proofs.Common.{◌≡◌, true, None, is_some, All, take_all, get_or, sym, ap, subst, ◌∙◌, arith}
-use Rattle.std.proofs.lemmas.List.Elements.{All-more}
+use Rattle.std.proofs.Common.{◌≡◌, ◌-◌, true, None, is_some, All, take_all, get_or, sym, ap, subst, ◌∙◌, arith}
+use Rattle.std.proofs.lemmas.List.Elements.{All-more, All-take}
 use Rattle.std.proofs.lemmas.Option.{get_or_from_slice_get, slice_get_within}
 use Rattle.capture_frame.specs.Envelope.{placed_frame}
 use Rattle.transaction_view.specs.Grammar.{IsGood, content_fault}
@@ -33,3 +33,11 @@ returns-clause-counted c =
     let end = c.loop-number.auto.number-end in
     let whole = take_all c.loop-number.number frames (omega (arith, past, end, c.len-number-end.ensures)) in
     take_all c.len.result frames (omega (arith, c.len.ensures)) ∙ all_good frames (subst (All IsGood) whole c.loop-number.invariant)
+
+pub returns-clause-good : goal.returns-clause-good
+returns-clause-good c =
+    let frames = c.args.frames.now in
+    let past = c.loop-number-test.false in
+    let end = c.loop-number.auto.number-end in
+    let whole = take_all c.loop-number.number frames (omega (arith, past, end, c.len-number-end.ensures)) in
+    All-take IsGood (c.len.result - 1) frames (subst (All IsGood) whole c.loop-number.invariant)

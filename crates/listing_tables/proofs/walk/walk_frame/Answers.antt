@@ -17,8 +17,8 @@ use Rattle.listing_tables.proofs.walk.walk_frame.Goals as goal
 
 pub walk_item-requires : goal.walk_item-requires
 walk_item-requires g c = (
-  c.requires.0 ++ flat_map (marked_of (placed_frame c.args.frame)) (map record_of_item c.loop-item.yielded),
-  c.loop-item.invariant.marked c.requires.0 c.requires.1,
+  c.requires.kept.0 ++ flat_map (marked_of (placed_frame c.args.frame)) (map record_of_item c.loop-item.yielded),
+  c.loop-item.invariant.marked c.requires.kept.0 c.requires.kept.1,
 )
 
 pub loop-item-preserved : goal.loop-item-preserved

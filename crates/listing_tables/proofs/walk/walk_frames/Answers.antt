@@ -9,8 +9,8 @@ use Rattle.listing_tables.specs.Walk.{BeginsWith, IsFrameRow, record_begins}
 use Rattle.listing_tables.proofs.WalkLaws.{more_rows}
 use Rattle.listing_tables.proofs.walk.walk_frames.Goals as goal
 
-pub walk_frame-requires : goal.walk_frame-requires
-walk_frame-requires g c =
+pub walk_frame-requires-clause-kept : goal.walk_frame-requires-clause-kept
+walk_frame-requires-clause-kept g c =
     let kept = c.requires.kept in
     (kept.0 ++ flat_map marked_in (take c.loop-number.number c.args.frames.now), c.loop-number.invariant.marked kept.0 kept.1)
 
@@ -19,10 +19,10 @@ loop-number-preserved g c =
     let frames = c.args.frames.now in
     let i = c.loop-number.number in
     let so_far = take i frames in
-    let frame = placed_frame c.get.result in
+    let frame = placed_frame c.get-frame.result in
     let more : take (i + 1) frames ≡ so_far ++ frame ∷ []
-    = take_more frames i frame (slice_get_within frames i frame c.get.ensures)
-    ∙ ap (λ x. so_far ++ x ∷ []) (get_or_from_slice_get frames i frame frame c.get.ensures) in
+    = take_more frames i frame (slice_get_within frames i frame c.get-frame.ensures)
+    ∙ ap (λ x. so_far ++ x ∷ []) (get_or_from_slice_get frames i frame frame c.get-frame.ensures) in
     let before = c.loop-number.invariant in
     let now = c.in_ok-walk_frame.ensures in
     let was = c.loop-number.streams in
