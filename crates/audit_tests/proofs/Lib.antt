@@ -1,2 +1,1 @@
 pub mod ListedThere
-pub mod Spacing

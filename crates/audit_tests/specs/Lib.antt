@@ -1,2 +1,1 @@
-pub mod SpacedJobs
 pub mod TwoFiles

@@ -1,10 +1,7 @@
-//! Tests of the public calls of `claim_board`, `audit_streams`, `audit_join`, `report_text` and
-//! `audit_run`, on captures and rows that were typed from docs/. They have a crate of their own,
+//! Tests of the public calls of `audit_streams`, `audit_join`, `report_text` and `audit_run`, on captures and rows that were typed from docs/. They have a crate of their own,
 //! because a crate with tests is proved twice.
 #![tactic(auto)]
 
-#[cfg(test)]
-mod board;
 #[cfg(test)]
 mod devices;
 #[cfg(test)]
@@ -14,8 +11,8 @@ mod join;
 #[cfg(test)]
 mod lines;
 #[cfg(test)]
-mod meeting;
-#[cfg(test)]
 mod runs;
 #[cfg(test)]
 mod streams;
+#[cfg(test)]
+mod writes;

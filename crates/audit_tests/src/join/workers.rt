@@ -2,12 +2,13 @@
 
 use super::captures::within_limit;
 use crate::expected::{Expected, expect};
-use crate::meeting::{Meeting, RELEASE_FIRST};
+use crate::writes::RELEASE_FIRST;
 use audit_join::{Findings, Piece, audit};
 use claim_board::Workers;
 use std::process::Abort;
 use std::test::Fail;
 use summary_law::Count;
+use test_kit::Meeting;
 
 /// The findings have one row of `handles`: of this handle, with these strong references.
 #[derive(Clone, Copy)]

@@ -1,10 +1,11 @@
 //! Tests that `run_gated` hands on its workers, its piece and its gate.
 
-use crate::meeting::{FOUR_WRITES, Meeting, RELEASE_FIRST};
+use crate::writes::{FOUR_WRITES, RELEASE_FIRST};
 use audit_run::{Gate, Piece, RunError, Workers, Written, run_gated};
 use std::alloc::Global;
 use std::test::Fail;
 use std::thread::Threads;
+use test_kit::Meeting;
 
 /// Whether the capture has a report that begins so, in pieces of one frame.
 fn is_report<T: Threads + Sync, G: Gate + Sync>(

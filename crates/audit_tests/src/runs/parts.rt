@@ -4,7 +4,7 @@
 use super::devices::{CAPTURE, REPORT};
 use super::gate::OF_TWO;
 use crate::devices::Sink;
-use crate::meeting::{Meeting, RELEASE_FIRST};
+use crate::writes::RELEASE_FIRST;
 use audit_run::{
     Gate, NoGate, PartsWritten, Piece, RunError, Workers, read_parts, run_first_fault_parts,
     run_parts,
@@ -17,6 +17,7 @@ use std::process::Abort;
 use std::sync::atomic::{AtomicU64, Ordering};
 use std::test::Fail;
 use std::thread::Threads;
+use test_kit::Meeting;
 
 // ---- readers
 

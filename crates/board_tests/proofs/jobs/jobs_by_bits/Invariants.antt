@@ -1,6 +1,6 @@
 use Rattle.std.proofs.Common.{◌≡◌, length}
-use Rattle.audit_tests.specs.SpacedJobs.{AreSpacedFrom}
-use Rattle.audit_tests.proofs.board.jobs.jobs_by_bits.Given as goal
+use Rattle.board_tests.specs.SpacedJobs.{AreSpacedFrom}
+use Rattle.board_tests.proofs.jobs.jobs_by_bits.Given as goal
 
 abbrev pub invariant-loop-i : goal.invariant-loop-i
 invariant-loop-i l = AreSpacedFrom 0 l.jobs.items × (length l.jobs.items ≡ l.i)

@@ -1,4 +1,4 @@
-//! A gate that shows that several threads are at work at the same time, and captures for it.
+//! A gate that shows that several threads are at work at the same time.
 
 use claim_board::Gate;
 use std::array;
@@ -8,7 +8,7 @@ use std::sync::atomic::{AtomicBool, Ordering};
 const LIMIT: u64 = 1_000_000_000;
 
 /// Loads the flag until it is set, and says whether it was.
-pub(crate) fn is_set_in_time(flag: &AtomicBool) -> bool {
+pub fn is_set_in_time(flag: &AtomicBool) -> bool {
     for _ in 0..LIMIT {
         if flag.load(Ordering::SeqCst) {
             return true;
@@ -19,7 +19,7 @@ pub(crate) fn is_set_in_time(flag: &AtomicBool) -> bool {
 
 /// A gate at which each of the first `N` jobs waits until all of them are entered.
 #[derive(Drop)]
-pub(crate) struct Meeting<const N: usize> {
+pub struct Meeting<const N: usize> {
     flags: [AtomicBool; N],
     late: AtomicBool,
 }
@@ -42,7 +42,8 @@ impl<const N: usize> Gate for Meeting<N> {
 }
 
 impl<const N: usize> Meeting<N> {
-    pub(crate) fn new() -> Meeting<N> {
+    /// A gate before any job.
+    pub fn new() -> Meeting<N> {
         Meeting {
             flags: array::from_fn(|_| AtomicBool::new(false)),
             late: AtomicBool::new(false),
@@ -50,26 +51,8 @@ impl<const N: usize> Meeting<N> {
     }
 
     /// Whether all were entered, and none waited too long.
-    pub(crate) fn was_held(&self) -> bool {
+    pub fn was_held(&self) -> bool {
         self.flags.iter().all(|flag| flag.load(Ordering::SeqCst))
             && !self.late.load(Ordering::SeqCst)
     }
 }
-
-/// Two writes of process 100 and thread 101: `BC_RELEASE` and then `BC_ACQUIRE`, both of handle 3.
-pub(crate) const RELEASE_FIRST: &[u8] = b"BNDRCAP1\x08\0\0\0\0\0\0\0\
-    \x01\0\0\0\0\0\0\0\x64\0\0\0\x65\0\0\0\x01\0\0\0\x08\0\0\0\0\0\0\0\0\0\0\0\
-    \x06\x63\x04\x40\x03\0\0\0\
-    \x02\0\0\0\0\0\0\0\x64\0\0\0\x65\0\0\0\x01\0\0\0\x08\0\0\0\0\0\0\0\0\0\0\0\
-    \x05\x63\x04\x40\x03\0\0\0";
-
-/// The same, and then `BC_INCREFS` and `BC_DECREFS` of that handle.
-pub(crate) const FOUR_WRITES: &[u8] = b"BNDRCAP1\x08\0\0\0\0\0\0\0\
-    \x01\0\0\0\0\0\0\0\x64\0\0\0\x65\0\0\0\x01\0\0\0\x08\0\0\0\0\0\0\0\0\0\0\0\
-    \x06\x63\x04\x40\x03\0\0\0\
-    \x02\0\0\0\0\0\0\0\x64\0\0\0\x65\0\0\0\x01\0\0\0\x08\0\0\0\0\0\0\0\0\0\0\0\
-    \x05\x63\x04\x40\x03\0\0\0\
-    \x03\0\0\0\0\0\0\0\x64\0\0\0\x65\0\0\0\x01\0\0\0\x08\0\0\0\0\0\0\0\0\0\0\0\
-    \x04\x63\x04\x40\x03\0\0\0\
-    \x04\0\0\0\0\0\0\0\x64\0\0\0\x65\0\0\0\x01\0\0\0\x08\0\0\0\0\0\0\0\0\0\0\0\
-    \x07\x63\x04\x40\x03\0\0\0";

@@ -1,5 +1,5 @@
 use Rattle.std.proofs.Common.{◌≡◌, length}
-use Rattle.audit_tests.proofs.board.steps.make_all.Given as goal
+use Rattle.board_tests.proofs.steps.make_all.Given as goal
 
 abbrev pub invariant-loop-worker : goal.invariant-loop-worker
 invariant-loop-worker l =

@@ -1,7 +1,7 @@
 use Rattle.std.proofs.Common.{rules, ap, sym, ◌∙◌, arith}
 use Rattle.claim_board.specs.declared.job.Job.{Job}
-use Rattle.audit_tests.proofs.Spacing.{length-spaced, spaced_here}
-use Rattle.audit_tests.proofs.board.jobs.ExcerptsWork.run.Goals as goal
+use Rattle.board_tests.proofs.Spacing.{length-spaced, spaced_here}
+use Rattle.board_tests.proofs.jobs.ExcerptsWork.run.Goals as goal
 
 pub fault-requires : goal.fault-requires
 fault-requires c =

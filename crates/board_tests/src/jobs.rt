@@ -2,9 +2,9 @@
 
 ghost use Rattle.std.specs.Prelude.{◌≡◌, ◌+◌, ◌*◌, ◌<◌, ◌≤◌, [], ◌∷◌, length, IfOk, IfSome};
 ghost use Rattle.claim_board.specs.Board.{AreJobs};
-ghost use Rattle.audit_tests.specs.SpacedJobs.{spaced_fault};
+ghost use Rattle.board_tests.specs.SpacedJobs.{spaced_fault};
 
-use super::rounds::Rounds;
+use crate::rounds::Rounds;
 use claim_board::{Job, JobStop, Work};
 use std::alloc::{AllocError, Global};
 
@@ -59,7 +59,7 @@ impl<'c> Excerpts<'c> {
 
 impl<'c> Work for Excerpts<'c> {
     ghost use Rattle.std.specs.Prelude.{◌≡◌, ◌*◌, [], ◌∷◌};
-    ghost use Rattle.audit_tests.specs.SpacedJobs.{spaced_jobs};
+    ghost use Rattle.board_tests.specs.SpacedJobs.{spaced_jobs};
 
     type Out = Excerpt<'c>;
 

@@ -4,7 +4,7 @@
 ghost use Rattle.std.specs.Prelude.{◌≡◌, ◌≤◌, length, IfOk, IfSome};
 ghost use Rattle.claim_board.specs.Board.{AreJobs};
 
-use super::jobs::jobs_by_bits;
+use crate::jobs::jobs_by_bits;
 use claim_board::{Act, Board, BoardFault, Job, JobState, Step, Workers};
 use std::alloc::{AllocError, Global};
 use std::process::Abort;

@@ -5,7 +5,7 @@ use Rattle.std.proofs.lemmas.List.Elements.{All-nil, All-cons}
 use Rattle.claim_board.specs.declared.job.Job.{Job}
 use Rattle.claim_board.specs.Board.{AreJobs, EndsBefore}
 use Rattle.claim_board.specs.Running.{no_place, job_at, AreWorkJobs}
-use Rattle.audit_tests.specs.SpacedJobs.{spaced_start, AreSpacedFrom, spaced_job, spaced_from, spaced_jobs}
+use Rattle.board_tests.specs.SpacedJobs.{spaced_start, AreSpacedFrom, spaced_job, spaced_from, spaced_jobs}
 use Rattle.claim_board.proofs.Lists.{get_snoc}
 
 above_start : (job : Job) (f : Option ℕ) (start : ℕ) → job.start ≡ start → job.fault ≡ f → IfSome f (λ x. x ≡ start + 5) → IfSome job.fault (λ x. job.start ≤ x)

@@ -1,13 +1,13 @@
 //! Tests of `run_all`: all jobs, by workers in threads.
 
-use super::jobs::{Excerpt, Excerpts};
-use super::rounds::{Rounds, WATCHED};
-use crate::meeting::{Meeting, is_set_in_time};
+use crate::jobs::{Excerpt, Excerpts};
+use crate::rounds::{Rounds, WATCHED};
 use claim_board::{Gate, NoGate, Stop, Workers, run_all};
 use std::alloc::Global;
 use std::sync::atomic::{AtomicBool, Ordering};
 use std::test::Fail;
 use std::thread::Threads;
+use test_kit::{Meeting, is_set_in_time};
 
 /// What `run_all` must answer.
 #[derive(Clone, Copy, Debug, PartialEq, Eq)]

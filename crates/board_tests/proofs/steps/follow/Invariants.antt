@@ -1,5 +1,5 @@
 use Rattle.std.proofs.Common.{◌≡◌, length}
-use Rattle.audit_tests.proofs.board.steps.follow.Given as goal
+use Rattle.board_tests.proofs.steps.follow.Given as goal
 
 abbrev pub invariant-loop : goal.invariant-loop
 invariant-loop l =

@@ -1,7 +1,7 @@
 use Rattle.std.proofs.Common.{rules, refl, ◌+◌, ◌*◌}
 use Rattle.claim_board.specs.declared.job.Job.{Job}
-use Rattle.audit_tests.proofs.Spacing.{spaced_push, spaced_are_jobs}
-use Rattle.audit_tests.proofs.board.jobs.jobs_by_bits.Goals as goal
+use Rattle.board_tests.proofs.Spacing.{spaced_push, spaced_are_jobs}
+use Rattle.board_tests.proofs.jobs.jobs_by_bits.Goals as goal
 
 pub loop-i-preserved : goal.loop-i-preserved
 loop-i-preserved c =

@@ -1,7 +1,7 @@
 use Rattle.std.proofs.Common.{ap, sym, arith}
 use Rattle.claim_board.specs.declared.job.Job.{Job}
-use Rattle.audit_tests.proofs.Spacing.{length-spaced, spaced_here}
-use Rattle.audit_tests.proofs.board.jobs.ExcerptsWork.start.Goals as goal
+use Rattle.board_tests.proofs.Spacing.{length-spaced, spaced_here}
+use Rattle.board_tests.proofs.jobs.ExcerptsWork.start.Goals as goal
 
 pub overflow_add-result : goal.overflow_add-result
 overflow_add-result c =
