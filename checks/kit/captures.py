@@ -961,6 +961,8 @@ CAPTURES = {
     "direction-and-reserved.cap": changed(ACQUIRES, (32, b"\x00"), (35, b"\x01")),
     # the byte after the direction
     "reserved-behind-direction.cap": changed(ACQUIRES, (33, b"\x01")),
+    # the byte between these two
+    "reserved-between.cap": changed(ACQUIRES, (34, b"\x10")),
     # the byte before the lengths
     "reserved-before-lengths.cap": changed(ACQUIRES, (35, b"\x80")),
     # the byte after the lengths

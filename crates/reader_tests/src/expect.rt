@@ -6,16 +6,6 @@ ghost use Rattle.std.specs.Prelude.{IsTrue};
 use std::fmt::Debug;
 use std::process::Abort;
 
-/// The two are the same. Otherwise the test ends and says at which place.
-pub(crate) fn same_at<T: PartialEq + Debug + Copy>(
-    rt: &impl Abort,
-    place: u64,
-    found: T,
-    wanted: T,
-) {
-    assert_eq!(rt; found, wanted, "at {place}");
-}
-
 /// The two are the same.
 pub(crate) fn same<T: PartialEq + Debug + Copy>(rt: &impl Abort, found: T, wanted: T) {
     assert_eq!(rt; found, wanted);

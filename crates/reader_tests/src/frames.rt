@@ -1,39 +1,10 @@
-//! File headers and frames by their bytes, and the edges of what is refused.
+//! Frames by their bytes.
 
 use crate::expect::{holds, same};
-use capture_frame::{Direction, Fault, FaultKind, Frame, Frames};
+use capture_frame::{Direction, Fault, Frame, Frames};
 use std::alloc::{AllocError, Global};
 use std::process::Abort;
 use std::test::Fail;
-
-/// Each but the last of either version has a fault of every later kind too.
-const HEADERS: &[(&[u8], FaultKind, u64)] = &[
-    (b"", FaultKind::HeaderShort, 0),
-    (b"BNDRCAP3\x09\0\0\0\x01\0\0", FaultKind::HeaderShort, 0),
-    (b"BNDRCAP3\x09\0\0\0\x01\0\0\0", FaultKind::HeaderMagic, 0),
-    (b"BNDRCAP0\x09\0\0\0\x01\0\0\0", FaultKind::HeaderMagic, 0),
-    (b"bndrcap2\x09\0\0\0\x01\0\0\0", FaultKind::HeaderMagic, 0),
-    (
-        b"BNDRCAP1\x09\0\0\0\x01\0\0\0",
-        FaultKind::HeaderProtocol,
-        8,
-    ),
-    (
-        b"BNDRCAP2\x09\0\0\0\x01\0\0\0",
-        FaultKind::HeaderProtocol,
-        8,
-    ),
-    (
-        b"BNDRCAP1\x08\0\0\0\0\0\0\x01",
-        FaultKind::HeaderReserved,
-        12,
-    ),
-    (
-        b"BNDRCAP2\x08\0\0\0\x01\0\0\0",
-        FaultKind::HeaderReserved,
-        12,
-    ),
-];
 
 /// The file header and a write of four command bytes, of the sequence 7: 52 bytes.
 const BEFORE: &[u8] = b"BNDRCAP1\x08\0\0\0\0\0\0\0\
@@ -43,97 +14,11 @@ const BEFORE: &[u8] = b"BNDRCAP1\x08\0\0\0\0\0\0\0\
 const READ: &[u8] = b"\x08\x07\x06\x05\x04\x03\x02\x01\x0c\x0b\x0a\x09\x10\x0f\x0e\x0d\
     \x02\0\0\0\x08\0\0\0\x03\0\0\0\0\0\0\0commandsend";
 
-/// What follows the first frame. The first row of each kind has a fault of every later kind too.
-const ROWS: &[(&[u8], FaultKind)] = &[
-    (b"\0", FaultKind::FrameShort),
-    (
-        b"\x07\0\0\0\0\0\0\0\0\0\0\0\0\0\0\0\0\0\0\x01\x09\0\0\0\x03\0\0\0\0\0\0",
-        FaultKind::FrameShort,
-    ),
-    (
-        b"\x07\0\0\0\0\0\0\0\0\0\0\0\0\0\0\0\0\0\0\x01\x09\0\0\0\x03\0\0\0\0\0\0\0",
-        FaultKind::FrameSequence,
-    ),
-    (
-        b"\x08\0\0\0\0\0\0\0\0\0\0\0\0\0\0\0\x03\0\0\x01\x09\0\0\0\x03\0\0\0\0\0\0\0",
-        FaultKind::FrameDirection,
-    ),
-    (
-        b"\x08\0\0\0\0\0\0\0\0\0\0\0\0\0\0\0\x02\0\0\x01\x09\0\0\0\x03\0\0\0\0\0\0\0",
-        FaultKind::FrameReserved,
-    ),
-    (
-        b"\x08\0\0\0\0\0\0\0\0\0\0\0\0\0\0\0\x02\0\0\0\0\0\0\0\0\0\0\0\0\0\0\x01",
-        FaultKind::FrameReserved,
-    ),
-    (
-        b"\x08\0\0\0\0\0\0\0\0\0\0\0\0\0\0\0\x02\0\0\0\x01\0\0\0\0\0\0\0\0\0\0\0",
-        FaultKind::FrameLength,
-    ),
-    // The sum of the lengths is 2^32, which is 0 in 32 bits.
-    (
-        b"\x08\0\0\0\0\0\0\0\0\0\0\0\0\0\0\0\x02\0\0\0\xff\xff\xff\xff\x01\0\0\0\0\0\0\0",
-        FaultKind::FrameLength,
-    ),
-];
-
 /// A capture whose first frame is followed by these bytes.
 fn capture_with(alloc: Global, rest: &[u8]) -> Result<Vec<u8>, AllocError> {
     let mut capture = Vec::from_slice(alloc, BEFORE)?;
     capture.extend_from_slice(rest)?;
     Ok(capture)
-}
-
-/// What is added to places when a capture is read as a part.
-const BASE: u64 = 0xffff_ffff_0000_0000;
-
-/// A fault of the file header keeps its place in the part.
-fn expect_header_fault(rt: &impl Abort, (capture, kind, place): (&[u8], FaultKind, u64)) {
-    holds(rt, capture.len() < 4096);
-    let fault = Some(Fault { kind, place });
-    same(rt, Frames::new(capture).err(), fault);
-    same(rt, Frames::after(capture, BASE, Some(6)).err(), fault);
-}
-
-/// The reader gives the first frame, and then the fault at each call.
-fn expect_fault_after(rt: &impl Abort, reader: &mut Frames<'_>, fault: Fault) -> Result<(), Fault> {
-    holds(rt, reader.next_frame()?.is_some());
-    for _ in 0..2 {
-        same(rt, reader.next_frame().err(), Some(fault));
-    }
-    Ok(())
-}
-
-/// The fault comes after the first frame, also when the capture is read as a part.
-fn expect_fault(
-    rt: &impl Abort,
-    alloc: Global,
-    (rest, kind): (&[u8], FaultKind),
-) -> Result<(), Fail> {
-    let capture = capture_with(alloc, rest)?;
-    holds(rt, capture.len() < 4096);
-    let mut reader = Frames::new(capture.as_slice())?;
-    expect_fault_after(rt, &mut reader, Fault { kind, place: 52 })?;
-    let mut reader = Frames::after(capture.as_slice(), BASE, Some(6))?;
-    let place = BASE + 52;
-    expect_fault_after(rt, &mut reader, Fault { kind, place })?;
-    Ok(())
-}
-
-#[test]
-fn judges_the_file_header(rt: HostRuntime) {
-    for row in HEADERS {
-        expect_header_fault(&rt, *row);
-    }
-    holds(&rt, Frames::new(&BEFORE[..16]).is_ok());
-}
-
-#[test]
-fn judges_a_frame_header(rt: HostRuntime) -> Result<(), Fail> {
-    for row in ROWS {
-        expect_fault(&rt, rt.alloc(), *row)?;
-    }
-    Ok(())
 }
 
 pub(crate) fn expect_number(rt: &impl Abort, found: u64, expected: u64) {

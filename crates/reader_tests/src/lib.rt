@@ -3,13 +3,9 @@
 #![tactic(auto)]
 
 #[cfg(test)]
-mod build;
-#[cfg(test)]
 mod codes;
 #[cfg(test)]
 mod cut;
-#[cfg(test)]
-mod events;
 #[cfg(test)]
 mod expect;
 #[cfg(test)]
@@ -17,10 +13,6 @@ mod frames;
 #[cfg(test)]
 mod objects;
 #[cfg(test)]
-mod parts;
-#[cfg(test)]
 mod records;
 #[cfg(test)]
 mod transactions;
-#[cfg(test)]
-mod versions;

@@ -1,7 +1,7 @@
-//! Objects by hand: each sort, and the edges of what is refused.
+//! An object of each sort, by its bytes.
 
 use crate::expect::{holds, same};
-use object_view::{BadObject, Cause, Object, Objects, Sort, held_step};
+use object_view::{Object, Objects, Sort, held_step};
 use std::process::Abort;
 use transaction_view::Entry;
 
@@ -39,97 +39,8 @@ const SORTS: &[(&[u8], Sort)] = &[
     (PTR, Sort::Ptr),
 ];
 
-/// The four bytes that name a HANDLE, at each multiple of 4 up to 48: an object begins wherever one
-/// fits.
-const HANDLES: &[u8] = b"\x85\x2a\x68\x73\x85\x2a\x68\x73\x85\x2a\x68\x73\x85\x2a\x68\x73\
-    \x85\x2a\x68\x73\x85\x2a\x68\x73\x85\x2a\x68\x73\x85\x2a\x68\x73\
-    \x85\x2a\x68\x73\x85\x2a\x68\x73\x85\x2a\x68\x73\x85\x2a\x68\x73";
-
 /// Offset 0.
 const FIRST: &[u8] = b"\0\0\0\0\0\0\0\0";
-
-/// Data and a list of offsets; how many good objects they have, and the cause and the offset of a
-/// bad one after them.
-type Row = (&'static [u8], &'static [u8], u64, Option<(Cause, u64)>);
-
-const ROWS: &[Row] = &[
-    (b"", b"", 0, None),
-    (HANDLES, b"", 0, None),
-    (HANDLES, b"\0\0\0\0\0\0\0\0\x18\0\0\0\0\0\0\0", 2, None),
-    (HANDLES, b"\x04\0\0\0\0\0\0\0", 1, None),
-    // Offsets between the multiples of four, also past the end of the data.
-    (
-        HANDLES,
-        b"\x02\0\0\0\0\0\0\0",
-        0,
-        Some((Cause::Misaligned, 2)),
-    ),
-    (
-        HANDLES,
-        b"\0\0\0\0\0\0\0\0\xff\xff\xff\xff\xff\xff\xff\xff",
-        1,
-        Some((Cause::Misaligned, u64::MAX)),
-    ),
-    // Offsets in the object before, at a multiple of four and not; one with a good offset after it.
-    (
-        HANDLES,
-        b"\0\0\0\0\0\0\0\0\x14\0\0\0\0\0\0\0\x18\0\0\0\0\0\0\0",
-        1,
-        Some((Cause::Overlap, 20)),
-    ),
-    (
-        HANDLES,
-        b"\x04\0\0\0\0\0\0\0\0\0\0\0\0\0\0\0",
-        1,
-        Some((Cause::Overlap, 0)),
-    ),
-    (
-        HANDLE,
-        b"\0\0\0\0\0\0\0\0\x16\0\0\0\0\0\0\0",
-        1,
-        Some((Cause::Misaligned, 22)),
-    ),
-    // At the end of the data, within four bytes of it, past it, and where a sum would wrap.
-    (HANDLES, b"\x1c\0\0\0\0\0\0\0", 0, Some((Cause::Short, 28))),
-    (
-        HANDLES,
-        b"\0\0\0\0\0\0\0\0\x30\0\0\0\0\0\0\0",
-        1,
-        Some((Cause::Short, 48)),
-    ),
-    (
-        HANDLES,
-        b"\0\0\0\0\x01\0\0\0",
-        0,
-        Some((Cause::Short, 1 << 32)),
-    ),
-    (
-        HANDLES,
-        b"\xfc\xff\xff\xff\xff\xff\xff\xff",
-        0,
-        Some((Cause::Short, u64::MAX - 3)),
-    ),
-    (b"\0\0\0", FIRST, 0, Some((Cause::Short, 0))),
-    (b"\x85\x2a\x74\x70", FIRST, 0, Some((Cause::Short, 0))),
-    // Of no sort, whether or not the data ends there.
-    (b"\0\0\0\0", FIRST, 0, Some((Cause::UnknownSort, 0))),
-    (b"\x73\x68\x2a\x85", FIRST, 0, Some((Cause::UnknownSort, 0))),
-    (
-        HANDLE,
-        b"\0\0\0\0\0\0\0\0\x04\0\0\0\0\0\0\0",
-        1,
-        Some((Cause::Overlap, 4)),
-    ),
-];
-
-/// Lists whose length is not a multiple of 8. The length is looked at before the first object, good
-/// or bad.
-const NO_LISTS: &[&[u8]] = &[
-    b"\0",
-    b"\0\0\0\0\0\0\0",
-    b"\0\0\0\0\0\0\0\0\0",
-    b"\x02\0\0\0\0\0\0\0\0\0\0\0",
-];
 
 fn reader_of<'c>(rt: &impl Abort, body: &'c [u8], offsets: &'c [u8]) -> Objects<'c> {
     holds(rt, body.len() < 4096 && offsets.len() < 4096);
@@ -139,38 +50,6 @@ fn reader_of<'c>(rt: &impl Abort, body: &'c [u8], offsets: &'c [u8]) -> Objects<
         body,
         offsets,
     })
-}
-
-/// The reader gives `good` objects, then the bad one if there is one, and then `None` at each call.
-fn expect(rt: &impl Abort, body: &[u8], offsets: &[u8], good: u64, bad: Option<BadObject>) {
-    let mut reader = reader_of(rt, body, offsets);
-    for _ in 0..good {
-        holds(rt, matches!(reader.next_object(), Some(Ok(_))));
-    }
-    if bad.is_some() {
-        same(rt, reader.next_object().and_then(Result::err), bad);
-    }
-    for _ in 0..2 {
-        holds(rt, reader.next_object().is_none());
-    }
-}
-
-fn expect_row(rt: &impl Abort, (body, offsets, good, bad): Row) {
-    let bad = bad.map(|(cause, offset)| BadObject {
-        index: good,
-        offset,
-        cause,
-    });
-    expect(rt, body, offsets, good, bad);
-}
-
-fn expect_no_list(rt: &impl Abort, offsets: &[u8]) {
-    let bad = BadObject {
-        index: 0,
-        offset: 0,
-        cause: Cause::ListLength,
-    };
-    expect(rt, HANDLES, offsets, 0, Some(bad));
 }
 
 /// The object at the start of the data; its reader is gone.
@@ -226,18 +105,4 @@ fn tells_the_reference_that_an_object_carries(rt: HostRuntime) {
     );
     same(&rt, held_step(first_object(&rt, BINDER)), None);
     same(&rt, held_step(first_object(&rt, FD)), None);
-}
-
-#[test]
-fn reads_up_to_the_first_bad_object(rt: HostRuntime) {
-    for row in ROWS {
-        expect_row(&rt, *row);
-    }
-}
-
-#[test]
-fn refuses_a_list_of_a_wrong_length(rt: HostRuntime) {
-    for offsets in NO_LISTS {
-        expect_no_list(&rt, offsets);
-    }
 }

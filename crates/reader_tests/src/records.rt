@@ -1,8 +1,8 @@
-//! Records by their bytes, and the edges of what is refused.
+//! Records by their bytes.
 
 use crate::expect::{holds, same};
 use binder_code::{Code, Kind};
-use capture_frame::{Direction, Fault, FaultKind, Frame};
+use capture_frame::{Direction, Fault, Frame};
 use record_view::{Record, Records};
 use std::process::Abort;
 use std::test::Fail;
@@ -17,44 +17,6 @@ const PLACES: &[(u64, Kind, u32, &[u8])] = &[
     (144, Kind::Opaque, 0x4003_63ff, b"end"),
 ];
 
-/// Command bytes, how many good records they begin with, and the fault after them.
-const ROWS: &[(&[u8], u64, FaultKind)] = &[
-    // A code word that is cut, whatever it could become.
-    (b"\x0c", 0, FaultKind::RecordShort),
-    (b"\x0c\x63\0\0\x0c\x72\x04", 1, FaultKind::RecordShort),
-    // Another protocol's letter, direction bits that do not go with the size, and both of them with
-    // a size that is not listed and passes the command bytes.
-    (b"\x0c\x72\0\0", 0, FaultKind::RecordDirection),
-    (
-        b"\x05\x63\x04\x80\x05\0\0\0\x0c\x63\0\0",
-        0,
-        FaultKind::RecordDirection,
-    ),
-    (
-        b"\x0c\x63\0\0\x05\x72\xff\x80",
-        1,
-        FaultKind::RecordDirection,
-    ),
-    // A size that is not listed, with as many payload bytes as it says and without them.
-    (
-        b"\x0c\x63\x04\x40\0\0\0\0\x0c\x63\0\0",
-        0,
-        FaultKind::RecordSize,
-    ),
-    (
-        b"\x0c\x63\0\0\x0c\x63\0\0\x05\x63\xff\x40",
-        2,
-        FaultKind::RecordSize,
-    ),
-    // A payload that passes the command bytes.
-    (b"\x05\x63\x04\x40\x05\0\0", 0, FaultKind::RecordShort),
-    (
-        b"\x0c\x63\0\0\0\x63\x40\x40\x0c\x63\0\0\x0c\x63\0\0",
-        1,
-        FaultKind::RecordShort,
-    ),
-];
-
 /// A frame at 100, so that its records begin at 132.
 fn frame_of(direction: Direction, commands: &[u8]) -> Frame<'_> {
     Frame {
@@ -67,23 +29,6 @@ fn frame_of(direction: Direction, commands: &[u8]) -> Frame<'_> {
         commands,
         attachments: b"",
     }
-}
-
-/// The reader gives so many records of four bytes, and then the fault at each call.
-fn expect_fault(
-    rt: &impl Abort,
-    (commands, records, kind): (&[u8], u64, FaultKind),
-) -> Result<(), Fault> {
-    holds(rt, records < 3);
-    let place = 132 + 4 * records;
-    let mut reader = Records::of(frame_of(Direction::Write, commands));
-    for _ in 0..records {
-        holds(rt, reader.next_record()?.is_some());
-    }
-    for _ in 0..2 {
-        same(rt, reader.next_record().err(), Some(Fault { kind, place }));
-    }
-    Ok(())
 }
 
 fn expect_record(
@@ -107,14 +52,6 @@ fn reads_record_by_record(rt: HostRuntime) -> Result<(), Fail> {
     }
     for _ in 0..2 {
         holds(&rt, reader.next_record()?.is_none());
-    }
-    Ok(())
-}
-
-#[test]
-fn names_the_first_fault_of_a_record(rt: HostRuntime) -> Result<(), Fail> {
-    for row in ROWS {
-        expect_fault(&rt, *row)?;
     }
     Ok(())
 }

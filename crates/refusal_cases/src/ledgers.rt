@@ -3,6 +3,7 @@
 use crate::events::{Whose, events_of};
 use crate::fits::is_short;
 use crate::no_answer::{NoAnswer, Printed};
+use crate::placed::is_placed;
 use crate::sums::{Way, summed};
 use crate::told;
 use call_stacks::ThreadCalls;
@@ -16,7 +17,6 @@ use pending_ledger::{Buffers, Clears, Deaths, Requests};
 use std::alloc::{AllocError, Global};
 use std::io::Write;
 use summary_law::Tally;
-use test_kit::is_placed;
 use transaction_view::Entry;
 
 /// The items that a step reads in some events.

@@ -9,6 +9,7 @@ mod ledgers;
 mod no_answer;
 mod parts;
 mod pieces;
+mod placed;
 mod runs;
 mod sums;
 mod table;

@@ -4,7 +4,6 @@ ghost use Rattle.std.specs.Prelude.{IfOk};
 
 use std::alloc::{AllocError, Global};
 use summary_law::{Summary, summary_of};
-use test_kit::in_two;
 
 /// How a list is summed.
 #[derive(Clone, Copy)]
@@ -28,6 +27,11 @@ where
 {
     match way {
         Way::Add => summary_of(alloc, items),
-        Way::Join => in_two(alloc, items, items.len() / 2),
+        Way::Join => {
+            let (front, back) = items.split_at(items.len() / 2);
+            let earlier: S = summary_of(alloc, front)?;
+            let later: S = summary_of(alloc, back)?;
+            earlier.join(later)
+        }
     }
 }

@@ -1,6 +1,6 @@
 //! Items that have a place.
 
-ghost use Rattle.std.specs.Bool.{OnTrue, OnFalse};
+ghost use Rattle.std.specs.Bool.{OnTrue};
 ghost use Rattle.std.specs.Prelude.{◌≡◌, ℕ};
 ghost use Rattle.call_stacks.specs.Calls.{capture_event_reads};
 ghost use Rattle.pending_ledger.specs.Pending.{place_of};
@@ -10,7 +10,7 @@ ghost use Rattle.summary_law.specs.Fits.{IsPlaced};
 use event_core::{Event, KeyEvent, RequestItem};
 
 /// An item that has a place: that of its record in the capture.
-pub trait Placed: Copy {
+pub(crate) trait Placed: Copy {
     /// Where it is.
     ghost place_in: { Self → ℕ };
 
@@ -44,9 +44,8 @@ impl<'c> Placed for Event<'c> {
 }
 
 /// Whether there are at most 2^32 items, and their places rise.
-pub fn is_placed<T: Placed>(items: &[T]) -> bool
-    ensures order { OnTrue result (IsPlaced T.place_in items.now) }
-    ensures disorder { OnFalse result (¬ IsPlaced T.place_in items.now) }
+pub(crate) fn is_placed<T: Placed>(items: &[T]) -> bool
+    ensures { OnTrue result (IsPlaced T.place_in items.now) }
 {
     if items.len() > 4_294_967_296 {
         return false;

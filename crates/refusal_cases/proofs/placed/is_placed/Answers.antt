@@ -3,7 +3,7 @@ use Rattle.std.proofs.lemmas.List.{take_more, get_or_default}
 use Rattle.std.proofs.lemmas.List.Elements.{All-push, All-weaker}
 use Rattle.std.proofs.lemmas.List.Quantifiers.{all_pairs_push}
 use Rattle.summary_law.specs.Fits.{PlacesRise}
-use Rattle.test_kit.proofs.placed.is_placed.Goals as goal
+use Rattle.refusal_cases.proofs.placed.is_placed.Goals as goal
 
 pub loop-item-preserved : goal.loop-item-preserved
 loop-item-preserved g c =
@@ -21,31 +21,10 @@ loop-item-preserved g c =
       below = subst (All (λ x. place x < c.from-least.result + 1)) (sym more)
           (All-push (λ x. place x < c.from-least.result + 1) (take i items) item
           (All-weaker (λ x. place x < place item) (λ x. place x < c.from-least.result + 1) (λ x h. omega arith) (take i items) below) (omega arith));
-      met = λ _. (
-        i,
-        omega arith,
-        λ d.
-            let there : item ≡ get_or items i d = c.item-item.is ∙ get_or_default items i item d (omega arith) in
-            let same : place item ≡ place (get_or items i d) = ap place there in
-            omega (arith, same),
-      );
     }
 
-pub returns-then-from-least-clause-disorder : goal.returns-then-from-least-clause-disorder
-returns-then-from-least-clause-disorder g c =
-    let place = g.T.Placed.place_in in
-    let items = c.args.items.now in
-    let i = c.loop-item.item-index in
-    let item = c.item-item.result in
-    let met = c.loop-item.invariant.met (omega arith) in
-    λ placed.
-    let above : place (get_or items met.0 item) < place (get_or items i item) = placed.1 met.0 i item met.1 (omega arith) in
-    let here : place (get_or items i item) ≡ place item = ap place (sym c.item-item.is) in
-    let before : c.loop-item.least ≡ place (get_or items met.0 item) + 1 = met.2 item in
-    omega (arith, above, here, before)
-
-pub returns-clause-order : goal.returns-clause-order
-returns-clause-order g c = (
+pub returns : goal.returns
+returns g c = (
   omega arith,
   subst (PlacesRise g.T.Placed.place_in) (take_all c.loop-item.item-index c.args.items.now c.loop-item-test.false) c.loop-item.invariant.rise,
 )

@@ -1,10 +1,9 @@
 use Rattle.std.proofs.Common.{◌≡◌, ◌+◌, ℕ, ◌<◌, All, take, get_or}
 use Rattle.summary_law.specs.Fits.{PlacesRise}
-use Rattle.test_kit.proofs.placed.is_placed.Given as goal
+use Rattle.refusal_cases.proofs.placed.is_placed.Given as goal
 
 abbrev pub invariant-loop-item : goal.invariant-loop-item
 invariant-loop-item g l = record {
   rise : PlacesRise g.T.Placed.place_in (take l.item-index l.items);
-  met : 0 < l.least → (k : ℕ) × k < l.item-index × ((d : _) → l.least ≡ g.T.Placed.place_in (get_or l.items k d) + 1);
   below : All (λ item. g.T.Placed.place_in item < l.least) (take l.item-index l.items);
 }
