@@ -1,10 +1,15 @@
 //! The second look at frames, and what the findings keep of both looks.
 
-ghost use Rattle.std.specs.Prelude.{◌≡◌, ◌<◌, length, map, Some, slice_get, IfOk};
+ghost use Rattle.std.specs.Prelude.{◌≡◌, ◌<◌, List, length, map, Some, slice_get, IfOk};
+ghost use Rattle.capture_frame.specs.Envelope.{PlacedFrame};
+ghost use Rattle.event_core.specs.Events.{events_of_frames};
 ghost use Rattle.process_ledgers.specs.Processes.{processes_of};
+ghost use Rattle.audit_findings.specs.Findings.{process_sections};
 ghost use Rattle.audit_findings.specs.Frames.{AreGoodFrames};
 ghost use Rattle.audit_findings.specs.Handles.{handles_of_each};
-ghost use Rattle.audit_findings.specs.Kept.{AreSectionsOf};
+ghost use Rattle.audit_findings.specs.Kept.{AreSectionsOf, processes_at_places};
+ghost use Rattle.audit_findings.specs.Ledgers.{AreUnfreed};
+ghost use Rattle.audit_findings.specs.Places.{RiseInPlace};
 ghost use Rattle.audit_findings.specs.Summary.{SumsPiece};
 
 use crate::both::both;
@@ -60,8 +65,7 @@ impl<'f, 'c> SecondLook<'f, 'c> {
         requires sums { SumsPiece whole frames.now }
         ensures { IfOk result (λ look. look ≡ frames.now) }
     {
-        let none = ProcessLedgers::empty(whole.alloc);
-        let unfreed = lists_of::<Unclosed<BufferPairs>>(whole.alloc, whole.processes(&none))?;
+        let unfreed = unfreed_of(&whole)?;
         Ok(SecondLook {
             whole,
             frames,
@@ -100,9 +104,8 @@ impl<'f, 'c> SecondLook<'f, 'c> {
     {
         let whole = self.whole;
         let alloc = whole.alloc;
-        let none = ProcessLedgers::empty(alloc);
         let unfreed = self.unfreed.as_slice();
-        let processes = ProcessSections::of(alloc, whole.processes(&none), unfreed, handles);
+        let processes = sections_of_processes(&whole, unfreed, handles);
         let frames = whole.sequences.frames;
         let missing = whole.sequences.missing();
         let of_events = whole.of_events;
@@ -117,4 +120,32 @@ impl<'f, 'c> SecondLook<'f, 'c> {
             processes,
         })
     }
+}
+
+/// The places of the leaked deliveries of each process whose frames are summed. The ledgers of a
+/// process without events are dropped here and in `sections_of_processes`, where less is left to drop.
+fn unfreed_of(whole: &PieceSummary<'_>) -> Result<Vec<Vec<u64>>, AllocError>
+    ensures { IfOk result (λ unfreed. (frames : List PlacedFrame) →
+        SumsPiece whole.now frames →
+        AreUnfreed frames (map (λ list. list.items) unfreed.items)) }
+{
+    let none = ProcessLedgers::empty(whole.alloc);
+    lists_of::<Unclosed<BufferPairs>>(whole.alloc, whole.processes(&none))
+}
+
+/// What is kept of the processes whose frames are summed.
+fn sections_of_processes(
+    whole: &PieceSummary<'_>,
+    unfreed: &[Vec<u64>],
+    handles: &[ProcessHandles],
+) -> Result<ProcessSections<u64>, AllocError>
+    ensures { IfOk result (λ kept. (frames : List PlacedFrame) →
+        SumsPiece whole.now frames →
+        AreUnfreed frames (map (λ list. list.items) unfreed.now) →
+        map (λ list. list.items) handles.now ≡ handles_of_each frames →
+        RiseInPlace (events_of_frames frames) →
+        kept ≡ processes_at_places (process_sections frames)) }
+{
+    let none = ProcessLedgers::empty(whole.alloc);
+    ProcessSections::of(whole.alloc, whole.processes(&none), unfreed, handles)
 }

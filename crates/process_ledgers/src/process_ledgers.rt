@@ -59,7 +59,8 @@ impl<'c> Summary for ProcessLedgers<'c> {
     }
 
     fn join(self, later: ProcessLedgers<'c>) -> Result<ProcessLedgers<'c>, AllocError> {
-        // All are joined before one is looked at, so that less is left to drop at each `?`.
+        // All are joined before one is looked at, and they are looked at together, so that what is
+        // left to drop is dropped at one place.
         let handles = self.handles.join(later.handles);
         let nodes = self.nodes.join(later.nodes);
         let buffers = self.buffers.join(later.buffers);
@@ -67,14 +68,25 @@ impl<'c> Summary for ProcessLedgers<'c> {
         let deaths = self.deaths.join(later.deaths);
         let clears = self.clears.join(later.clears);
         let oneway = self.oneway.join(later.oneway);
+        let (
+            Ok(handles),
+            Ok(nodes),
+            Ok(buffers),
+            Ok(requests),
+            Ok(deaths),
+            Ok(clears),
+            Ok(oneway),
+        ) = (handles, nodes, buffers, requests, deaths, clears, oneway) else {
+            return Err(AllocError);
+        };
         Ok(ProcessLedgers {
-            handles: handles?,
-            nodes: nodes?,
-            buffers: buffers?,
-            requests: requests?,
-            deaths: deaths?,
-            clears: clears?,
-            oneway: oneway?,
+            handles,
+            nodes,
+            buffers,
+            requests,
+            deaths,
+            clears,
+            oneway,
         })
     }
 

@@ -38,8 +38,7 @@ returns c listed =
     let calls = IfOk-at_ok _ half.1 c.of-calls.ensures all (subst (SumsThreadCalls look.whole.of_events.threads) sums.are_all sums.sums.threads) rise in
     let events = IfOk-at_ok _ half.0 c.of-events.ensures all (subst (SumsEvents look.whole.of_events.all) sums.are_all sums.sums.all) in
     let own = subst (λ (lists : List (Vec ℕ Global)). AreUnfreed frames (lists_of lists)) (sym c.as_slice-unfreed.ensures.value) c.self.invariant.2 in
-    let each = c.processes.ensures frames sums c.empty-none.ensures in
     let rows = listed ∙ ap handles_of_each (sym c.self.view_is) in
-    let processes = IfOk-at_ok _ whole.1 c.of-processes.ensures frames each own rows rise in
+    let processes = IfOk-at_ok _ whole.1 c.sections_of_processes-processes.ensures frames sums own rows rise in
     same_frames c.self.view_is
     (λ i. record { frames = count i; missing = missing i; events = events i; calls = calls i; processes = processes i })

@@ -37,14 +37,22 @@ join-oneway-requires c = (
 pub returns : goal.returns
 returns c first second sums others fits =
     let all = first ++ second in
+    let ok = c.in-Ok-Ok-Ok-Ok-Ok-Ok-Ok in
+    let handles = rw ok.is-0 at c.join-handles.ensures in
+    let nodes = rw ok.is-1 at c.join-nodes.ensures in
+    let buffers = rw ok.is-2 at c.join-buffers.ensures in
+    let requests = rw ok.is-3 at c.join-requests.ensures in
+    let deaths = rw ok.is-4 at c.join-deaths.ensures in
+    let clears = rw ok.is-5 at c.join-clears.ensures in
+    let oneway = rw ok.is-6 at c.join-oneway.ensures in
     record {
-      handles = c.in_ok-handles.ensures first second sums.handles others.handles (few_by handle_item_of all fits);
-      nodes = c.in_ok-nodes.ensures first second sums.nodes others.nodes (few_by node_item_of all fits);
-      buffers = c.in_ok-buffers.ensures first second sums.buffers others.buffers (placed_by place_of buffer_pending_of buffer_keeps all fits);
-      requests = c.in_ok-requests.ensures first second sums.requests others.requests (placed_by request_place request_item_of request_keeps all fits);
-      deaths = c.in_ok-deaths.ensures first second sums.deaths others.deaths (placed_by place_of death_item_of death_keeps all fits);
-      clears = c.in_ok-clears.ensures first second sums.clears others.clears (placed_by place_of clear_item_of clear_keeps all fits);
-      oneway = by_said c.in_ok-oneway.field-0.own _
-          (c.in_ok-oneway.ensures first second (by_derived c.args.self.oneway.own _ sums.oneway) (by_derived c.args.later.oneway.own _ others.oneway)
+      handles = handles first second sums.handles others.handles (few_by handle_item_of all fits);
+      nodes = nodes first second sums.nodes others.nodes (few_by node_item_of all fits);
+      buffers = buffers first second sums.buffers others.buffers (placed_by place_of buffer_pending_of buffer_keeps all fits);
+      requests = requests first second sums.requests others.requests (placed_by request_place request_item_of request_keeps all fits);
+      deaths = deaths first second sums.deaths others.deaths (placed_by place_of death_item_of death_keeps all fits);
+      clears = clears first second sums.clears others.clears (placed_by place_of clear_item_of clear_keeps all fits);
+      oneway = by_said ok.oneway.own _
+          (oneway first second (by_derived c.args.self.oneway.own _ sums.oneway) (by_derived c.args.later.oneway.own _ others.oneway)
           (few_by oneway_item_of all fits));
     }
