@@ -6,7 +6,7 @@
 # With --sanitize the program is dynamic, and runs under the address and undefined-behaviour sanitizers, which end it at
 # a fault. With --strip it has no symbols. MACHINE is x86_64 or aarch64; by default it is this machine. CC names the
 # compiler; by default it is gcc, and for another machine the one of Debian, or for arm64 what CC_FOR_ARM64 names.
-# recorder/missing.sh says what else the build needs.
+# packager/needs says what else the build needs.
 set -euo pipefail
 
 here=$(dirname -- "$(readlink -f -- "${BASH_SOURCE[0]}")")

@@ -38,7 +38,7 @@ build() {
       "$([[ -n $other ]] && printf 'recorder/program.sh %s' "$other" || printf './record --help')" >&2
     return 1
   fi
-  "$here/missing.sh" "$machine" || return 1
+  "$here/../packager/needs" --as record --machine "$machine" recorder || return 1
   if ! "$here/build.sh" --machine "$machine" "$folder"; then
     printf 'record: the recorder could not be built\n' >&2
     return 1

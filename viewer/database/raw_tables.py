@@ -4,7 +4,6 @@ import functools
 import os
 import pathlib
 import re
-import shutil
 import sqlite3
 import subprocess
 from contextlib import closing
@@ -45,18 +44,12 @@ def schema() -> str:
 # ---- the loader
 
 
-def missing_tool() -> tuple[str, str] | None:
-    """What is missing to build the loader, and the packages that have it."""
-    if shutil.which("cc") is None:
-        return "cc", "gcc libsqlite3-dev"
-    found = subprocess.run(["cc", "-E", "-include", "sqlite3.h", "-x", "c", os.devnull], capture_output=True)
-    return ("sqlite3.h", "libsqlite3-dev") if found.returncode else None
-
-
 def build_loader(program: pathlib.Path) -> None:
     """Builds the loader. Its bytes do not depend on the folder of the source."""
-    if tool := missing_tool():
-        raise Stopped(1, "{} is missing to build the loader; this installs it: apt-get install {}".format(*tool))
+    needs = subprocess.run([FOLDER.parents[1] / "packager/needs", "--as", "view", "loader"], capture_output=True,
+                           text=True)
+    if needs.returncode:
+        raise Stopped(1, needs.stderr.strip().removeprefix("view: "))
     built = subprocess.run(["cc", "-O2", "-std=gnu11", "-Wall", "-Wextra", "-o", program, "load.c", "-lsqlite3"],
                            cwd=FOLDER, capture_output=True, text=True)
     if built.returncode:
