@@ -9,7 +9,7 @@ from typing import Iterator
 
 from viewer.defects.seen import kept_database
 from viewer.files import Stopped
-from viewer.page.texts import field_of
+from viewer.terminal import field_of
 
 QUESTIONS = pathlib.Path(__file__).resolve().parent / "questions"
 

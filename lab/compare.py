@@ -8,7 +8,7 @@ from typing import Iterator, NamedTuple
 from viewer.defects.changes import GONE, GROWN, GROWTH, NEW, NOT_MET, SAME, SHOWN, WORSE
 from viewer.defects.seen import RANKS
 from viewer.files import Stopped
-from viewer.page.texts import field_of
+from viewer.terminal import field_of
 from viewer.units import counted
 
 FOLDER = pathlib.Path(__file__).resolve().parent

@@ -191,8 +191,8 @@ def answered_wrongly(room: pathlib.Path) -> Iterator[str]:
         (room, ("empty",), (1, "", "no .aidl or .hal file in empty\n")),
         (room, ("empty/a.txt",), (1, "", "empty/a.txt:1: neither .aidl nor .hal\n")),
         (room, ("bytes",), (1, "", "bytes/a.aidl:3: not UTF-8\n")),
-        (room, ("name\u202e",), (1, "", "name\\u202e/a.aidl:1: the name has a sign that can't be printed\n")),
-        (room, ("tab\t.aidl",), (1, "", "tab\\t.aidl:1: the name has a sign that can't be printed\n")),
+        (room, ("name\u202e",), (1, "", "name\\x202e/a.aidl:1: the name has a sign that can't be printed\n")),
+        (room, ("tab\t.aidl",), (1, "", "tab\\x09.aidl:1: the name has a sign that can't be printed\n")),
         (room, ("none.aidl",), (4, "", "none.aidl: No such file or directory\n")),
         (room, ("none",), (4, "", "none: No such file or directory\n")))
     for (_, words, due), came in zip(lines, at_once(4, lambda line: ran(line[0], *line[1]), lines)):

@@ -5,7 +5,7 @@ from typing import Iterator, NamedTuple
 
 from viewer.defects.seen import Defect, defects_of, facts_of, seconds_of
 from viewer.files import Stopped
-from viewer.page.texts import field_of
+from viewer.terminal import field_of
 
 # What a defect may have become, in the order of the lines.
 NEW, WORSE, GROWN, GONE, SAME, NOT_MET = "new", "worse", "grown", "gone", "same", "not met"

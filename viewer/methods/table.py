@@ -23,10 +23,16 @@ from typing import Iterable, Iterator, NoReturn
 
 sys.dont_write_bytecode = True
 sys.path.insert(0, str(pathlib.Path(__file__).resolve().parents[2]))
+from viewer import terminal  # noqa: E402
+from viewer.files import Stopped  # noqa: E402
 from viewer.methods import hal  # noqa: E402
 from viewer.methods.aidl import Aidl  # noqa: E402
 from viewer.methods.sources import Interface, Method, Wrong  # noqa: E402
 from viewer.program_names import as_called, called  # noqa: E402
+
+
+def tell(text: str) -> None:
+    terminal.tell(called("methods"), text)
 
 
 class Words(argparse.ArgumentParser):
@@ -34,17 +40,8 @@ class Words(argparse.ArgumentParser):
 
     def error(self, message: str) -> NoReturn:
         self.print_usage(sys.stderr)
-        self.exit(64, f"{called('methods')}: {message}\n")
-
-
-def shown(text: str) -> str:
-    """A text for a terminal: signs that may change how others look are escaped."""
-    return "".join(sign if sign.isprintable() else ascii(sign)[1:-1] for sign in text)
-
-
-def tell(text: str) -> None:
-    if sys.stderr is not None:
-        sys.stderr.write(f"{called('methods')}: {shown(text)}\n")
+        tell(message)
+        self.exit(64)
 
 
 def fail(error: OSError) -> NoReturn:
@@ -129,18 +126,16 @@ def main() -> int:
             tell(f"no .aidl or .hal file in {' '.join(words)}")
             return 1
         table = table_of(interfaces_of(files))
-        if sys.stdout is None:
-            tell("standard output is closed")
-            return 4
         signal.signal(signal.SIGPIPE, signal.SIG_DFL)
-        sys.stdout.reconfigure(encoding="utf-8", newline="\n")
-        for (interface, code), method in sorted(table.items()):
-            sys.stdout.write(f"{interface}\t{code}\t{method.name}\t{method.source}\n")
-        sys.stdout.flush()
+        terminal.write(f"{interface}\t{code}\t{method.name}\t{method.source}\n"
+                       for (interface, code), method in sorted(table.items()))
         return 0
     except Wrong as wrong:
         tell(str(wrong))
         return 1
+    except Stopped as stopped:
+        tell(str(stopped))
+        return stopped.status
     except OSError as error:
         tell(f"{error.filename or 'standard output'}: {error.strerror}")
         return 4

@@ -4,7 +4,7 @@ import pathlib
 import sqlite3
 from typing import Iterator
 
-from viewer.page.texts import field_of
+from viewer.terminal import field_of
 
 KEYS = (pathlib.Path(__file__).resolve().parent / "queries/group_keys.sql").read_text()
 

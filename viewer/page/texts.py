@@ -1,14 +1,9 @@
-"""Texts of a capture, most of them a stranger's, as the page and the lines of groups show them."""
+"""Texts of a capture, most of them a stranger's, as the page shows them."""
 
-import unicodedata
+from viewer.terminal import is_sign
 
 # The most characters of a text on the page.
 MOST = 400
-
-
-def is_sign(character: str) -> bool:
-    """Whether a character is invisible or changes others: controls, marks of direction, characters without a name."""
-    return unicodedata.category(character) in ("Cc", "Cf", "Cs", "Co", "Cn", "Zl", "Zp")
 
 
 def pieces_of(value: object) -> list[tuple[str, bool]]:
@@ -24,9 +19,3 @@ def pieces_of(value: object) -> list[tuple[str, bool]]:
 def title_of(value: object) -> str:
     """The text of a title, which has no markup: invisible characters are left out."""
     return "".join(one for one in str(value)[:200] if not is_sign(one))
-
-
-def field_of(value: object) -> str:
-    """A field of a line. A character that would end it is written as a number."""
-    return "-" if value in (None, "") else "".join(
-        f"\\x{ord(one):02x}" if one == "\\" or is_sign(one) else one for one in str(value))
