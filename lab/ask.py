@@ -33,7 +33,7 @@ def given_by(words: list[str]) -> dict[str, str]:
 
 def ask(lab: sqlite3.Connection, question: str, words: list[str]) -> Iterator[str]:
     """The answer of a question by name, or of SQL: a line with the names of its columns, then the rows."""
-    query = (QUESTIONS / f"{question}.sql").read_text() if question in names() else question
+    query = (QUESTIONS / f"{question}.sql").read_text("utf-8") if question in names() else question
     lab.execute("PRAGMA query_only = 1")
     try:
         cursor = lab.execute(query, given_by(words))

@@ -86,7 +86,8 @@ class Comparison:
         self.old, self.new = build_of(lab, old), build_of(lab, new)
         refuse_mix(lab, old, new)
         self.enough_before, self.enough_now = enough.of(self.old.devices), enough.of(self.new.devices)
-        self.rows = [Row(*row) for row in lab.execute((FOLDER / "compare.sql").read_text(), {"old": old, "new": new})]
+        query = (FOLDER / "compare.sql").read_text("utf-8")
+        self.rows = [Row(*row) for row in lab.execute(query, {"old": old, "new": new})]
         self.whats = {row.key: self.what(row) for row in self.rows}
 
     def rank_before(self, row: Row) -> int:

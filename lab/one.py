@@ -41,10 +41,10 @@ def version(root: pathlib.Path) -> str | None:
     """Which programs made a result: the version of a package, or the commit of the repository."""
     if PACKED:
         with contextlib.suppress(OSError):
-            return (root / "version").read_text().split("\n")[0]
+            return (root / "version").read_text("utf-8").split("\n")[0]
         return None
     asked = subprocess.run(["git", "-C", root, "describe", "--always", "--dirty", "--abbrev=12"], capture_output=True,
-                           text=True)
+                           encoding="utf-8")
     return asked.stdout.strip() or None
 
 
@@ -74,7 +74,7 @@ def viewed(words: list[str], room: pathlib.Path, seconds: float) -> tuple[int | 
             status = program.wait(seconds)
         except subprocess.TimeoutExpired:
             status = None
-    return status, told.read_text(errors="replace").strip()
+    return status, told.read_text("utf-8", errors="replace").strip()
 
 
 def result_of(root: pathlib.Path, files: list[str], options: list[str], seconds: float) -> dict:

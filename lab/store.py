@@ -53,7 +53,7 @@ def open_lab(path: str, may_make: bool = False) -> sqlite3.Connection:
             may_be_read_while_written(lab)
             lab.execute("PRAGMA synchronous=NORMAL")
             lab.execute("BEGIN IMMEDIATE")
-            for statement in (FOLDER / "lab.sql").read_text().split(";\n"):
+            for statement in (FOLDER / "lab.sql").read_text("utf-8").split(";\n"):
                 lab.execute(statement)
             lab.execute("COMMIT")
         layout, = lab.execute("PRAGMA user_version").fetchone()

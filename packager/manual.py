@@ -198,7 +198,7 @@ class Section(NamedTuple):
 
 
 def text_of(document: str) -> str:
-    return (ROOT / f"docs/{document}.md").read_text()
+    return (ROOT / f"docs/{document}.md").read_text("utf-8")
 
 
 def begin_of(document: str) -> str:
@@ -244,7 +244,7 @@ def section_lines(section: Section) -> Iterator[str]:
 
 def help_of(program: pathlib.Path) -> str:
     """What a program says to `--help`, without what Python's argparse adds."""
-    said = subprocess.run([program, "--help"], capture_output=True, text=True, check=True).stdout
+    said = subprocess.run([program, "--help"], capture_output=True, encoding="utf-8", check=True).stdout
     if said.startswith("usage: "):
         said = said.partition("\n\n")[2].partition("\n\npositional arguments:")[0]
     return re.sub(r"^record (\[|--)", r"binder-record \1", said, flags=re.MULTILINE)

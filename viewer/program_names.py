@@ -31,12 +31,12 @@ def commit() -> str | None:
     """The commit of which the viewer is, with `.changed` after it if a file was changed since; None if that is not
     known."""
     if PACKED:
-        found = re.search(r"^commit (\w+) of .* UTC( and changes .*)?$", (FOLDER.parent / "version").read_text(),
+        found = re.search(r"^commit (\w+) of .* UTC( and changes .*)?$", (FOLDER.parent / "version").read_text("utf-8"),
                           re.MULTILINE)
         return found[1] + (".changed" if found[2] else "") if found else None
     try:
         asked = subprocess.run(["git", "-C", FOLDER.parent, "describe", "--always", "--exclude=*", "--abbrev=40",
-                                "--dirty=.changed"], capture_output=True, text=True)
+                                "--dirty=.changed"], capture_output=True, encoding="utf-8")
     except OSError:
         return None
     return asked.stdout.strip() or None

@@ -72,7 +72,7 @@ def captures_of(words, whole):
 
 def all_cases():
     cases = []
-    for line in (CRATE / "stdin").read_text().splitlines():
+    for line in (CRATE / "stdin").read_text("utf-8").splitlines():
         words = line.split("\t")
         whole = (CRATE / "data" / words[1]).read_bytes()
         cases += [Case(line, words[1], *made) for made in captures_of(words, whole)]
@@ -95,7 +95,7 @@ def judge_lines(cases, due, fail):
             fail(f"{line}: not the answer of the second reading")
         reports = sum(status == 0 for status, _ in answers)
         wanted += [f"> {line}", f"captures {len(answers)} reports {reports}"]
-    stored = (CRATE / "stdout").read_text().splitlines()
+    stored = (CRATE / "stdout").read_text("utf-8").splitlines()
     for line in [line for line, other in zip(wanted, stored) if line != other][:1]:
         fail(f"crates/audit_changes/stdout: not '{line}'")
     if len(stored) != len(wanted):

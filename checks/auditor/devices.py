@@ -65,7 +65,7 @@ class Program(NamedTuple):
         (self.room / "capture").write_bytes(capture)
         around = runs.with_library(self.shim, DEVICE_FILE="capture", DEVICE_LOG="log", DEVICE_BYTES="given", **devices)
         answer = runs.answer([self.path, *words], timeout=60, cwd=self.room, env=around)
-        lines = (self.room / "log").read_text().splitlines()
+        lines = (self.room / "log").read_text("utf-8").splitlines()
         calls = [(name, int(answered)) for name, _, answered in map(str.split, lines)]
         return Run(answer, calls, (self.room / "given").read_bytes())
 

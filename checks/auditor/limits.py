@@ -161,7 +161,7 @@ def check_instructions(program, room, printed, fail):
     capture, counts = room / "counted.cap", room / "counts"
     write_traffic(capture, TRAFFIC)
     output_of(["valgrind", "--tool=callgrind", f"--callgrind-out-file={counts}", program, *report_by(1, 256), capture])
-    millions = int(re.search(r"^totals: (\d+)$", counts.read_text(), re.MULTILINE)[1]) / 1e6
+    millions = int(re.search(r"^totals: (\d+)$", counts.read_text("utf-8"), re.MULTILINE)[1]) / 1e6
     if printed:
         row("traffic in bytes", "million instructions", "ceiling")
         row(TRAFFIC, f"{millions:.1f}", MILLIONS)

@@ -98,7 +98,7 @@ def check_stacks(program, room, fail):
     write_traffic(capture, 2**22)
     log.touch()
     answered = run(program, room, capture, 64, 1, env=with_library(shim, STACKS_LOG=log))
-    sizes = collections.Counter(map(int, log.read_text().splitlines()))
+    sizes = collections.Counter(map(int, log.read_text("utf-8").splitlines()))
     if answered.answer[0] != 0 or not sizes or max(sizes) > STACK * 1024:
         fail(f"stacks of threads: status {answered.answer[0]}, {dict(sizes)}")
     print(f"threads of a run by 64 workers: {sum(sizes.values())}, the largest stack {max(sizes, default=0)} bytes\n")

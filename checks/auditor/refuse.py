@@ -139,11 +139,11 @@ class Sweep:
 
     def run(self, growths):
         """A run in which these growths are refused."""
-        self.log.write_text("")
+        self.log.write_text("", "utf-8")
         around = with_library(self.shim, REFUSE_LOG=self.log, **growths)
         with open(self.given, "rb") as given:
             answered = answer(self.words, timeout=60, executable=self.program, cwd=CASES, env=around, stdin=given)
-        lines = self.log.read_text().splitlines()
+        lines = self.log.read_text("utf-8").splitlines()
         started = lines.count("thread")
         return Run(answered, len(lines) - started, started)
 

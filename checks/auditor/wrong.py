@@ -70,7 +70,7 @@ class Verdict(NamedTuple):
 
 
 def read_edit(path: pathlib.Path) -> Edit:
-    file, old, pairs, text = "", "", [], path.read_text()
+    file, old, pairs, text = "", "", [], path.read_text("utf-8")
     for line in text.split("\n"):
         word, _, rest = line.partition(":")
         if word == "file":
@@ -98,7 +98,7 @@ def applied(edit: Edit, texts: dict[str, str], folder: pathlib.Path) -> tuple[di
     there exactly once."""
     made, changed, homes = dict(texts), set(), homes_of(folder)
     for file, old, new in edit.pairs:
-        text = made[file] if file in made else (folder / file).read_text() if (folder / file).is_file() else ""
+        text = made[file] if file in made else (folder / file).read_text("utf-8") if (folder / file).is_file() else ""
         if text.count(old) != 1:
             return None
         changed |= function_at(file, text, text.index(old) + len(old), homes)
@@ -114,7 +114,7 @@ def homes_of(folder: pathlib.Path) -> dict[str, list[str]]:
     """For each type of a crate the modules that it is in."""
     homes = {}
     for path in sorted((folder / "src").rglob("*.rt")):
-        for it in ITEM.finditer(path.read_text()):
+        for it in ITEM.finditer(path.read_text("utf-8")):
             if it[2] in ("struct", "enum") and not it[1]:
                 homes.setdefault(it[3], modules_of(path.relative_to(folder).as_posix()))
     return homes
@@ -207,7 +207,7 @@ def lines_of(function: str, texts: dict[str, str], homes: dict[str, list[str]]) 
 def sources_of(folder: pathlib.Path, texts: dict[str, str]) -> dict[str, str]:
     """Each file of a crate's src/, the files of an edit first, with the edit."""
     paths = [it.relative_to(folder).as_posix() for it in sorted((folder / "src").rglob("*.rt"))]
-    return texts | {it: (folder / it).read_text() for it in paths if it not in texts}
+    return texts | {it: (folder / it).read_text("utf-8") for it in paths if it not in texts}
 
 
 def stacked(edits: list[Edit], folder: pathlib.Path) -> tuple[list[tuple[Edit, set[str]]], list[Edit], dict[str, str]]:
@@ -229,20 +229,20 @@ def check(crate: str, copy: pathlib.Path, texts: dict[str, str], names: set[str]
     """What `rt check` says of the copied crate with these files: of these functions, or of all if there are none, or if
     it has another name for one of them."""
     folder = copy / "crates" / crate
-    were = {file: (folder / file).read_text() for file in texts}
+    were = {file: (folder / file).read_text("utf-8") for file in texts}
     for file, text in texts.items():
-        (folder / file).write_text(text)
+        (folder / file).write_text(text, "utf-8")
     said = checked(folder, [word for name in sorted(names) for word in ("--only", name)])
     if names and not FN.search(said):
         said = checked(folder, [])
     for file, text in were.items():
-        (folder / file).write_text(text)
+        (folder / file).write_text(text, "utf-8")
     return said
 
 
 def checked(folder: pathlib.Path, words: list[str]) -> str:
     ended = subprocess.run(["rt", "check", *words], cwd=folder, stdin=subprocess.DEVNULL, stdout=subprocess.PIPE,
-                           stderr=subprocess.STDOUT, text=True, errors="replace")
+                           stderr=subprocess.STDOUT, encoding="utf-8", errors="replace")
     return ended.stdout
 
 
@@ -307,7 +307,7 @@ def fill(edit: Edit, goals: list[Goal]) -> Goal:
         is_of_result = goal.name.startswith(("returns", "invariant_of-result"))
         return 0 if is_of_result else 1 + ("-smaller" in goal.name)
     goal = min(goals, key=rank)
-    edit.path.write_text(f"# goal: {goal}\n{edit.path.read_text()}")
+    edit.path.write_text(f"# goal: {goal}\n{edit.path.read_text('utf-8')}", "utf-8")
     return goal
 
 

@@ -55,7 +55,7 @@ def built_programs(room: pathlib.Path, auditor: pathlib.Path) -> pathlib.Path:
     build_programs(ROOT)
     made = folder_of(room / "built", auditor)
     (made / "crates/run").unlink()
-    (made / "crates/run").write_text("#!/bin/sh\n")
+    (made / "crates/run").write_text("#!/bin/sh\n", "utf-8")
     (made / "crates/run").chmod(0o755)
     return made
 

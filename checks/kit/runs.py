@@ -48,7 +48,7 @@ def answer(words, timeout=SECONDS, **options):
 def output_of(words, **options):
     """What a command writes, to both streams; the check ends with what it says if it fails."""
     ended = subprocess.run(list(map(str, words)), stdin=subprocess.DEVNULL, stdout=subprocess.PIPE,
-                           stderr=subprocess.STDOUT, text=True, **options)
+                           stderr=subprocess.STDOUT, encoding="utf-8", **options)
     if ended.returncode:
         sys.exit(f"{words[0]} ended with status {ended.returncode}: {ended.stdout[-2000:]}")
     return ended.stdout

@@ -811,7 +811,7 @@ def reading(capture, first_fault=False):
 
 def cases(folder):
     """The cases of the folder, each with its line and the stored answer."""
-    for case in (folder / "stdout").read_text().removeprefix(">").split("\n>"):
+    for case in (folder / "stdout").read_text("utf-8").removeprefix(">").split("\n>"):
         line, _, answer = case.partition("\n")
         yield line.removeprefix(" "), answer.rstrip("\n").split("\n")
 

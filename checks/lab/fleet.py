@@ -57,7 +57,7 @@ PLANTED, GROWING = "hello-answers", "replies"
 
 
 def fleet(folder: pathlib.Path, *words: object, **options: object) -> tuple[int, str, str]:
-    return answer([folder / "fleet", *map(str, words)], timeout=600, text=True, **options)
+    return answer([folder / "fleet", *map(str, words)], timeout=600, encoding="utf-8", **options)
 
 
 def stored(name: str) -> list[object]:
@@ -68,7 +68,7 @@ def made_of(folder: pathlib.Path, room: pathlib.Path, name: str, *more: object) 
     """The result of a stored capture."""
     to = room / f"{name}.json"
     fleet(folder, "one", *stored(name), "--build", "b1", "--device", "d1", "-o", to, *more)
-    return json.loads(to.read_text())
+    return json.loads(to.read_text("utf-8"))
 
 
 # ---- results
@@ -88,7 +88,7 @@ def check_results(folder: pathlib.Path, room: pathlib.Path, fail: Fail) -> None:
     for number, (how, words, more, begin) in enumerate(said):
         to = room / f"said-{number}.json"
         status, _, told = fleet(folder, "one", *words, "--build", "b1", "--device", "d1", "-o", to, *more)
-        capture = json.loads(to.read_text())["capture"] if to.exists() else {}
+        capture = json.loads(to.read_text("utf-8"))["capture"] if to.exists() else {}
         compare(f"a result that says {how}", (status, str(capture.get(how)).startswith(begin), bool(told)),
                 (0, True, True), fail)
     compare("no file", fleet(folder, "one", "none.cap", "--build", "b", "--device", "d", "-o", room / "n.json")[0], 4,
@@ -106,7 +106,7 @@ def check_killed(folder: pathlib.Path, room: pathlib.Path, fail: Fail) -> None:
     for name in ("viewer", "lab"):
         (fake / name).symlink_to(ROOT / name)
     shutil.copy(ROOT / "fleet", fake)
-    (fake / "view").write_text("#!/bin/sh\ntouch \"$TMPDIR/big\"\n[ -e go ] || sleep 60\nkill -9 $$\n")
+    (fake / "view").write_text("#!/bin/sh\ntouch \"$TMPDIR/big\"\n[ -e go ] || sleep 60\nkill -9 $$\n", "utf-8")
     (fake / "view").chmod(0o755)
     words = [fake / "fleet", "one", *stored("leaks"), "--build", "b", "--device", "d", "-o", room / "killed.json"]
     options = {"cwd": room, "env": {**os.environ, "TMPDIR": str(scratch)}, "stderr": subprocess.DEVNULL}
@@ -120,7 +120,7 @@ def check_killed(folder: pathlib.Path, room: pathlib.Path, fail: Fail) -> None:
     compare("a killed job: scratch, result", left, (1, False), fail)
     (room / "go").touch()
     subprocess.run(list(map(str, words)), **options)
-    why = json.loads((room / "killed.json").read_text())["capture"]["failed"]
+    why = json.loads((room / "killed.json").read_text("utf-8"))["capture"]["failed"]
     compare("a killed viewer", why, "killed by signal 9", fail)
     compare("after a killed job: scratch", list(scratch.iterdir()), [], fail)
 
@@ -188,7 +188,7 @@ def write_results(room: pathlib.Path, made: Iterator[dict]) -> int:
     for number, one in enumerate(made):
         path = room / one["capture"]["build"] / one["capture"]["device"] / f"{number}.json"
         path.parent.mkdir(parents=True, exist_ok=True)
-        path.write_text(result.text_of(one))
+        path.write_text(result.text_of(one), "utf-8")
     return number + 1
 
 
@@ -246,10 +246,11 @@ def check_compared(folder: pathlib.Path, room: pathlib.Path, fail: Fail) -> str:
     key = next((line.split("\t")[-1] for line in lines if line.startswith("new") and "IHello code" in line), "")
     compare("malformed and failed are told apart", [line.count("malformed, ") for line in lines[-2:]], [1, 1], fail)
     news = [line.split("\t")[-1] for line in lines if line.startswith("new\t")]
-    (room / "known").write_text("# known\n\n" + "".join(f"{it}\tticket 7\n" for it in news) + "0" * 16 + " mended\n")
+    (room / "known").write_text("# known\n\n" + "".join(f"{it}\tticket 7\n" for it in news) + "0" * 16 + " mended\n",
+                                "utf-8")
     status, out, _ = fleet(folder, "compare", lab, "b2", "b3", "--known", room / "known")
     compare("known defects", (status, out.splitlines()[-1]), (0, f"known\t{'0' * 16}\tdoes not occur\tmended"), fail)
-    (room / "wrong").write_text("no key\n")
+    (room / "wrong").write_text("no key\n", "utf-8")
     compare("no known defects", fleet(folder, "compare", lab, "b2", "b3", "--known", room / "wrong")[0], 4, fail)
     compare("a build that is not there", fleet(folder, "compare", lab, "b2", "b9")[0], 1, fail)
     return key
@@ -262,7 +263,7 @@ def check_refused(folder: pathlib.Path, room: pathlib.Path, of: dict[str, dict],
         some = [session_of(of, list(COMMON), build, "d", at, 1) for at, build in enumerate(("old", "new"))]
         some[1]["capture"].update(change)
         for at, one in enumerate(some):
-            (room / f"{name}-{at}.json").write_text(result.text_of(one))
+            (room / f"{name}-{at}.json").write_text(result.text_of(one), "utf-8")
         fleet(folder, "load", lab, room / f"{name}-0.json", room / f"{name}-1.json")
         status, out, told = fleet(folder, "compare", lab, "old", "new")
         compare(f"a mix of {name}", (status, out, told.count("\n")), (1, "", 1), fail)
@@ -277,7 +278,7 @@ def check_not_met(folder: pathlib.Path, room: pathlib.Path, of: dict[str, dict],
             if not is_called:
                 made["talk"] = [it for it in made["talk"] if not it["caller"].startswith(PLANTED)]
             files.append(room / f"met-{build}-{device}.json")
-            files[-1].write_text(result.text_of(made))
+            files[-1].write_text(result.text_of(made), "utf-8")
     fleet(folder, "load", lab, *files)
     for build, due in (("called", set()), ("new", {"IHello code 1"})):
         _, lines, _ = fleet(folder, "compare", lab, "old", build, "--all")
@@ -294,7 +295,7 @@ def check_better(folder: pathlib.Path, room: pathlib.Path, of: dict[str, dict], 
     bad = {"capture": {**first["capture"], "build": "bad", "made": 3000.0, "failed": "why"}, "found": [], "talk": [],
            "held": []}
     for at, one in enumerate((first, later, bad)):
-        (room / f"better-{at}.json").write_text(result.text_of(one))
+        (room / f"better-{at}.json").write_text(result.text_of(one), "utf-8")
     for order in ((0, 1, 2), (2, 1, 0), (1, 2, 0)):
         lab = room / f"better{''.join(map(str, order))}.db"
         told = [fleet(folder, "load", lab, room / f"better-{at}.json")[2] for at in order]
@@ -302,7 +303,7 @@ def check_better(folder: pathlib.Path, room: pathlib.Path, of: dict[str, dict], 
         database = sqlite3.connect(lab)
         compare(f"results of one capture, {order}", [database.execute("SELECT build FROM capture").fetchall(), database
                 .execute("SELECT count(DISTINCT capture) FROM found").fetchone()], [[("later",)], (1,)], fail)
-    (room / "no.json").write_text("{}")
+    (room / "no.json").write_text("{}", "utf-8")
     status, out, told = fleet(folder, "load", room / "lab.db", room / "no.json")
     compare("what is no result", (status, out, told.count("\n")), (4, "0 added, 0 there already\n", 1), fail)
 

@@ -23,13 +23,13 @@ def recorded(folder: pathlib.Path, room: pathlib.Path, capture: pathlib.Path, si
     """The defects of a capture."""
     made = room / "keys.db"
     made.unlink(missing_ok=True)
-    answer([folder / "view", capture, "--side", side, "--groups", "--database", made], text=True)
+    answer([folder / "view", capture, "--side", side, "--groups", "--database", made], encoding="utf-8")
     return defects_of(kept_database(str(made)))
 
 
 def defects(folder: pathlib.Path, room: pathlib.Path, capture: bytes, side: str) -> dict[str, Defect]:
     (room / "keys.cap").write_bytes(capture)
-    (room / "keys.side").write_text(side, errors="surrogateescape")
+    (room / "keys.side").write_text(side, "utf-8", errors="surrogateescape")
     return recorded(folder, room, room / "keys.cap", room / "keys.side")
 
 

@@ -57,7 +57,7 @@ def make_captures(lab: pathlib.Path) -> None:
         at = lab / build / device / f"s{number}"
         at.parent.mkdir(parents=True, exist_ok=True)
         at.with_name(f"{at.name}-1.cap").write_bytes(s.capture())
-        at.with_name(f"{at.name}.side").write_text(s.side())
+        at.with_name(f"{at.name}.side").write_text(s.side(), "utf-8")
 
 
 def check_results(what: str, lab: pathlib.Path, fail: Fail) -> None:
@@ -81,7 +81,7 @@ def in_session(leader: int) -> list[int]:
     found = []
     for path in pathlib.Path("/proc").glob("[0-9]*/stat"):
         with contextlib.suppress(OSError):
-            if int(path.read_text().rpartition(")")[2].split()[3]) == leader:
+            if int(path.read_text("utf-8").rpartition(")")[2].split()[3]) == leader:
                 found.append(int(path.parent.name))
     return found
 
@@ -119,7 +119,7 @@ class Cluster:
     def __init__(self, room: pathlib.Path):
         self.room = room
         self.conf = room / "slurm.conf"
-        self.conf.write_text(CONFIGURATION.format(host=socket.gethostname().partition(".")[0], room=room))
+        self.conf.write_text(CONFIGURATION.format(host=socket.gethostname().partition(".")[0], room=room), "utf-8")
         (room / "state").mkdir()
         (room / "munge.key-file").write_bytes(random.randbytes(1024))
         (room / "munge.key-file").chmod(0o600)
@@ -139,13 +139,13 @@ class Cluster:
         self.wait(lambda: self.asked("sinfo", "-h", "-N", "-o", "%N %t").split("\n")[:2] == ["n1 idle", "n2 idle"])
 
     def asked(self, *words: object) -> str:
-        return subprocess.run(list(map(str, words)), env=self.environment, capture_output=True, text=True).stdout
+        return subprocess.run(list(map(str, words)), env=self.environment, capture_output=True, encoding="utf-8").stdout
 
     def wait(self, until: Callable[[], bool], seconds: float = 60) -> None:
         end = time.monotonic() + seconds
         while not until():
             if time.monotonic() > end:
-                raise SystemExit(f"checks/fleet: the cluster: {(self.room / 'said').read_text()[-2000:]}")
+                raise SystemExit(f"checks/fleet: the cluster: {(self.room / 'said').read_text('utf-8')[-2000:]}")
             time.sleep(0.2)
 
     def processes(self, *texts: str) -> list[int]:

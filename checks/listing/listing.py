@@ -34,7 +34,7 @@ STORED = CHECKS / "listing/stored"
 
 def answer(program: pathlib.Path, *words: object) -> tuple[int, list[str]]:
     """The status of a run at the top of the repository, and its lines; those of standard error come last."""
-    status, out, err = runs.answer([program, *map(str, words)], timeout=120, cwd=ROOT, text=True)
+    status, out, err = runs.answer([program, *map(str, words)], timeout=120, cwd=ROOT, encoding="utf-8")
     return status, out.splitlines() + err.splitlines()
 
 
@@ -50,7 +50,7 @@ def check_alone(table: str, capture: pathlib.Path, folder: pathlib.Path, fail: F
 def check_stored(fail: Fail) -> None:
     """Each stored listing. Its first line has the command, its last line the status."""
     for stored in sorted(STORED.iterdir()):
-        words, *lines, status = stored.read_text().splitlines()
+        words, *lines, status = stored.read_text("utf-8").splitlines()
         code, came = answer(LISTING, *words.split()[1:])
         for number, (one, other) in enumerate(zip(came, lines), 2):
             compare(f"stored/{stored.name}, line {number}", one, other, fail)
@@ -247,7 +247,7 @@ def check_side(fail: Fail) -> None:
     """After each line of the stored captures: the time, the ids and the names that the side list has for its frame."""
     for capture in sorted(DRIVER.glob("*/capture-1.cap")):
         side = capture.with_name("capture.side")
-        lines = side.read_text(errors="surrogateescape").splitlines()
+        lines = side.read_text("utf-8", errors="surrogateescape").splitlines()
         if "after=" in "".join(line for line in lines if " name pid=" in line):
             continue
         told, people, names = {}, {}, {}
@@ -272,7 +272,7 @@ def check_side_begins(room: pathlib.Path, fail: Fail) -> None:
     refused = 4, ["listing: the side list is not of version 1 or 2"]
     for begin, due in (("binder side list 1\n", (0, 2)), ("binder side list 2\n", (0, 2)), ("binder side list 3\n", None),
                        ("binder side list 2", None), ("binder side list 22\n", None), ("", None), ("5 frame 1\n", None)):
-        side.write_text(begin + "7 frame 1\n" * begin.endswith("\n"))
+        side.write_text(begin + "7 frame 1\n" * begin.endswith("\n"), "utf-8")
         status, lines = answer(LISTING, capture, "--side", side)
         if due is None:
             compare(f"side list that begins {begin!r}", (status, lines), refused, fail)
@@ -282,7 +282,7 @@ def check_side_begins(room: pathlib.Path, fail: Fail) -> None:
 
 def check_calls(capture: str, lines: list[list[str]], fail: Fail) -> None:
     """The calls of the stored report: the records of the thread from the opener to the closer, or to the end."""
-    report = (ROOT / capture).with_name("report.txt").read_text().splitlines()
+    report = (ROOT / capture).with_name("report.txt").read_text("utf-8").splitlines()
     rows = [line.split() for line in report if re.fullmatch(r"  \d+ \d+ \d+ \d+ \d+ \d+ [a-z]+ [-\d]+", line)]
     if not rows:
         fail(f"{capture}: no row of a call in its report")
@@ -388,7 +388,7 @@ def check_services(room: pathlib.Path, fail: Fail) -> None:
 
 def check_columns(fail: Fail) -> None:
     """The rows that listing_tables makes have the columns of the raw tables in schema.sql, by name and in order."""
-    made = "".join(path.read_text() for path in (ROOT / "crates/listing_tables/src").glob("*.rt"))
+    made = "".join(path.read_text("utf-8") for path in (ROOT / "crates/listing_tables/src").glob("*.rt"))
     compare("columns", {tuple(re.findall(r"(\w+): ", row)) for row in re.findall(r"columns! \{(.*?)\}", made, re.DOTALL)},
             set(map(tuple, columns_of_tables().values())), fail)
 
@@ -400,7 +400,7 @@ def check_tables(room: pathlib.Path, fail: Fail) -> None:
         folder.mkdir()
         compare(f"--tables of {capture}", answer(LISTING, "--tables", folder, capture), (0, []), fail)
         tables = {path.stem: list(rows_of(path)) for path in folder.iterdir()}
-        report = capture.with_name("report.txt").read_text().splitlines()
+        report = capture.with_name("report.txt").read_text("utf-8").splitlines()
         totals = report[1].split()
         compare(f"{capture}, capture", [tables["capture"][0].get(name) for name in ("frames", "records", "missing")],
                 [int(totals[k]) for k in (1, 3, 7)], fail)
@@ -553,7 +553,7 @@ def check_words(fail: Fail) -> None:
     compare("the script", answer(ROOT / "listing", capture), answer(LISTING, capture), fail)
     compare("a place without a record", answer(LISTING, capture, "--at", 20)[0], 1, fail)
     compare("a file that is not there", answer(LISTING, "no-such.cap"), (4, ["fault Open"]), fail)
-    with open("/dev/full", "w") as full:
+    with open("/dev/full", "w", encoding="utf-8") as full:
         ended = runs.answer([LISTING, capture], cwd=ROOT, stdout=full)
     compare("a full device", ended, (4, None, b"fault Write\n"), fail)
 

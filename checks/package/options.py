@@ -37,7 +37,7 @@ def compare_options(what: str, came: set[str], due: set[str], fail: Fail) -> Non
 def programs(folder: pathlib.Path) -> pathlib.Path:
     """The folder, with the programs by the names of a package."""
     linked(folder, {name: program for name, program in PACKAGED.items() if name != "binder-record"})
-    (folder / "words.c").write_text(ONLY_WORDS)
+    (folder / "words.c").write_text(ONLY_WORDS, "utf-8")
     output_of(["cc", "-std=gnu11", f"-I{RECORDER}", "-o", folder / "binder-record", folder / "words.c",
                RECORDER / "options.c", RECORDER / "common.c"])
     return folder
@@ -75,7 +75,7 @@ def offered_by_bash(program: str, words: str) -> set[str]:
 
 
 def offered_by_zsh(program: str) -> set[str]:
-    text = (PACKAGER / "completions.zsh").read_text()
+    text = (PACKAGER / "completions.zsh").read_text("utf-8")
     part = re.search(rf"^  {program}\)\n(.*?)^    ;;", text, re.MULTILINE | re.DOTALL)
     is_there = program in text.partition("\n")[0].split()  # in the line #compdef
     return options_in(part[1] if part and is_there else "")

@@ -197,7 +197,7 @@ def make_initramfs(system: pathlib.Path, room: pathlib.Path) -> pathlib.Path:
     left_out = "gbinder", "witness"
     sources = [it for it in sorted((CHECKS / "recorder/scenarios").glob("*.c")) if it.stem not in left_out]
     output_of(["cc", "-O2", "-static", "-o", system / "scenarios", *sources, "-lpthread"])
-    (system / "init").write_text(INIT)
+    (system / "init").write_text(INIT, "utf-8")
     (system / "init").chmod(0o755)
     for name in ("tmp", "var/cache", "var/lib/apt", "usr/share/locale"):  # most of it, and not needed
         shutil.rmtree(system / name)
@@ -214,7 +214,7 @@ def recorded(system: pathlib.Path, room: pathlib.Path) -> pathlib.Path:
     # A guest that gets little time fails the timer check.
     words += ["-append", "console=ttyS0 no_timer_check panic=-1 loglevel=0 rdinit=/init"]
     said = subprocess.run([*words, "-kernel", kernel, "-initrd", room / "initramfs"], stdin=subprocess.DEVNULL,
-                          capture_output=True, text=True, errors="replace").stdout
+                          capture_output=True, encoding="utf-8", errors="replace").stdout
     (room / "recorded").mkdir()
     if packed := re.search(r"<packed>(.*)</packed>", said, re.DOTALL):
         subprocess.run(["tar", "-x", "-C", room / "recorded"], input=base64.b64decode(packed[1]), check=True)
@@ -226,15 +226,15 @@ def check_guest(system: pathlib.Path, room: pathlib.Path, fail: Fail) -> None:
     if not (folder / "report.txt").exists():
         fail("the guest: nothing came")
         return
-    told = (folder / "record.err").read_text()
+    told = (folder / "record.err").read_text("utf-8")
     if not re.fullmatch(r"record: \d+ frames, 0 lost; 1 file, \d+ bytes; next: /usr/bin/binder-audit report capture-1"
                         r".cap\n", told):
         fail(f"the guest: binder-record: {told}")
-    compare("the guest: status of binder-record", (folder / "record.status").read_text(), "0\n", fail)
+    compare("the guest: status of binder-record", (folder / "record.status").read_text("utf-8"), "0\n", fail)
     report = output_of([ROOT / "audit", "report", "capture-1.cap"], cwd=folder)
-    compare("the guest: report", (folder / "report.txt").read_text(), report, fail)
+    compare("the guest: report", (folder / "report.txt").read_text("utf-8"), report, fail)
     groups = output_of([ROOT / "view", "capture-1.cap", "--side", "capture.side", "--groups"], cwd=folder)
-    compare("the guest: groups", (folder / "groups.txt").read_text(), groups, fail)
+    compare("the guest: groups", (folder / "groups.txt").read_text("utf-8"), groups, fail)
 
 
 # ---- the manual
@@ -262,13 +262,13 @@ def check_pages(system: pathlib.Path, fail: Fail) -> None:
     for page in manual.PAGES:
         path = system / f"usr/share/man/man{page.section}/{page.name}.{page.section}.gz"
         said = subprocess.run(f"zcat {shlex.quote(str(path))} | mandoc -T lint", shell=True, capture_output=True,
-                              text=True)
+                              encoding="utf-8")
         compare(f"mandoc about {page.name}", said.stdout + said.stderr, "", fail)
 
 
 def check_lint(package: pathlib.Path, fail: Fail) -> None:
     said = subprocess.run(["lintian", "--allow-root", "--display-level", ">=warning", package], capture_output=True,
-                          text=True)
+                          encoding="utf-8")
     compare("lintian", said.stdout + said.stderr, "", fail)
 
 

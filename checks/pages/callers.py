@@ -15,7 +15,8 @@ LEAST, MOST = 5, 10
 
 def users() -> dict[str, set[str]]:
     """By crates.txt, the crates that use each crate."""
-    lines = [line.partition(":") for line in (ROOT / "crates.txt").read_text().splitlines() if not line.startswith("#")]
+    text = (ROOT / "crates.txt").read_text("utf-8")
+    lines = [line.partition(":") for line in text.splitlines() if not line.startswith("#")]
     return {name: {user for user, _, used in lines if name in used.split()} for name, _, _ in lines}
 
 
@@ -26,7 +27,7 @@ def plain(text: str) -> list[str]:
 
 def stands_in(code: str, file: pathlib.Path) -> bool:
     """Whether these lines stand in a file, one after another."""
-    due, there = plain(code), plain(file.read_text())
+    due, there = plain(code), plain(file.read_text("utf-8"))
     return any(there[at:at + len(due)] == due for at in range(len(there)))
 
 
@@ -34,7 +35,7 @@ def wrong(page: pathlib.Path) -> Iterator[tuple[int, str]]:
     """What is wrong with the caller of a crate's page, with its line."""
     if page.parent.parent != ROOT / "crates":
         return
-    crate, beginning = page.parent.name, page.read_text().partition("\n## ")[0]
+    crate, beginning = page.parent.name, page.read_text("utf-8").partition("\n## ")[0]
     found = BLOCK.search(beginning)
     if not found:
         yield 1, "the page does not begin with a caller: a link to a file.rt, and then ```rust"

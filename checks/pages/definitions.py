@@ -178,7 +178,7 @@ class Nowhere(Exception):
 def source(crate, file):
     """The text of a file in specs/ or src/ of a crate; empty if there is none."""
     path = ROOT / "crates" / crate / ("src" if file.endswith(".rt") else "specs") / file
-    return path.read_text() if path.exists() else ""
+    return path.read_text("utf-8") if path.exists() else ""
 
 
 def plain(comment):
@@ -275,7 +275,7 @@ def types_of(crate):
     """The types that src/ of a crate declares, each with its file."""
     there = ROOT / "crates" / crate / "src"
     return {name: str(file.relative_to(there)) for file in sorted(there.glob("**/*.rt"))
-            for name in re.findall(r"^pub (?:struct|enum|type) (\w+)", file.read_text(), re.MULTILINE)}
+            for name in re.findall(r"^pub (?:struct|enum|type) (\w+)", file.read_text("utf-8"), re.MULTILINE)}
 
 
 def follow(path, name):
@@ -524,7 +524,7 @@ def stale():
     except Nowhere as error:
         yield 1, str(error)
         return
-    there, due = (PAGE.read_text() if PAGE.exists() else "").splitlines(), made.splitlines()
+    there, due = (PAGE.read_text("utf-8") if PAGE.exists() else "").splitlines(), made.splitlines()
     for number, (line, other) in enumerate(zip_longest(there, due), 1):
         if line != other:
             yield number, "checks/run definitions writes " + ("no more" if other is None else repr(other))

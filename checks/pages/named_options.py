@@ -35,13 +35,13 @@ class Options:
 @functools.cache
 def sources_of_checks() -> dict[str, str]:
     """The sources of each check, by the name of its file."""
-    return {file.stem: file.read_text() for file in (ROOT / "checks").rglob("*.*")
+    return {file.stem: file.read_text("utf-8") for file in (ROOT / "checks").rglob("*.*")
             if file.suffix in (".py", ".sh") and file.parent.parent == ROOT / "checks"}
 
 
 def wrong(page: pathlib.Path, options: Options) -> Iterator[tuple[int, str]]:
     """The options of a page that its programs do not have, each with its line."""
-    text = page.read_text()
+    text = page.read_text("utf-8")
     for found in CODE.finditer(text):
         code, number = found[1] or found[2], text.count("\n", 0, found.start()) + 1
         if of_check := OF_CHECK.fullmatch(code):

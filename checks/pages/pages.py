@@ -48,7 +48,7 @@ def pages():
 def anchors(page):
     """What a link can have after #: the headings in lower case, without signs, with - for each space."""
     found = set()
-    for heading in re.findall(r"^#+ (.*)$", page.read_text(), re.MULTILINE):
+    for heading in re.findall(r"^#+ (.*)$", page.read_text("utf-8"), re.MULTILINE):
         plain = re.sub(r"[^\w\- ]", "", heading.strip().lower()).replace(" ", "-")
         # The second heading of the same text gets a number.
         found.add(plain if plain not in found else next(
@@ -58,7 +58,7 @@ def anchors(page):
 
 def wrong_links(page):
     """The links of a page that lead nowhere, each with its line. A link can span two lines."""
-    text = page.read_text()
+    text = page.read_text("utf-8")
     for link in re.finditer(r"\]\(([^)\s]+)\)", text):
         target = link.group(1)
         if re.match(r"[a-z]+:", target):
@@ -72,7 +72,7 @@ def wrong_links(page):
 def blocks(page):
     """The indented blocks of a page: the number of the first line, the lines, and the heading above them."""
     block, heading = [], ""
-    for number, line in enumerate([*page.read_text().splitlines(), ""], 1):
+    for number, line in enumerate([*page.read_text("utf-8").splitlines(), ""], 1):
         if line.startswith("    "):
             block.append(line[4:])
         else:
@@ -119,7 +119,7 @@ def with_sqlite3(folder):
     if shutil.which("sqlite3"):
         return False
     (folder / "bin").mkdir()
-    (folder / "bin/sqlite3").write_text(SQLITE3)
+    (folder / "bin/sqlite3").write_text(SQLITE3, "utf-8")
     (folder / "bin/sqlite3").chmod(0o755)
     return True
 
@@ -132,7 +132,7 @@ def wrong_answers(page, program, room):
     for number, block, _ in blocks(page):
         for at, command, due in commands_in(block):
             _, said, _ = answer(["bash", "-c", command], timeout=LONGEST, cwd=folder, env={**os.environ, "PATH": path},
-                                text=True, stderr=subprocess.STDOUT)
+                                encoding="utf-8", stderr=subprocess.STDOUT)
             if said.splitlines() != due:
                 yield number + at, f"it prints {said!r}"
 
@@ -182,9 +182,9 @@ def wrong_changes(page, program):
 def wrong_bodies(page):
     """The wrong bodies in a crate's page that do not exist, each with its line; those that the page leaves out; and
     those that name no goal."""
-    edits = {it.stem: it.read_text() for it in page.parent.glob("must-fail/*.edit")}
+    edits = {it.stem: it.read_text("utf-8") for it in page.parent.glob("must-fail/*.edit")}
     there, told, section = edits.keys(), set(), ""
-    for number, line in enumerate(page.read_text().splitlines(), 1):
+    for number, line in enumerate(page.read_text("utf-8").splitlines(), 1):
         section = line if line.startswith("## ") else section
         for name in re.findall(r"`([a-z0-9]+(?:-[a-z0-9]+)+)`", line.split(" | ")[0]) if line.startswith("| `") else ():
             if section.startswith("## Wrong bodies"):
@@ -209,7 +209,7 @@ def judge(given, room, _):
     for _, _, heading in blocks(ROOT / "samples/README.md"):
         if " and " in heading:
             asked[heading] = [ROOT / "samples" / name for name in heading.split(" and ")]
-    answers = {name: answer([program, "report", *parts], text=True)[1] for name, parts in asked.items()}
+    answers = {name: answer([program, "report", *parts], encoding="utf-8")[1] for name, parts in asked.items()}
     reports = {name: text for name, text in answers.items() if text.startswith(TITLE)}
     options = named_options.Options(room / "options")
     for page in pages():

@@ -47,7 +47,8 @@ def wrong_bodies(text: str) -> Iterator[tuple[int, str]]:
 @functools.cache
 def words_of_sources() -> frozenset[str]:
     return frozenset(word for crate in CRATES.iterdir() for folder in ("src", "specs")
-                     for file in (crate / folder).rglob("*.*t*") for word in re.findall(r"\w+", file.read_text()))
+                     for file in (crate / folder).rglob("*.*t*")
+                     for word in re.findall(r"\w+", file.read_text("utf-8")))
 
 
 def wrong_names(text: str) -> Iterator[tuple[int, str]]:
@@ -63,7 +64,7 @@ def may_wait() -> Iterator[str]:
     """The files outside tests that name a handle by which a function may wait, or abort the process."""
     for file in CRATES.glob("*/src/**/*.rt"):
         if not file.relative_to(CRATES).parts[0].endswith("_tests") and re.search(
-                r"\b(Wait|Abort)\b", file.read_text()):
+                r"\b(Wait|Abort)\b", file.read_text("utf-8")):
             yield str(file.relative_to(ROOT))
 
 
@@ -72,14 +73,14 @@ def may_wait() -> Iterator[str]:
 
 def lines_of(folders: Iterator[pathlib.Path]) -> int:
     """The lines of code, definitions and proofs in these folders."""
-    return sum(len(file.read_text().splitlines()) for folder in folders for file in folder.rglob("*")
+    return sum(len(file.read_text("utf-8").splitlines()) for folder in folders for file in folder.rglob("*")
                if file.suffix in (".rt", ".antt"))
 
 
 def below(crate: str) -> set[str]:
     """A crate, and all crates of the repository that it is made of."""
-    used = {name: uses.split() for name, _, uses in (
-        line.partition(":") for line in (ROOT / "crates.txt").read_text().splitlines() if not line.startswith("#"))}
+    lines = (ROOT / "crates.txt").read_text("utf-8").splitlines()
+    used = {name: uses.split() for name, _, uses in (line.partition(":") for line in lines if not line.startswith("#"))}
     found = {crate}
     while more := {it for name in found for it in used[name] if it in used} - found:
         found |= more
@@ -89,7 +90,7 @@ def below(crate: str) -> set[str]:
 def toolchain() -> pathlib.Path | None:
     """Its folder, if it is there."""
     try:
-        said = subprocess.run(["rt", "doc"], capture_output=True, text=True, check=True).stdout.strip()
+        said = subprocess.run(["rt", "doc"], capture_output=True, encoding="utf-8", check=True).stdout.strip()
     except (OSError, subprocess.CalledProcessError):
         return None
     return pathlib.Path(said).parent
@@ -100,7 +101,7 @@ def sizes(text: str) -> Iterator[tuple[str, int]]:
     auditor = below("binder_audit")
     for what, folder in (("code", "src"), ("definitions", "specs"), ("proofs", "proofs")):
         yield f"{what} of `./audit`", lines_of(CRATES / name / folder for name in auditor)
-    yield "definitions of the headline", len((ROOT / "docs/DEFINITIONS.md").read_text().splitlines())
+    yield "definitions of the headline", len((ROOT / "docs/DEFINITIONS.md").read_text("utf-8").splitlines())
     if kit := toolchain():
         yield "toolchain's prover", (kit / "bin/rattle").stat().st_size
         yield "toolchain's compilers", sum((kit / f"toolchain/bin/{name}").stat().st_size
@@ -135,7 +136,7 @@ def wrong_counts(text: str) -> Iterator[tuple[int, str]]:
 
 def wrong(page: pathlib.Path) -> Iterator[tuple[int, str]]:
     """What is wrong with the page, with its line."""
-    text = page.read_text()
+    text = page.read_text("utf-8")
     if page == README:
         yield from wrong_count(text, "wrong bodies", r"(\d+) wrong changes of the code", len(list(CRATES.glob(EDITS))))
     if page == PAGE:

@@ -26,9 +26,9 @@ def paths() -> list[str]:
 def wrong(page: pathlib.Path) -> Iterator[tuple[int, str]]:
     """The files of sources that a page names and the repository does not have, each with its line; and the crates that
     the map leaves out."""
-    text = page.read_text()
+    text = page.read_text("utf-8")
     if page == MAP:
-        for line in (ROOT / "crates.txt").read_text().splitlines():
+        for line in (ROOT / "crates.txt").read_text("utf-8").splitlines():
             crate = line.partition(":")[0].split()[0]
             if not line.startswith("#") and f"`{crate}`" not in text:
                 yield 1, f"nothing of the crate {crate}"

@@ -12,14 +12,14 @@ NAMES = ROOT / "crates/listing_tables/src/tables.rt"
 
 def written() -> list[str]:
     """The names of the tables in the listing's own list."""
-    listed = NAMES.read_text().partition("pub const NAMES: ")[2].partition("];\n")[0]
+    listed = NAMES.read_text("utf-8").partition("pub const NAMES: ")[2].partition("];\n")[0]
     return re.findall(r'\("(\w+)", Name::', listed)
 
 
 def wrong(page: pathlib.Path) -> Iterator[tuple[int, str]]:
     """The sentence of the page that names other tables, with its line."""
     if page == PAGE:
-        text = page.read_text()
+        text = page.read_text("utf-8")
         sentence = re.search(r"for each raw table: ([^.]*)\.", text)
         named = re.findall(r"\w+", sentence[1].replace(" and ", " ")) if sentence else []
         if named != written():

@@ -72,7 +72,7 @@ class Device:
         self.write("recorder/program.sh", f"#!/bin/sh\necho {self.recorder()}\n", 0o755)
 
     def write(self, name: str, text: str, mode: int = 0o644) -> None:
-        (self.room / name).write_text(text)
+        (self.room / name).write_text(text, "utf-8")
         (self.room / name).chmod(mode)
 
     def recorder(self) -> pathlib.Path:
@@ -83,15 +83,15 @@ class Device:
     @contextlib.contextmanager
     def with_file(self, name: str, text: str) -> Iterator[None]:
         path = self.room / name
-        before = path.read_text() if path.exists() else None
-        path.write_text(text)
+        before = path.read_text("utf-8") if path.exists() else None
+        path.write_text(text, "utf-8")
         try:
             yield
         finally:
-            path.unlink() if before is None else path.write_text(before)
+            path.unlink() if before is None else path.write_text(before, "utf-8")
 
     def start(self, *words: str, **variables: str) -> subprocess.Popen[str]:
-        return subprocess.Popen([self.room / "record", "--adb", *words], cwd=self.room / "out", text=True,
+        return subprocess.Popen([self.room / "record", "--adb", *words], cwd=self.room / "out", encoding="utf-8",
                                 env={**self.environment, **variables}, stdin=subprocess.DEVNULL, stdout=subprocess.PIPE,
                                 stderr=subprocess.STDOUT)
 
@@ -110,7 +110,7 @@ class Device:
     def wait_until_recording(self) -> None:
         side = self.room / "device/binder-record/capture.side"
         end = time.monotonic() + LIMIT
-        while not (side.exists() and " begin realtime=" in side.read_text()):
+        while not (side.exists() and " begin realtime=" in side.read_text("utf-8")):
             if time.monotonic() > end:
                 self.report(f"{self.what}: no recording has begun")
                 return

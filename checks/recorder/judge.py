@@ -49,7 +49,7 @@ class Session(NamedTuple):
     @property
     def lost(self) -> int | None:
         """How many frames were lost, and events missed. None if the recording came to no end."""
-        side = (self.folder / "capture.side").read_text(errors="surrogateescape")
+        side = (self.folder / "capture.side").read_text("utf-8", errors="surrogateescape")
         ends = re.findall(r"^\d+ end recording .* lost=(\d+)$", side, re.M)
         missed = re.findall(r"^\d+ missed (\d+) ", side, re.M)
         return sum(map(int, ends + missed)) if ends else None
@@ -60,9 +60,9 @@ def viewed(folder: pathlib.Path, view: pathlib.Path, keep: pathlib.Path) -> Sess
     captures = sorted(folder.glob("capture-*.cap"), key=lambda path: int(path.stem.split("-")[1]))
     made = keep / f"{folder.name}.db"
     status, out, err = answer([view, *captures, "--side", folder / "capture.side", "--groups", "--database", made],
-                              text=True, stdin=None)
-    (keep / f"{folder.name}.groups").write_text(out)
-    (keep / f"{folder.name}.errors").write_text(err)
+                              encoding="utf-8", stdin=None)
+    (keep / f"{folder.name}.groups").write_text(out, "utf-8")
+    (keep / f"{folder.name}.errors").write_text(err, "utf-8")
     if status:
         return Session(folder, [], {}, [], f"./view ended with status {status}: {err.strip()}")
     database = sqlite3.connect(made)
@@ -169,7 +169,7 @@ def figures(judged: list[Judged]) -> list[tuple[str, object]]:
 
 
 def table(folders: list[pathlib.Path], judged: list[list[Judged]]) -> None:
-    row("", *((folder / "kernel").read_text().strip() for folder in folders))
+    row("", *((folder / "kernel").read_text("utf-8").strip() for folder in folders))
     row("---", *["---"] * len(folders))
     columns = [figures(one) for one in judged]
     for rows in zip(*columns):

@@ -63,9 +63,9 @@ def main(words: list[str]) -> int:
     if words == ["version"]:
         print("Android Debug Bridge version 1.0.41")
     elif words == ["devices"]:
-        print("List of devices attached\n" + (ROOM / "devices").read_text())
+        print("List of devices attached\n" + (ROOM / "devices").read_text("utf-8"))
     elif words[2:] == ["features"]:
-        print((ROOM / "features").read_text())
+        print((ROOM / "features").read_text("utf-8"))
     elif words[2:] == ["root"]:
         print("adbd cannot run as root in production builds")
     elif words[2:4] == ["shell", "-T"]:

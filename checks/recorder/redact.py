@@ -111,7 +111,7 @@ def answers(programs: Programs, room: pathlib.Path, data: bytes) -> tuple[str, d
     """The report on a capture, and the rows of its tables."""
     path, rows = room / "asked.cap", room / "rows"
     path.write_bytes(data)
-    report = subprocess.run([programs.auditor, "report", path], capture_output=True, text=True).stdout
+    report = subprocess.run([programs.auditor, "report", path], capture_output=True, encoding="utf-8").stdout
     rows.mkdir()
     subprocess.run([programs.lister, "--tables", rows, path], capture_output=True)
     tables = {table.stem: rows_in(table) for table in rows.iterdir()}

@@ -22,7 +22,7 @@ def edits_of(path: pathlib.Path, names: str) -> list[Edit]:
     it changes nothing. `\\n` is the end of a line."""
     found: list[Edit] = []
     file = at = ""
-    for line in path.read_text().splitlines():
+    for line in path.read_text("utf-8").splitlines():
         word, _, rest = line.partition(" ")
         text = rest.replace("\\n", "\n")
         if word == "in":
@@ -38,8 +38,8 @@ def edited(edit: Edit, source: pathlib.Path, folder: pathlib.Path) -> None:
     """Copies a folder to a new one, with the edit."""
     shutil.copytree(source, folder, ignore=shutil.ignore_patterns("out", "__pycache__"))
     path = folder / edit.file
-    text = path.read_text()
+    text = path.read_text("utf-8")
     if not edit.at and text.count(edit.old) > 1:
         raise ValueError("what it replaces is in the file more than once")
     at = text.index(edit.old, text.index(edit.at))
-    path.write_text(text[:at] + edit.new + text[at + len(edit.old):])
+    path.write_text(text[:at] + edit.new + text[at + len(edit.old):], "utf-8")

@@ -179,7 +179,7 @@ def database_of(room: pathlib.Path, capture: bytes) -> sqlite3.Connection:
     file.write_bytes(capture)
     rows.mkdir()
     subprocess.run([LISTING, "--tables", rows, file], check=True, stdout=subprocess.DEVNULL)
-    report.write_text("".join(f"{line}\n" for line in reading(capture)[1]))
+    report.write_text("".join(f"{line}\n" for line in reading(capture)[1]), "utf-8")
     raw_tables.load_rows(made, rows, None)
     database = open_database(made)
     loading.fill(database, [str(file)], None, report, None)

@@ -33,7 +33,7 @@ def files_of_statements() -> dict[str, pathlib.Path]:
         found.update(dict.fromkeys(statements_in(raw_tables.schema_of(name)), raw_tables.FOLDER / name))
     for name in judging.JUDGING:
         found.update(dict.fromkeys(statements_of(judging.FOLDER / name), judging.FOLDER / name))
-    return {**found, **{path.read_text(): path for path in QUERIES.glob("*.sql")}}
+    return {**found, **{path.read_text("utf-8"): path for path in QUERIES.glob("*.sql")}}
 
 
 class Watched:
@@ -139,7 +139,7 @@ def faults_of_heads() -> Iterator[str]:
             watched.execute(statement, {"1": 0, "2": 0})
     watched.look_into_views()
     for path in sorted(VIEWER.rglob("*.sql")):
-        said = "\n".join(takewhile(lambda line: line.startswith("--"), path.read_text().splitlines()))
+        said = "\n".join(takewhile(lambda line: line.startswith("--"), path.read_text("utf-8").splitlines()))
         if path not in watched.files.values():
             yield f"{path.relative_to(ROOT)}: nothing runs it"
         elif watched.head(path) not in said:

@@ -157,13 +157,13 @@ def cut_wrongly(step: int) -> Iterator[str]:
 
 
 def ran(folder: pathlib.Path, *words: str) -> tuple[int, str, str]:
-    status, out, err = answer([PROGRAM, *words], timeout=60, cwd=folder, text=True)
+    status, out, err = answer([PROGRAM, *words], timeout=60, cwd=folder, encoding="utf-8")
     return status, out, err.replace("viewer/methods/table.py: ", "")
 
 
 def answered_wrongly(room: pathlib.Path) -> Iterator[str]:
     """The command lines that are not answered as they should be."""
-    stored = (SOURCES / "table.txt").read_text()
+    stored = (SOURCES / "table.txt").read_text("utf-8")
     for folder, texts in {
             "disagree": {"a.aidl": IN + "void a(); }", "b.aidl": IN + "\nvoid b(); }"},
             "ends": {"a.aidl": IN + "// a\r void wrong();\rvoid wrong();\nvoid b(); }"},
@@ -178,7 +178,7 @@ def answered_wrongly(room: pathlib.Path) -> Iterator[str]:
         (room / folder).mkdir()
         for name, text in texts.items():
             (room / folder / name).write_bytes(text if isinstance(text, bytes) else text.encode())
-    (room / "tab\t.aidl").write_text(IN + "}")
+    (room / "tab\t.aidl").write_text(IN + "}", "utf-8")
     os.mkfifo(room / "agree/d.aidl")
     added = "".join(f"p.I\t{code}\t{name}\t-\n" for name, code in ADDED.items())
     lines = (
@@ -200,7 +200,7 @@ def answered_wrongly(room: pathlib.Path) -> Iterator[str]:
             yield f"viewer/methods/table.py {words}: expected {due!r}, came {came!r}"[:2000]
     for where, said in ((">&-", "standard output is closed"),
                         (">/dev/full", "standard output: No space left on device")):
-        status, _, told = answer(["sh", "-c", f'"$0" ends {where}', PROGRAM], cwd=room, text=True)
+        status, _, told = answer(["sh", "-c", f'"$0" ends {where}', PROGRAM], cwd=room, encoding="utf-8")
         if (status, told) != (4, f"viewer/methods/table.py: {said}\n"):
             yield f"viewer/methods/table.py with {where}: status {status}, {told}"
     of_j = [line.split("\t")[1:3] for line in ran(room, "parents")[1].splitlines() if line.startswith("p@1.0::J\t")]
@@ -220,7 +220,7 @@ def fetched(folder: pathlib.Path) -> None:
         return
     for name in ("lists/partial", "archives/partial", "packages", "root"):
         (folder / name).mkdir(parents=True, exist_ok=True)
-    (folder / "sources").write_text("deb http://deb.debian.org/debian sid main\n")
+    (folder / "sources").write_text("deb http://deb.debian.org/debian sid main\n", "utf-8")
     apt = ["apt-get", "-qq", "-o", f"Dir::Etc::SourceList={folder}/sources", "-o", "Dir::Etc::SourceParts=/dev/null",
            "-o", f"Dir::State::Lists={folder}/lists", "-o", f"Dir::Cache={folder}/archives",
            "-o", "APT::Sandbox::User=root"]
@@ -239,7 +239,8 @@ def compiled(folder: pathlib.Path, program: str, *words: str | pathlib.Path) -> 
     """Runs a compiler with its own C library, in the folder of its sources. Returns its status and what it said."""
     library = folder / "root/usr/lib/x86_64-linux-gnu"
     status, out, err = answer([library / "ld-linux-x86-64.so.2", "--library-path", f"{library}:{library}/android",
-                               folder / "root/usr/bin" / program, *words], cwd=SOURCES / KIND[program], text=True)
+                               folder / "root/usr/bin" / program, *words], cwd=SOURCES / KIND[program],
+                              encoding="utf-8")
     return status, out + err
 
 
@@ -249,7 +250,7 @@ def codes_in(made: Iterable[pathlib.Path], method: str, interface: str) -> Codes
     found: Codes = set()
     for path in made:
         codes: set[tuple[int, str]] = set()
-        for one in re.finditer(f"(?:{method})|(?:{interface})", path.read_text()):
+        for one in re.finditer(f"(?:{method})|(?:{interface})", path.read_text("utf-8")):
             if one["name"]:
                 codes.add((1 + int(one["id"]), one["name"]))
             else:
@@ -273,7 +274,7 @@ def hidl_codes(made: pathlib.Path) -> Codes:
     """In the code of hidl-gen the name of an interface comes first, and the ids are whole codes."""
     found: Codes = set()
     for path in made.rglob("*All.cpp"):
-        text = path.read_text()
+        text = path.read_text("utf-8")
         interface, = re.findall(r'::descriptor\("([^"]+)"\)', text)
         found |= {(interface, int(code), name) for code, name in re.findall(r"case (\d+) /\* (\w+) \*/:", text)}
     return found

@@ -40,7 +40,7 @@ def wrong_thresholds(text: str) -> Iterator[str]:
 
 def stored_rules() -> set[tuple[str, str]]:
     """The scenarios of samples/driver, each with its rules of verdict real or maybe."""
-    lines = [line.split("\t") for line in VERDICTS.read_text().splitlines() if not line.startswith("#")]
+    lines = [line.split("\t") for line in VERDICTS.read_text("utf-8").splitlines() if not line.startswith("#")]
     return {(fields[0], rule) for fields in lines for rule in fields[-1].split(",")}
 
 
@@ -58,6 +58,6 @@ def wrong_sessions(text: str, cases: Iterable[Case]) -> Iterator[str]:
 
 def faults_of_page(cases: Iterable[Case]) -> Iterator[str]:
     """What is wrong with the page."""
-    text = PAGE.read_text()
+    text = PAGE.read_text("utf-8")
     for what in (*wrong_thresholds(text), *wrong_sessions(text, cases)):
         yield f"docs/RULES.md: {what}"

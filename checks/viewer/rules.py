@@ -44,15 +44,15 @@ def made(room: pathlib.Path, number: int, one: Case) -> bytes:
     one.play(session)
     capture, side, rows, report = (room / f"{number}.{what}" for what in ("cap", "side", "rows", "report"))
     capture.write_bytes(session.capture())
-    side.write_text(session.side())
+    side.write_text(session.side(), "utf-8")
     for name, text in session.copies.items():
-        (room / f"{number}.{name}").write_text(text)
+        (room / f"{number}.{name}").write_text(text, "utf-8")
     rows.mkdir()
     subprocess.run([LISTING, "--tables", rows, capture], check=True, stdout=subprocess.DEVNULL)
     status, lines = reading(session.capture())
     if status:
         raise SystemExit(f"checks/rules: {one.name}: {lines[0]}")
-    report.write_text("".join(f"{line}\n" for line in lines))
+    report.write_text("".join(f"{line}\n" for line in lines), "utf-8")
     base = room / f"{number}.db"
     raw_tables.load_rows(base, rows, str(side) if one.has_side else None)
     database = open_database(base)

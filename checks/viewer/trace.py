@@ -283,7 +283,7 @@ def check_words(folder: pathlib.Path, room: pathlib.Path, fail: Fail) -> None:
                   ("--trace", "a.json"), ("--trace", "a.gz"), ("--names", "android"),
                   ("--trace", "a.json.gz", "--names", "android"), ("--trace", "a.pftrace", "--names", "linux")):
         compare(f"words {words}", view(folder, room, capture, *words)[0], 64, fail)
-    (room / "there.json.gz").write_text("kept")
+    (room / "there.json.gz").write_text("kept", "utf-8")
     compare("an existing file", view(folder, room, capture, "--trace", "there.json.gz"),
             (1, "", "view: there.json.gz exists already\n"), fail)
     compare("a folder that is not there", view(folder, room, capture, "--trace", "no/a.json.gz")[0], 4, fail)
@@ -299,7 +299,7 @@ def check_words(folder: pathlib.Path, room: pathlib.Path, fail: Fail) -> None:
     view(folder, room, *stored("leaks"), "--trace", "b.pftrace", "--names", "android")
     compare("names", b"binder transaction" in (room / "b.pftrace").read_bytes(), True, fail)
     compare("what is left", sorted(path.name for path in room.iterdir()), sorted([*due, "b.pftrace"]), fail)
-    compare("the existing file", (room / "there.json.gz").read_text(), "kept", fail)
+    compare("the existing file", (room / "there.json.gz").read_text("utf-8"), "kept", fail)
 
 
 def check_malformed(folder: pathlib.Path, room: pathlib.Path, fail: Fail) -> None:
@@ -324,7 +324,7 @@ HOSTILE = '"},{"ph":"B\\x09\\x0a</script>\u202e\U0001f600'
 def check_hostile(folder: pathlib.Path, room: pathlib.Path, fail: Fail) -> None:
     _, side = texts_stored("leaks")
     (room / "hostile.side").write_text(re.sub("name=(manager|service)$", lambda _: "name=" + HOSTILE, side,
-                                              flags=re.MULTILINE))
+                                              flags=re.MULTILINE), "utf-8")
     database = loaded(folder, room / "hostile.db", [DRIVER / "leaks/capture-1.cap"], room / "hostile.side")
     json, packets = check_formats("hostile names", database, room, fail)
     compare("a sign that is written as two", b"\\ud83d" in gzip.decompress((room / "out.json.gz").read_bytes()), False,
@@ -350,8 +350,8 @@ def check_clock(folder: pathlib.Path, room: pathlib.Path, fail: Fail) -> None:
     for name, more in (("awake", []), ("slept", [f"{woke} clocks realtime=7 boottime={woke + AHEAD + SLEPT}",
                                                  f"{woke + 1} later words=of a newer list"])):
         told = [line.replace(" begin ", f" begin boottime={begin + AHEAD} ") for line in lines]
-        (room / f"{name}.side").write_text("\n".join(told[:-1] + more + told[-1:]) + "\n")
-    (room / "plain.side").write_text(side)
+        (room / f"{name}.side").write_text("\n".join(told[:-1] + more + told[-1:]) + "\n", "utf-8")
+    (room / "plain.side").write_text(side, "utf-8")
     read: dict[str, tuple[ReadJson, ReadPackets]] = {}
     for name in "plain", "awake", "slept":
         database = loaded(folder, room / f"{name}.db", [DRIVER / "leaks/capture-1.cap"], room / f"{name}.side")
@@ -430,7 +430,7 @@ def check_reused(folder: pathlib.Path, room: pathlib.Path, fail: Fail) -> None:
             opened = re.search(rf"^(\d+) process 0 {other} ", side, re.M)
             side = re.sub(rf"^\d+ (end (?:thread 0 {pid}|opening 0 {pid}|pid {pid}) )", rf"{opened[1]} \1", side,
                           flags=re.M)
-        (room / "reused.side").write_text(side)
+        (room / "reused.side").write_text(side, "utf-8")
         database = loaded(folder, room / f"reused-{count}.db", [DRIVER / "leaks/capture-1.cap"], room / "reused.side")
         read = ReadPackets(written(database, room / "reused.pftrace"), database, fail)
         compare(f"a number again, ended {ended}", len(read.pids[int(pid)]), count, fail)
@@ -445,7 +445,7 @@ def check_order(folder: pathlib.Path, room: pathlib.Path, fail: Fail) -> None:
     frames = [at for at, line in enumerate(lines) if re.match(r"\d+ frame \d+$", line)]
     for at in frames[10::7]:
         lines[at] = re.sub(r"^\d+", lambda found: str(int(found[0]) - 10**8), lines[at])
-    (room / "odd.side").write_text("".join(lines))
+    (room / "odd.side").write_text("".join(lines), "utf-8")
     database = loaded(folder, room / "odd.db", [DRIVER / "nested/capture-1.cap"], room / "odd.side")
     database.execute("DELETE FROM side_time WHERE seq % 11 = 5")
     for name in ("odd.json.gz", "odd.pftrace"):
@@ -484,7 +484,8 @@ def check_stopped(folder: pathlib.Path, room: pathlib.Path, fail: Fail) -> None:
             (1, "full.pftrace", FULL, (4, "view: full.pftrace: No space left on device\n"))):
         words = [folder / "view", DRIVER / "gaps/capture-1.cap", "--trace", name]
         ended = subprocess.run([sys.executable, "-c", HAPPENS_AT, str(at), happens, *words], cwd=room,
-                               env={**os.environ, "TMPDIR": str(room / "tmp")}, stderr=subprocess.PIPE, text=True)
+                               env={**os.environ, "TMPDIR": str(room / "tmp")}, stderr=subprocess.PIPE,
+                               encoding="utf-8")
         left = sorted(path.name for path in room.rglob("*"))
         compare(f"{name}, stopped at {at}", (ended.returncode, ended.stderr, left), (*due, ["tmp"]), fail)
 

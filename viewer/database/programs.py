@@ -45,4 +45,4 @@ def answer(root: pathlib.Path, to: pathlib.Path, program: str, *words: object) -
 
 def fault_in(status: int, answered: pathlib.Path) -> str | None:
     """The line of the first fault that a program wrote; None if it found no fault."""
-    return answered.read_text().strip() if status else None
+    return answered.read_text("utf-8").strip() if status else None

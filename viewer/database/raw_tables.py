@@ -24,14 +24,14 @@ SCHEMA = ("schema.sql", "numbers.sql", "views.sql", "about.sql")
 def spellings() -> dict[str, str]:
     """The named numbers, as views have them."""
     with closing(sqlite3.connect(":memory:")) as database:
-        database.executescript((FOLDER / "numbers.sql").read_text())
+        database.executescript((FOLDER / "numbers.sql").read_text("utf-8"))
         return {**{name: str(number) for name, number in named_numbers(database).items()}, **UNLISTED}
 
 
 def schema_of(name: str) -> str:
     """The statements of a file of the schema, in which numbers stand for their names, and lines are joined as views.sql
     says."""
-    text = (FOLDER / name).read_text().replace(f"\n{' ' * 8}", " ")
+    text = (FOLDER / name).read_text("utf-8").replace(f"\n{' ' * 8}", " ")
     return re.sub(r":([A-Z_]+)", lambda found: spellings()[found[1]], text)
 
 
@@ -51,7 +51,7 @@ def build_loader(program: pathlib.Path) -> None:
     if needs.returncode:
         raise Stopped(1, needs.stderr.strip().removeprefix("view: "))
     built = subprocess.run(["cc", "-O2", "-std=gnu11", "-Wall", "-Wextra", "-o", program, "load.c", "-lsqlite3"],
-                           cwd=FOLDER, capture_output=True, text=True)
+                           cwd=FOLDER, capture_output=True, encoding="utf-8")
     if built.returncode:
         raise Stopped(1, f"the loader could not be built: {built.stderr.strip()}")
 
@@ -74,8 +74,8 @@ def loader() -> pathlib.Path:
 def load_rows(database: pathlib.Path, rows: pathlib.Path, side: str | None) -> None:
     """Makes a new database from the `.rows` files of a folder, with the times of frames in a side list."""
     made = rows / "schema.sql"
-    made.write_text(schema())
+    made.write_text(schema(), "utf-8")
     loaded = subprocess.run([loader(), database, rows, made, *([] if side is None else [side])],
-                            capture_output=True, text=True)
+                            capture_output=True, encoding="utf-8")
     if loaded.returncode:
         raise Stopped(4, loaded.stderr.strip().removeprefix("load: "))

@@ -28,7 +28,7 @@ def statements_in(text: str) -> list[str]:
 
 @functools.cache
 def statements_of(path: pathlib.Path) -> list[str]:
-    return statements_in(path.read_text())
+    return statements_in(path.read_text("utf-8"))
 
 
 def named_numbers(database: sqlite3.Connection) -> dict[str, int]:

@@ -132,7 +132,7 @@ def files_with(folders: Iterable[str], wanted: set[str]) -> dict[str, str]:
 
 def ask(*words: str, text: str) -> str | None:
     """What a program answers; None if it fails. It may not look in the network."""
-    answer = subprocess.run(words, input=text, capture_output=True, text=True, errors="replace",
+    answer = subprocess.run(words, input=text, capture_output=True, encoding="utf-8", errors="replace",
                             env={**os.environ, "DEBUGINFOD_URLS": ""})
     return answer.stdout if answer.returncode == 0 else None
 

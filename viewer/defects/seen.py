@@ -44,7 +44,7 @@ class Defect(NamedTuple):
 
 def defects_of(database: sqlite3.Connection) -> dict[str, Defect]:
     """The defects by their keys."""
-    return {row[0]: Defect(*row) for row in database.execute(QUERY.read_text())}
+    return {row[0]: Defect(*row) for row in database.execute(QUERY.read_text("utf-8"))}
 
 
 def facts_of(database: sqlite3.Connection) -> dict[str, object]:

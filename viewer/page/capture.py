@@ -30,7 +30,7 @@ class Capture:
 
     def asked(self, name: str, *values: object) -> list[tuple]:
         """The answer of the query in a file."""
-        return self.ask((QUERIES / f"{name}.sql").read_text(), *values)
+        return self.ask((QUERIES / f"{name}.sql").read_text("utf-8"), *values)
 
     def rows(self, name: str, most: int = ROWS) -> list[tuple]:
         """The rows of the query in a file, which takes no more than how many there may be."""

@@ -6,7 +6,7 @@ from typing import Iterator
 
 from viewer.terminal import field_of
 
-KEYS = (pathlib.Path(__file__).resolve().parent / "queries/group_keys.sql").read_text()
+KEYS = (pathlib.Path(__file__).resolve().parent / "queries/group_keys.sql").read_text("utf-8")
 
 
 def group_lines(database: sqlite3.Connection) -> Iterator[str]:

@@ -57,7 +57,7 @@ def document(capture: Capture, shown: Shown) -> Iterator[str]:
                                 finalize=lambda value: "" if value is None else value)
     engine.filters |= FILTERS
     engine.globals |= asked_of(capture, shown)
-    style, script = ((FOLDER / name).read_text() for name in ("page.css", "page.js"))
+    style, script = ((FOLDER / name).read_text("utf-8") for name in ("page.css", "page.js"))
     digest = base64.b64encode(hashlib.sha256(script.encode()).digest()).decode()
     heads = [text for text, in capture.ask("SELECT text FROM report WHERE section = 'head' ORDER BY id")]
     return engine.get_template("page.html").generate(

@@ -23,12 +23,12 @@ class Run(NamedTuple):
 
 
 def console(folder: pathlib.Path, guest: str) -> list[str]:
-    return (folder / f"{guest}.console").read_text(errors="replace").splitlines()
+    return (folder / f"{guest}.console").read_text("utf-8", errors="replace").splitlines()
 
 
 def runs_of(folder: pathlib.Path, guest: str) -> Iterator[Run]:
     counts = folder / f"{guest}.counts"
-    marks = [int(line.split()[0]) for line in counts.read_text().splitlines()] if counts.exists() else None
+    marks = [int(line.split()[0]) for line in counts.read_text("utf-8").splitlines()] if counts.exists() else None
     lines = [line.split()[1:] for line in console(folder, guest) if line.startswith("cost: ")]
     if marks is not None and len(marks) != 2 * len(lines):
         sys.exit(f"cost: {guest} has {len(lines)} runs and {len(marks)} counts")

@@ -30,7 +30,7 @@ NAMES = ("state", "stats", "stats.before", "failed_transaction_log", "failed_tra
 def texts(folder):
     """The driver in Rust has no failed_transaction_log."""
     paths = {name: pathlib.Path(folder) / name for name in NAMES}
-    return {name: path.read_text() if path.exists() or "log" not in name else "" for name, path in paths.items()}
+    return {name: path.read_text("utf-8") if path.exists() or "log" not in name else "" for name, path in paths.items()}
 
 
 class Books:

@@ -32,7 +32,7 @@ HERE = pathlib.Path(__file__).resolve().parent
 def lines_of(name):
     """The lines of a list, as words; the comment before a line is its reason."""
     reason = ""
-    for line in (HERE / name).read_text().splitlines():
+    for line in (HERE / name).read_text("utf-8").splitlines():
         if line.startswith("#"):
             reason = line[1:].strip()
         elif line.strip():
@@ -94,7 +94,7 @@ def witness_differences(recording, folder):
     redacted, only their lengths are compared."""
     def bytes_of(frame):
         return frame.direction, frame.commands, len(frame.attached) if recording.is_redacted else frame.attached
-    names = (folder / "names").read_text()
+    names = (folder / "names").read_text("utf-8")
     devices = {int(a): b for a, b in re.findall(r"^device (\d+) name (\S+)", names, re.M)}
     processes = re.findall(r"^process (\d+) (\d+) pid (\d+)", names, re.M)
     openings = numbered(devices, [tuple(map(int, words)) for words in processes])
@@ -126,7 +126,7 @@ def lost_differences(recording):
 def form_differences(recording):
     """Each side list has the form that its page describes. In another form it is told."""
     for path in recording.sides:
-        text = path.read_text(errors="surrogateescape")
+        text = path.read_text("utf-8", errors="surrogateescape")
         if wrong := side_form.faults(text):
             yield "form", path.stem, wrong[0][:80], len(wrong), 0
         elif untold := sum(not side_form.faults(one) for one in side_form.wrong_forms(text)):
@@ -170,7 +170,7 @@ MOST_FILES = 4		# that a flight recorder keeps
 
 def flight_differences(recording, folder):
     """A flight recorder keeps the newest files, each with a side list that says whose the frames in it are."""
-    most = int((folder / "most-files").read_text())
+    most = int((folder / "most-files").read_text("utf-8"))
     if most != MOST_FILES or len(recording.captures) != MOST_FILES:
         yield "flight", "all", "files", most, MOST_FILES
     if not recording.is_cut:
@@ -191,7 +191,7 @@ MOST_MEMORY = 352 << 10
 
 def hoard_differences(output, folder):
     """While a write is held up, what is kept of later frames is bounded: that write is lost, and nothing else."""
-    memory = int((folder / "memory").read_text())
+    memory = int((folder / "memory").read_text("utf-8"))
     if not 0 < memory < MOST_MEMORY:
         yield "hoard", "all", "memory", memory, MOST_MEMORY
     if not re.search(r" frames, 1 lost \(held-too-long 1\); files removed \d+; 4 files, ", output):
@@ -334,13 +334,13 @@ class Scenario:
         self.name, self.folder = folder.name.removesuffix("-rust"), folder	# as store.py calls some
         self.recording = Recording(folder)
         status = folder / "status"
-        self.status, self.how = status.read_text().split()[:2] if status.exists() else ("0", "stored")
+        self.status, self.how = status.read_text("utf-8").split()[:2] if status.exists() else ("0", "stored")
         code, text = report_on(auditor, self.recording.captures)
         if code == 2 and self.how == "killed" and self.recording.captures:
             with tempfile.TemporaryDirectory() as room:
                 code, text = report_on(auditor, self.recording.cut_off(room))
         self.text = text
-        self.output = (folder / "output").read_text(errors="replace") if (folder / "output").exists() else ""
+        self.output = (folder / "output").read_text("utf-8", errors="replace") if (folder / "output").exists() else ""
         self.report = Report(text) if code == 0 else None
         self.has_stacks = (self.how in ("stacks", "frameless")
                            or bool(re.search(r"^\d+ stack ", self.recording.side, re.M)))
@@ -513,8 +513,8 @@ def main(auditor, folder, whole=""):
             failed = True
         for section, verdict in verdicts.items():
             table[section][verdict] += 1
-    kernel = (folder / "kernel").read_text().strip() if (folder / "kernel").exists() else "stored"
-    words = (folder / "words").read_text().strip() if (folder / "words").exists() else ""
+    kernel = (folder / "kernel").read_text("utf-8").strip() if (folder / "kernel").exists() else "stored"
+    words = (folder / "words").read_text("utf-8").strip() if (folder / "words").exists() else ""
     print(f"kernel {kernel}{words and ', ' + words}, {len(scenarios)} captures")
     print(f"{'section':20}{'agree':>8}{'explained':>11}{'not':>6}{'wrong books found':>20}")
     wrong_books = defaultdict(Counter)

@@ -16,7 +16,8 @@ KINDS = {
 
 def page() -> str:
     """The page that says what the first line is."""
-    found = [text for path in sorted((ROOT / "docs").glob("*.md")) if f"`{FIRST_LINE}`" in (text := path.read_text())]
+    found = [text for path in sorted((ROOT / "docs").glob("*.md"))
+             if f"`{FIRST_LINE}`" in (text := path.read_text("utf-8"))]
     text, = found
     return text
 

@@ -31,7 +31,7 @@ def main(auditor, source, to, suffix="", *names):
         files = [*captures, folder / "capture.side"]
         if len(captures) != 1 or sum(path.stat().st_size for path in files) > LARGEST:
             continue
-        if (folder / "status").read_text().split()[1] not in WAYS:
+        if (folder / "status").read_text("utf-8").split()[1] not in WAYS:
             continue
         status, text = report_on(auditor, captures)
         if status:
@@ -42,8 +42,8 @@ def main(auditor, source, to, suffix="", *names):
         saved = [folder / name for name in books.NAMES if (folder / name).exists()]	# the driver in Rust has no log
         for path in (*files, *folder.glob("capture.*.*"), *saved):
             shutil.copyfile(path, kept / path.name)
-        (kept / "report.txt").write_text(text)
-        if (folder / "status").read_text().split()[1] == "stacks":
+        (kept / "report.txt").write_text(text, "utf-8")
+        if (folder / "status").read_text("utf-8").split()[1] == "stacks":
             store_symbols(folder / "program", kept / "symbols")
 
 

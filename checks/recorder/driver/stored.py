@@ -16,7 +16,7 @@ from checks.recorder.driver.compare import Scenario, explained, row_of, unfound
 
 
 def faults_of(scenario, reasons):
-    wanted = (scenario.folder / "report.txt").read_text()
+    wanted = (scenario.folder / "report.txt").read_text("utf-8")
     captures = scenario.recording.captures
     if scenario.text != wanted:
         yield "the auditor writes another report"

@@ -52,7 +52,7 @@ class Stage:
             self.server.wait()
 
     def adb(self, *words: str) -> Ended:
-        ended = subprocess.run(["adb", *words], env=self.environment, stdin=subprocess.DEVNULL, text=True,
+        ended = subprocess.run(["adb", *words], env=self.environment, stdin=subprocess.DEVNULL, encoding="utf-8",
                                stdout=subprocess.PIPE, stderr=subprocess.STDOUT, timeout=self.given.limit)
         return Ended(ended.returncode, ended.stdout)
 
@@ -75,7 +75,8 @@ class Stage:
 
     def start(self, *words: str) -> subprocess.Popen[str]:
         return subprocess.Popen([self.given.record, "--adb", *words], env=self.environment, cwd=self.given.out,
-                                stdin=subprocess.DEVNULL, stdout=subprocess.PIPE, stderr=subprocess.STDOUT, text=True)
+                                stdin=subprocess.DEVNULL, stdout=subprocess.PIPE, stderr=subprocess.STDOUT,
+                                encoding="utf-8")
 
     def end(self, program: subprocess.Popen[str]) -> Ended:
         said = program.communicate(timeout=self.given.limit)[0]
@@ -88,8 +89,9 @@ class Stage:
 
     def view(self, name: str, *words: str) -> Ended:
         view = re.sub(r"record\Z", "view", self.given.record)
-        ended = subprocess.run([view, f"{name}-1.cap", "--side", f"{name}.side", *words], cwd=self.given.out, text=True,
-                               stdin=subprocess.DEVNULL, stdout=subprocess.PIPE, stderr=subprocess.STDOUT)
+        ended = subprocess.run([view, f"{name}-1.cap", "--side", f"{name}.side", *words], cwd=self.given.out,
+                               encoding="utf-8", stdin=subprocess.DEVNULL, stdout=subprocess.PIPE,
+                               stderr=subprocess.STDOUT)
         return Ended(ended.returncode, ended.stdout)
 
     # ---- what must hold
@@ -128,7 +130,7 @@ class Stage:
         self.must(f"others can read {name}", all(it.stat().st_mode & 0o777 == 0o600 for it in files))
         audit = re.sub(r"record\Z", "audit", self.given.record)
         captures = sorted(str(it) for it in files if it.suffix == ".cap")
-        said = subprocess.run([audit, "first-fault", *captures], capture_output=True, text=True).stdout
+        said = subprocess.run([audit, "first-fault", *captures], capture_output=True, encoding="utf-8").stdout
         self.must(f"first-fault of {name} says {said}", said == "no malformed record\n")
 
 
@@ -311,7 +313,7 @@ def detached(stage: Stage) -> None:
     came = stage.record(stage.serials[0], "--fetch", "-o", "flight")
     stage.line(came, 0, r"record: \d+ frames, 0 lost; .*", r"record: \d+ files, .*; next: \S+view flight-\d+\.cap .*")
     command = came.said.rpartition("next: ")[2].split()
-    said = subprocess.run([*command, "--groups"], cwd=stage.given.out, capture_output=True, text=True)
+    said = subprocess.run([*command, "--groups"], cwd=stage.given.out, capture_output=True, encoding="utf-8")
     stage.must(f"the command that is next: {said.stderr}", said.returncode == 0 and "never freed" in said.stdout)
     stage.nothing_left()
 

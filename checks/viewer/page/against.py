@@ -87,11 +87,11 @@ def check_gate(folder: pathlib.Path, room: pathlib.Path, old: tuple, new: tuple,
                 (status, status == 10), fail)
     key = next(line.split("\t")[-1] for line in view(folder, room, *new, "--against", "old.db")[1].splitlines()
                if line.startswith("new"))
-    (room / "known").write_text(f"# why\n{key} ticket 7\n{'0' * 16} mended\n")
+    (room / "known").write_text(f"# why\n{key} ticket 7\n{'0' * 16} mended\n", "utf-8")
     status, lines, _ = view(folder, room, *new, "--against", "old.db", "--fail-on", "real", "--known", "known")
     compare("--known", (status, lines.splitlines()[-1]), (0, f"known\t{'0' * 16}\tdoes not occur\tmended"), fail)
     compare("--known alone", view(folder, room, *new, "--groups", "--known", "known")[0], 64, fail)
-    (room / "wrong").write_text("ticket 7\n")
+    (room / "wrong").write_text("ticket 7\n", "utf-8")
     words = "--fail-on", "real", "--known", "wrong", "-o", "w.html"
     compare("--known without a key", view(folder, room, *new, *words)[0], 4, fail)
     (room / "cut.cap").write_bytes((room / "new.cap").read_bytes()[:-20])

@@ -181,14 +181,14 @@ def check_copies(folder: pathlib.Path, room: pathlib.Path, fail: Fail) -> None:
     play(session, had=True, client=CLIENT.replace(" s 1 ", " s 3 "))
     capture, _, side = written(session, room, "copies")
     begin, end = room / "copies.begin.state", room / "copies.end.state"
-    texts = begin.read_text(), end.read_text()
+    texts = begin.read_text("utf-8"), end.read_text("utf-8")
     huge = texts[1].replace(" s 3 ", f" s {10**20} ")
-    (room / "huge.side").write_text(session.side().replace(f"bytes={len(texts[1])}", f"bytes={len(huge)}"))
-    (room / "huge.begin.state").write_text(texts[0])
-    (room / "huge.end.state").write_text(huge)
+    (room / "huge.side").write_text(session.side().replace(f"bytes={len(texts[1])}", f"bytes={len(huge)}"), "utf-8")
+    (room / "huge.begin.state").write_text(texts[0], "utf-8")
+    (room / "huge.end.state").write_text(huge, "utf-8")
     for name, change, list_, due in (
             ("whole", lambda: None, side, ""),
-            ("other", lambda: end.write_text(texts[1] + "\n"), side,
+            ("other", lambda: end.write_text(texts[1] + "\n", "utf-8"), side,
              f"copies.end.state has {len(texts[1]) + 1} bytes, and the side list names {len(texts[1])}"),
             ("missing", end.unlink, side, "copies.end.state is not beside the side list"),
             ("both", begin.unlink, side,
@@ -203,8 +203,8 @@ def check_copies(folder: pathlib.Path, room: pathlib.Path, fail: Fail) -> None:
                 " 0 calls made and 0 served; client 200 1 handle, 0 objects, 0 buffers, 0 calls made and 0 served.",
                 AGREED):
         compare(f"books, the page says {due!r}", says(room / "copies-whole.html", due), True, fail)
-    begin.write_text(texts[0])
-    end.write_text(texts[1])
+    begin.write_text(texts[0], "utf-8")
+    end.write_text(texts[1], "utf-8")
     for name in ("copies-1.cap", "copies-1.side"):
         (room / name).write_bytes((room / name.replace("-1", "")).read_bytes())
     view(folder, room, "copies-1.cap", "--side", "copies-1.side", "-o", "copies-1.html")
@@ -241,17 +241,19 @@ def check_commands(folder: pathlib.Path, room: pathlib.Path, fail: Fail) -> None
         told = f"9 command 0 100 after=0 uid=7 name=first\n9 command 0 100 after=1 uid=10123 name={command}\n"
         (room / f"named-{number}.cap").write_bytes(session.capture())
         (room / f"named-{number}.side").write_text(
-            re.sub(r"(\d+ process 0 100 .*\n)", lambda found: found[1] + told, side))
+            re.sub(r"(\d+ process 0 100 .*\n)", lambda found: found[1] + told, side), "utf-8")
         status, _, _ = view(folder, room, f"named-{number}.cap", "--side", f"named-{number}.side", "-o",
                             f"named-{number}.html", "--database", f"named-{number}.db")
         database = sqlite3.connect(room / f"named-{number}.db")
         row = database.execute("SELECT name, uid, (SELECT who FROM who w WHERE w.upid = p.upid) FROM process p"
                                " WHERE process = 100").fetchone()
         compare(f"the name {name!r} with {command[:40]!r}", (status, row), (0, (due, 10123, f"{due} 100")), fail)
-        compare("a name runs nothing", "<script>alert" in (room / f"named-{number}.html").read_text(), False, fail)
+        page = (room / f"named-{number}.html").read_text("utf-8")
+        compare("a name runs nothing", "<script>alert" in page, False, fail)
         command_shown, = database.execute("SELECT command FROM process WHERE process = 100").fetchone()
         compare("a command line has spaces", "\0" in command_shown, False, fail)
     (room / "bad.cap").write_bytes(session.capture())
-    (room / "bad.side").write_text(side.replace("end recording", "command 0 100 after=0 name=x\n9 end recording", 1))
+    (room / "bad.side").write_text(side.replace("end recording", "command 0 100 after=0 name=x\n9 end recording", 1),
+                                   "utf-8")
     status, _, _ = view(folder, room, "bad.cap", "--side", "bad.side", "--groups")
     compare("a command line without a user", status, 4, fail)

@@ -17,7 +17,7 @@ def chromium(room: pathlib.Path, *words: object) -> str:
         sys.exit("checks/view: chromium is missing: apt-get install chromium")
     return subprocess.run([program, "--headless=new", "--no-sandbox", "--disable-gpu", "--hide-scrollbars",
                            "--disable-dev-shm-usage", f"--user-data-dir={room / 'chromium'}", *map(str, words)],
-                          capture_output=True, text=True, timeout=120).stdout
+                          capture_output=True, encoding="utf-8", timeout=120).stdout
 
 
 # What a page reports of itself in a browser: whether something is wider than the window, whether a name ran, whether
@@ -43,17 +43,17 @@ document.title = JSON.stringify({wide, bad: Boolean(window.bad), reached: reache
 
 def with_probe(shown: pathlib.Path) -> pathlib.Path:
     """The page with the probe after its script, and without its policy, which would stop the probe."""
-    text = re.sub(r'<meta http-equiv="Content-Security-Policy"[^>]*>', "", shown.read_text())
+    text = re.sub(r'<meta http-equiv="Content-Security-Policy"[^>]*>', "", shown.read_text("utf-8"))
     probed = shown.with_suffix(".probed.html")
-    probed.write_text(text.replace("</html>", f"<script>{{{PROBE}}}</script></html>"))
+    probed.write_text(text.replace("</html>", f"<script>{{{PROBE}}}</script></html>"), "utf-8")
     return probed
 
 
 def without_script(shown: pathlib.Path) -> pathlib.Path:
     """The page with a policy that stops its own script, as if scripts were off."""
-    text = re.sub("script-src 'sha256-[^']*'", "script-src 'none'", shown.read_text())
+    text = re.sub("script-src 'sha256-[^']*'", "script-src 'none'", shown.read_text("utf-8"))
     plain = shown.with_suffix(".plain.html")
-    plain.write_text(text)
+    plain.write_text(text, "utf-8")
     return plain
 
 
@@ -74,5 +74,5 @@ def check_browser(folder: pathlib.Path, room: pathlib.Path, fail: Fail) -> None:
                 compare(f"{picture.name} was made", picture.exists(), True, fail)
         plain = chromium(room, "--dump-dom", f"file://{without_script(shown)}")
         compare(f"{shown.name} without a script", (plain.count("<summary"), plain.count("<button")),
-                (shown.read_text().count("<summary"), 0), fail)
+                (shown.read_text("utf-8").count("<summary"), 0), fail)
     print(f"checks/view: pictures of {len(pages)} pages are in {room}")

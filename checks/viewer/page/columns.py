@@ -39,7 +39,7 @@ def told_by(section: str) -> Told:
 
 def tables_of_page() -> dict[str, Told]:
     """Each table of the page, by its name."""
-    sections = re.split(r"^###? (.*)\n", PAGE.read_text(), flags=re.MULTILINE)
+    sections = re.split(r"^###? (.*)\n", PAGE.read_text("utf-8"), flags=re.MULTILINE)
     return {name: told_by(text) for name, text in zip(sections[1::2], sections[2::2]) if re.fullmatch(r"[a-z_]+", name)}
 
 

@@ -15,7 +15,7 @@ from viewer.page.group_lines import group_lines
 
 
 def view(folder: pathlib.Path, room: pathlib.Path, *words: object) -> tuple[int, str, str]:
-    return answer([folder / "view", *map(str, words)], timeout=120, cwd=room, text=True)
+    return answer([folder / "view", *map(str, words)], timeout=120, cwd=room, encoding="utf-8")
 
 
 def stored(scenario: str) -> tuple[pathlib.Path, str, pathlib.Path]:
@@ -27,7 +27,7 @@ def texts_stored(scenario: str) -> tuple[bytes, str]:
     """The capture and the side list themselves. The list does not name the copies of the driver's books, which are not
     beside what a check makes of it. Names may have any bytes."""
     capture, _, side = stored(scenario)
-    text = side.read_text(errors="surrogateescape")
+    text = side.read_text("utf-8", errors="surrogateescape")
     return capture.read_bytes(), re.sub(r"^\d+ books .*\n", "", text, flags=re.MULTILINE)
 
 
@@ -40,9 +40,9 @@ def on_one_clock(side: str) -> str:
 def written(session: Session, room: pathlib.Path, name: str) -> tuple[str, str, str]:
     """Writes the capture, the side list and the books of a session; returns the words for it."""
     (room / f"{name}.cap").write_bytes(session.capture())
-    (room / f"{name}.side").write_text(session.side())
+    (room / f"{name}.side").write_text(session.side(), "utf-8")
     for moment, text in session.copies.items():
-        (room / f"{name}.{moment}").write_text(text)
+        (room / f"{name}.{moment}").write_text(text, "utf-8")
     return f"{name}.cap", "--side", f"{name}.side"
 
 
@@ -60,7 +60,7 @@ def timeline_of(path: pathlib.Path) -> dict:
 
 def texts_of(path: pathlib.Path) -> str:
     """The text of a page without its markup."""
-    return " ".join(re.sub(r"<[^>]*>", " ", path.read_text()).split())
+    return " ".join(re.sub(r"<[^>]*>", " ", path.read_text("utf-8")).split())
 
 
 def without_numbers(path: str) -> str:
@@ -80,7 +80,7 @@ def groups_of(database: sqlite3.Connection) -> list[tuple[str, ...]]:
 
 def groups_due(scenario: str) -> list[tuple[str, ...]]:
     """The groups of a stored capture. One of the driver in Rust, NAME-rust, has those of NAME, or lines of its own."""
-    lines = (CHECKS / "recorder/driver/verdicts.txt").read_text().splitlines()
+    lines = (CHECKS / "recorder/driver/verdicts.txt").read_text("utf-8").splitlines()
     rows = [line.split("\t") for line in lines if not line.startswith("#")]
     name = scenario if any(row[0] == scenario for row in rows) else scenario.removesuffix("-rust")
     return sorted(tuple(row[2:]) for row in rows if row[0] == name)

@@ -68,7 +68,7 @@ def steps_of(folder: pathlib.Path, room: pathlib.Path, copies: int,
     """The statements that judge the capture, each with its steps."""
     capture, side, rows, report = (room / f"joined-{copies}.{what}" for what in ("cap", "side", "rows", "report"))
     capture.write_bytes(joined_capture(copies))
-    side.write_text(joined_side(copies))
+    side.write_text(joined_side(copies), "utf-8")
     rows.mkdir()
     programs.answer(folder, report, "audit", "report", capture)
     programs.answer(folder, room / "told", "listing", "--tables", rows, capture)

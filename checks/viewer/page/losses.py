@@ -42,7 +42,7 @@ def check_cuts(folder: pathlib.Path, room: pathlib.Path, name: str, cut: int, fa
         here = room / f"{name}-{cut}-{way.replace(' ', '-')}"
         here.mkdir()
         (here / "cut.cap").write_bytes(data)
-        (here / "cut.side").write_text(list_ or "", errors="surrogateescape")
+        (here / "cut.side").write_text(list_ or "", "utf-8", errors="surrogateescape")
         database = loaded(folder, here / "cut.db", [here / "cut.cap"], here / "cut.side" if list_ else None)
         real = database.execute("SELECT title, path, rules FROM finding_group WHERE verdict = 'real'").fetchall()
         compare(f"{name}, cut {cut} from the {way}: real", real, [], fail)
@@ -142,7 +142,7 @@ def check_gaps(folder: pathlib.Path, room: pathlib.Path, name: str, fail: Fail) 
             continue
         here.mkdir()
         (here / "lost.cap").write_bytes(data)
-        (here / "lost.side").write_text(list_, errors="surrogateescape")
+        (here / "lost.side").write_text(list_, "utf-8", errors="surrogateescape")
         database = loaded(folder, here / "lost.db", [here / "lost.cap"], here / "lost.side")
         missing, doubt, missed = database.execute(
             "SELECT c.missing, (SELECT value FROM capture WHERE key = 'side_doubt'), (SELECT count(*) FROM side_missed)"

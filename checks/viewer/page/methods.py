@@ -98,7 +98,7 @@ def check_groups(folder: pathlib.Path, room: pathlib.Path, fail: Fail) -> None:
         service.looper(at).gets(client.thread(at).sends(at, 1, body=marked(name)), 0x100 * at)
     s.wait(300)
     words = written(s, room, "groups")
-    (room / "one").write_text("a.b.IOne\t1\tf\t-\n")
+    (room / "one").write_text("a.b.IOne\t1\tf\t-\n", "utf-8")
     for more in (), ("--methods", "one"):
         _, lines, _ = view(folder, room, *words, "--groups", *more)
         fields = [line.split("\t") for line in lines.splitlines() if line.startswith("maybe")]
@@ -111,10 +111,10 @@ def check_tables(folder: pathlib.Path, room: pathlib.Path, fail: Fail) -> None:
     bad = {"a field too few": ("a.I\t1\tf\n", 1), "no code": ("a.I\t1\tf\t-\na.I\tx\tg\t-\n", 2),
            "a large code": ("a.I\t4294967296\tf\t-\n", 1), "an empty field": ("a.I\t1\t\t-\n", 1)}
     for what, (text, line) in bad.items():
-        (room / "bad").write_text(text)
+        (room / "bad").write_text(text, "utf-8")
         status, _, told = view(folder, room, "named.cap", "--methods", "bad", "--groups")
         compare(f"a table with {what}", (status, told.startswith(f"view: bad:{line}: ")), (4, True), fail)
-    (room / "bad").write_text("check.forms.IIds\t10\televenth\t-\n")
+    (room / "bad").write_text("check.forms.IIds\t10\televenth\t-\n", "utf-8")
     status, _, told = view(folder, room, "named.cap", "--methods", "table", "--methods", "bad", "--groups")
     compare("two tables that disagree", (status, "eleventh here, and tenth" in told), (4, True), fail)
     compare("no table", view(folder, room, "named.cap", "--methods", "none", "--groups"),
@@ -125,14 +125,14 @@ def check_hostile_methods(folder: pathlib.Path, room: pathlib.Path, fail: Fail) 
     """Methods whose names mean harm."""
     played = session()
     (room / "harm.cap").write_bytes(played.capture())
-    (room / "harm.side").write_text(played.side())
+    (room / "harm.side").write_text(played.side(), "utf-8")
     harm = "<script>window.bad=1</script>\u202e'\"><img src=x onerror=bad()>"
     (room / "harm").write_text("".join(f"check.forms.IIds\t{code}\t{harm}\t{harm}\n" for code in (1, 3, 10))
-                               + f"check.forms.IPlain\t1\t{'a' * 2**20}\t-\n<b>.I\t1\tf\t-\n")
+                               + f"check.forms.IPlain\t1\t{'a' * 2**20}\t-\n<b>.I\t1\tf\t-\n", "utf-8")
     words = ("harm.cap", "--side", "harm.side", "--methods", "harm")
     made = view(folder, room, *words, "-o", "harm.html", "--trace", "harm.json.gz")
     compare("hostile methods, status", made[0], 0, fail)
-    text = (room / "harm.html").read_text()
+    text = (room / "harm.html").read_text("utf-8")
     check_harmless("hostile methods", text, fail)
     compare("hostile methods: the page stays small", len(text) < 2**18, True, fail)
     compare("hostile methods: a timeline", bool(timeline_of(room / "harm.json.gz")), True, fail)
@@ -142,8 +142,8 @@ def check_hostile_methods(folder: pathlib.Path, room: pathlib.Path, fail: Fail) 
 
 def check_unnamed(folder: pathlib.Path, room: pathlib.Path, fail: Fail) -> None:
     """A table changes nothing on the page of a capture whose calls have no interface."""
-    (room / "any").write_text("a.I\t1\tf\t-\n")
+    (room / "any").write_text("a.I\t1\tf\t-\n", "utf-8")
     for name, more in ("with", ("--methods", "any")), ("without", ()):
         view(folder, room, *stored("leaks"), *more, "-o", f"{name}.html")
-    pages = {(room / f"{name}.html").read_text() for name in ("with", "without")}
+    pages = {(room / f"{name}.html").read_text("utf-8") for name in ("with", "without")}
     compare("pages with a table and without", len(pages), 1, fail)

@@ -138,7 +138,7 @@ def claims(report: str) -> Iterator[Claim]:
 def held_at_end(database: sqlite3.Connection) -> dict[tuple, tuple]:
     """The buffers, their bytes and the strong references that each process holds at the end, as on the page."""
     who = {upid: rest for upid, *rest in database.execute("SELECT upid, device, process FROM process")}
-    rows = database.execute((ROOT / "viewer/page/queries/growth.sql").read_text(), (-1,)).fetchall()
+    rows = database.execute((ROOT / "viewer/page/queries/growth.sql").read_text("utf-8"), (-1,)).fetchall()
     return {tuple(who[row[0]]): (row[5], row[7], row[9]) for row in rows if row[5] or row[9]}
 
 
@@ -240,7 +240,7 @@ def check_sample(folder: pathlib.Path, room: pathlib.Path, files: list[pathlib.P
     room.mkdir()
     name = " ".join(str(path.relative_to(ROOT)) for path in files)
     made, shown = room / "made.db", room / "made.html"
-    report = subprocess.run([folder / "audit", "report", *files], capture_output=True, text=True).stdout
+    report = subprocess.run([folder / "audit", "report", *files], capture_output=True, encoding="utf-8").stdout
     if not report.startswith("BINDER AUDIT "):
         return
     database = loaded(folder, made, files, side)
@@ -251,7 +251,7 @@ def check_sample(folder: pathlib.Path, room: pathlib.Path, files: list[pathlib.P
     kept = [text for text, in database.execute("SELECT text FROM report ORDER BY id")]
     compare(f"{name}, the report in the database", kept, [line.strip() for line in report.splitlines()], fail)
     page.write(database, list(map(str, files)), shown)
-    text = shown.read_text()
+    text = shown.read_text("utf-8")
     missing = proved_due(report) - set(shown_of(text).proved)
     compare(f"{name}, rows that are not on its page", sorted(missing), [], fail)
     if side is not None:

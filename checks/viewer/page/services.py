@@ -77,7 +77,7 @@ def check_hostile_names(folder: pathlib.Path, room: pathlib.Path, fail: Fail) ->
                                             database.execute("SELECT * FROM service").fetchall(),
                                             database.execute("SELECT * FROM node_service").fetchall()), (set(), [], []),
             fail)
-    check_harmless("hostile payloads", (room / "harmful.html").read_text(), fail)
+    check_harmless("hostile payloads", (room / "harmful.html").read_text("utf-8"), fail)
 
 
 # ---- clients on libgbinder

@@ -38,10 +38,10 @@ def check_side(folder: pathlib.Path, room: pathlib.Path, fail: Fail) -> None:
     for name, data in cuts.items():
         (room / f"{name}.cap").write_bytes(data)
     for name, text in lists.items():
-        (room / f"{name}.side").write_text(text)
-    (room / "replies.side").write_text(texts_stored("replies")[1])
+        (room / f"{name}.side").write_text(text, "utf-8")
+    (room / "replies.side").write_text(texts_stored("replies")[1], "utf-8")
     (room / "weak-refs.cap").write_bytes(texts_stored("weak-refs")[0])
-    (room / "renumbered.side").write_text(renumbered("replies", "weak-refs"))
+    (room / "renumbered.side").write_text(renumbered("replies", "weak-refs"), "utf-8")
     more = ("the side list has frames that are not in the capture, {}: the capture is only a part of the recording, or"
             " the list belongs to another one")
     other = "the side list belongs to another capture: {}"
@@ -63,18 +63,18 @@ def check_side(folder: pathlib.Path, room: pathlib.Path, fail: Fail) -> None:
         compare(what, (came, told), (status, f"view: {line}\n" if line else ""), fail)
         compare(f"{what}, the page is there", shown.exists(), status == 0, fail)
         if shown.exists():
-            compare(f"{what}, the page says it", "The side list " in shown.read_text(), bool(line), fail)
+            compare(f"{what}, the page says it", "The side list " in shown.read_text("utf-8"), bool(line), fail)
 
 
 def check_late(folder: pathlib.Path, room: pathlib.Path, fail: Fail) -> None:
     """Of a recording that goes on after its end, as those of earlier recorders do, the page says how many frames are
     later."""
     here = DRIVER / "hung"
-    side = (here / "capture.side").read_text()
+    side = (here / "capture.side").read_text("utf-8")
     times = sorted(int(time) for time in re.findall(r"^(\d+) frame ", side, re.MULTILINE))
     for late in 0, 1, 3:
         (room / "late.side").write_text(re.sub(r"^\d+ end recording", f"{times[-1 - late]} end recording", side,
-                                               flags=re.MULTILINE))
+                                               flags=re.MULTILINE), "utf-8")
         shown = room / f"late-{late}.html"
         view(folder, room, here / "capture-1.cap", "--side", "late.side", "-o", shown.name)
         came = re.findall(r"(\d+ frames?) (?:is|are) later than the end of the recording", texts_of(shown))
@@ -94,7 +94,7 @@ def check_forms(_: pathlib.Path, room: pathlib.Path, fail: Fail) -> None:
     """A side list is of one of two versions, and in the second one `begin` has all its fields."""
     for number, (version, begin, due) in enumerate(FORMS):
         list_ = room / f"form-{number}.side"
-        list_.write_text(f"binder side list {version}\n5 begin {begin}\n")
+        list_.write_text(f"binder side list {version}\n5 begin {begin}\n", "utf-8")
         database = sqlite3.connect(":memory:")
         database.executescript(raw_tables.schema())
         taken, came = side_list.SideList(database), ""
@@ -129,11 +129,11 @@ def check_files(folder: pathlib.Path, room: pathlib.Path, fail: Fail) -> None:
     capture, side = texts_stored("threads")
     place, sequence, *_ = frames_of(capture)[len(frames_of(capture)) // 2]
     (room / "whole.cap").write_bytes(capture)
-    (room / "whole.side").write_text(side)
+    (room / "whole.side").write_text(side, "utf-8")
     for number, (data, list_) in enumerate(zip((capture[:place], capture[:16] + capture[place:]),
                                                as_files(side, sequence)), 1):
         (room / f"part-{number}.cap").write_bytes(data)
-        (room / f"part-{number}.side").write_text(list_)
+        (room / f"part-{number}.side").write_text(list_, "utf-8")
     _, whole, _ = view(folder, room, "whole.cap", "--side", "whole.side", "--groups")
     status, came, told = view(folder, room, "part-1.cap", "part-2.cap", "--side", "part-1.side", "--side",
                               "part-2.side", "--groups")
@@ -171,7 +171,7 @@ def check_renames(folder: pathlib.Path, room: pathlib.Path, fail: Fail) -> None:
     """A thread has its last name in the side list, and a process has the name of its first thread."""
     for scenario, after, lines, due in RENAMES:
         list_ = room / f"{scenario}.side"
-        list_.write_text(renamed(texts_stored(scenario)[1], after, *lines))
+        list_.write_text(renamed(texts_stored(scenario)[1], after, *lines), "utf-8")
         database = loaded(folder, room / f"{scenario}.db", [DRIVER / scenario / "capture-1.cap"], list_)
         came = database.execute("SELECT p.process, thread, p.name, t.name FROM thread t JOIN process p USING (upid)"
                                 " WHERE p.name || t.name LIKE '%new%' ORDER BY 1, 2").fetchall()
@@ -194,7 +194,7 @@ ODD_SIDE = """binder side list 1
 def check_times(folder: pathlib.Path, room: pathlib.Path, fail: Fail) -> None:
     """The times of frames are those of the last lines that have them."""
     list_, rows = room / "odd.side", room / "odd.rows"
-    list_.write_text(ODD_SIDE)
+    list_.write_text(ODD_SIDE, "utf-8")
     rows.mkdir()
     programs.answer(folder, room / "told", "listing", "--tables", rows, DRIVER / "objects/capture-1.cap")
     raw_tables.load_rows(room / "odd.db", rows, str(list_))

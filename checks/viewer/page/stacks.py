@@ -55,11 +55,11 @@ class Program(NamedTuple):
 def built_program(room: pathlib.Path) -> Program:
     folder = room / "symbols"
     folder.mkdir()
-    (room / "leak.c").write_text(SOURCE)
+    (room / "leak.c").write_text(SOURCE, "utf-8")
     path = folder / "leak"
     subprocess.run(["cc", "-O1", "-g", "-Wl,--build-id", "-o", path, "leak.c"], cwd=room, check=True)
     subprocess.run(["objcopy", "--redefine-sym", f"other={HOSTILE}", path], check=True)
-    names = subprocess.run(["nm", path], check=True, capture_output=True, text=True).stdout
+    names = subprocess.run(["nm", path], check=True, capture_output=True, encoding="utf-8").stdout
     inside = {name: int(address, 16) + 1 for address, name in re.findall(r"^(\w+) [tT] (.*)$", names, re.MULTILINE)}
     return Program(path, symbols.build_id_of(str(path)) or "", inside)
 
@@ -103,7 +103,7 @@ def shown_with(folder: pathlib.Path, room: pathlib.Path, side: str, *words: obje
                tools: tuple[str, ...] | None = None) -> tuple[int, str, pathlib.Path]:
     """Status, standard error and page of a side list; `tools` are the only programs that are in PATH."""
     number = next(NUMBERS)
-    (room / f"list-{number}.side").write_text(side)
+    (room / f"list-{number}.side").write_text(side, "utf-8")
     shown, environment = room / f"page-{number}.html", dict(os.environ)
     if tools is not None:
         there = room / f"tools-{number}"
@@ -113,13 +113,14 @@ def shown_with(folder: pathlib.Path, room: pathlib.Path, side: str, *words: obje
         environment["PATH"] = str(there)
     ended = subprocess.run([sys.executable, folder / "view", DRIVER / "replies/capture-1.cap", "--side",
                             f"list-{number}.side", "-o", shown, "--database", room / f"made-{number}.db",
-                            *map(str, words)], cwd=room, env=environment, capture_output=True, text=True, timeout=120)
+                            *map(str, words)], cwd=room, env=environment, capture_output=True,
+                           encoding="utf-8", timeout=120)
     return ended.returncode, ended.stderr, shown
 
 
 def text_of(shown: pathlib.Path) -> str:
     """The text of a page as it is read: a name and what follows it are not torn apart."""
-    return re.sub(r"<[^>]*>", "", shown.read_text()) if shown.exists() else ""
+    return re.sub(r"<[^>]*>", "", shown.read_text("utf-8")) if shown.exists() else ""
 
 
 def open_frames(text: str) -> list[int]:
@@ -134,7 +135,7 @@ def check_page(folder: pathlib.Path, room: pathlib.Path, program: Program, seqs:
     compare("stacks: status", (status, told), (0, ""), fail)
     if status:
         return
-    text, page = text_of(shown), shown.read_text()
+    text, page = text_of(shown), shown.read_text("utf-8")
     compare("stacks: lists, and how many functions they have", open_frames(page), [12, DEEP - 12, 4], fail)
     due = ["the call that it answers; 5 of 6 have it:", "the call that it answers; 1 of 6 have it",
            f"libleak.so+0x{program.inside['refresh_settings']:x}", "libplain.so+0x5100", f"{DEEP - 12} more frames",
@@ -161,7 +162,7 @@ def check_symbols(folder: pathlib.Path, room: pathlib.Path, program: Program, se
     subprocess.run(["objcopy", "--only-keep-debug", program.path, by_id / f"{program.build_id[2:]}.debug"], check=True)
     other = room / "other"
     other.mkdir()
-    (room / "other.c").write_text(SOURCE.replace("* 3", "* 5"))
+    (room / "other.c").write_text(SOURCE.replace("* 3", "* 5"), "utf-8")
     subprocess.run(["cc", "-O1", "-g", "-Wl,--build-id", "-o", other / "leak", "other.c"], cwd=room, check=True)
     due = ["keep_reply inlined in the next, leak.c:5, libleak.so", "refresh_settings leak.c:9, libleak.so",
            "libplain.so+0x5100"]
@@ -189,7 +190,7 @@ def check_hostile_stacks(folder: pathlib.Path, room: pathlib.Path, program: Prog
     path = "/</ol></details>/<img src=x onerror=bad()>\u202e" + "a" * 2**16
     status, told, shown = shown_with(folder, room, side_with(program, seqs, path), "--symbols", program.path.parent)
     compare("hostile stacks: status", (status, told), (0, ""), fail)
-    text = shown.read_text() if shown.exists() else ""
+    text = shown.read_text("utf-8") if shown.exists() else ""
     check_harmless("hostile stacks", text, fail)
     compare("hostile stacks: the name is there", "&lt;script&gt;window.bad=1" in text, True, fail)
 
@@ -239,7 +240,7 @@ def check_recorded(folder: pathlib.Path, room: pathlib.Path, fail: Fail) -> None
         shown = room / f"{name}.html"
         subprocess.run([folder / "view", *stored(name), "-o", shown, "--symbols", DRIVER / name], cwd=room, check=True)
         compare(f"{name}: what its page does not say", [one for one in texts if one not in text_of(shown)], [], fail)
-        compare(f"{name}: the most functions of a stack", max(open_frames(shown.read_text())), most, fail)
+        compare(f"{name}: the most functions of a stack", max(open_frames(shown.read_text("utf-8"))), most, fail)
 
 
 def play_freed(program: Program, refreshed: int, printed: int) -> Session:

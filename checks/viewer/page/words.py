@@ -24,7 +24,8 @@ from checks.viewer.page.reports import check_harmless, shown_of
 def check_rules(made: pathlib.Path, fail: Fail) -> None:
     """Checks that the rules in docs/RULES.md are those of the database."""
     rows = sqlite3.connect(made).execute("SELECT id, verdict, text FROM rule").fetchall()
-    told = re.findall(r"^\| ([A-Z]\d+) \| (\w+) \| ([^|]*) \|", (ROOT / "docs/RULES.md").read_text(), re.MULTILINE)
+    told = re.findall(r"^\| ([A-Z]\d+) \| (\w+) \| ([^|]*) \|", (ROOT / "docs/RULES.md").read_text("utf-8"),
+                      re.MULTILINE)
     compare("the rules of docs/RULES.md", sorted(told), sorted(rows), fail)
 
 
@@ -58,11 +59,11 @@ def check_words(folder: pathlib.Path, room: pathlib.Path, fail: Fail) -> None:
 def check_templates(fail: Fail) -> None:
     """All markup of the page is in its templates, and what they show is escaped but for its style and script."""
     page = ROOT / "viewer/page"
-    made = [f"{path.name}: {line.strip()}" for path in page.glob("*.py") for line in path.read_text().splitlines()
-            if re.search("</?[a-z]|Markup", line)]
+    made = [f"{path.name}: {line.strip()}" for path in page.glob("*.py")
+            for line in path.read_text("utf-8").splitlines() if re.search("</?[a-z]|Markup", line)]
     compare("markup that Python makes", made, [], fail)
     raw = [(path.name, found) for path in page.glob("templates/*") for found in
-           re.findall(r"\|\s*safe\b|autoescape false", path.read_text())]
+           re.findall(r"\|\s*safe\b|autoescape false", path.read_text("utf-8"))]
     compare("what templates do not escape", raw, [("page.html", "autoescape false")] * 2, fail)
 
 
@@ -83,7 +84,7 @@ def check_no_engine(folder: pathlib.Path, room: pathlib.Path, fail: Fail) -> Non
     for more, due, made in ((("-o", "none.html", "--database", "none.db"), (1, missing), []),
                             (("--groups", "--database", "some.db", "--trace", "some.json.gz"), (0, ""),
                              ["some.db", "some.json.gz"])):
-        ended = subprocess.run([*words, *more], cwd=room, capture_output=True, text=True)
+        ended = subprocess.run([*words, *more], cwd=room, capture_output=True, encoding="utf-8")
         compare(f"no engine, {more}", (ended.returncode, ended.stderr), due, fail)
         compare(f"no engine, {more}: what is made", [one for one in more if (room / one).exists()], made, fail)
 
@@ -194,12 +195,12 @@ def check_malformed(folder: pathlib.Path, room: pathlib.Path, fail: Fail) -> Non
     asked = [(path,) for path in sorted(ROOT.glob("samples/*.cap"))]
     asked += [("bad.cap",), ("cut.cap",), ("none.cap",), ("first.cap", "bad.cap"), ("first.cap", "none.cap")]
     for number, files in enumerate(asked):
-        ended = subprocess.run([folder / "audit", "report", *files], cwd=room, capture_output=True, text=True)
+        ended = subprocess.run([folder / "audit", "report", *files], cwd=room, capture_output=True, encoding="utf-8")
         if ended.returncode != 2:
             continue
         shown = f"malformed-{number}.html"
         compare(f"{files}, status", view(folder, room, *files, "-o", shown)[:2], (2, ""), fail)
-        text = (room / shown).read_text() if (room / shown).exists() else ""
+        text = (room / shown).read_text("utf-8") if (room / shown).exists() else ""
         compare(f"{files}, the first line of its page", text.partition('<p class="fault">')[2].partition(":")[0],
                 ended.stdout.strip(), fail)
 
@@ -211,7 +212,7 @@ HOSTILE = {"manager": "<script>window.bad=1</script>, one", "short-lived": "\"'>
 
 def check_policy(text: str, fail: Fail) -> None:
     """A page has one script, its own. Its policy lets it run that, and load nothing."""
-    script = (ROOT / "viewer/page/page.js").read_text()
+    script = (ROOT / "viewer/page/page.js").read_text("utf-8")
     digest = base64.b64encode(hashlib.sha256(script.encode()).digest()).decode()
     compare("what is in the scripts of the page", shown_of(text).script, script, fail)
     compare("the policy of the page", re.findall('Content-Security-Policy" content="([^"]*)"', text),
@@ -220,15 +221,15 @@ def check_policy(text: str, fail: Fail) -> None:
 
 def check_hostile(folder: pathlib.Path, room: pathlib.Path, fail: Fail) -> pathlib.Path:
     """Checks a page with a side list that has names from a stranger. Returns the page."""
-    side = (DRIVER / "leaks/capture.side").read_text()
+    side = (DRIVER / "leaks/capture.side").read_text("utf-8")
     for old, new in HOSTILE.items():
         side = re.sub(f"name={old}$", lambda _: "name=" + new.replace("\t", "\\x09"), side, flags=re.MULTILINE)
-    (room / "hostile.side").write_text(side)
+    (room / "hostile.side").write_text(side, "utf-8")
     named = room / "<script>bad&\u202e.cap"
     shutil.copy(DRIVER / "leaks/capture-1.cap", named)
     compare("hostile names, status",
             view(folder, room, named.name, "--side", "hostile.side", "-o", "hostile.html")[0], 0, fail)
-    text = (room / "hostile.html").read_text()
+    text = (room / "hostile.html").read_text("utf-8")
     check_policy(text, fail)
     check_harmless("hostile names", text, fail)
     compare("hostile names: characters that are not shown", [one for one in text if not one.isprintable()

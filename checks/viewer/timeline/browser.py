@@ -86,8 +86,8 @@ class Viewer:
     def __init__(self, room: pathlib.Path, viewer: str):
         page = room / "viewer.html"
         page.write_text("<!doctype html><meta charset=utf-8><script>"
-                        + (pathlib.Path(viewer).parent / "webcomponents.min.js").read_text() + "</script><body>"
-                        + pathlib.Path(viewer).read_text())
+                        + (pathlib.Path(viewer).parent / "webcomponents.min.js").read_text("utf-8") + "</script><body>"
+                        + pathlib.Path(viewer).read_text("utf-8"), "utf-8")
         self.browser = Chromium(room)
         target = self.browser.ask("Target.createTarget", url=f"file://{page}")["targetId"]
         self.session = self.browser.ask("Target.attachToTarget", targetId=target, flatten=True)["sessionId"]

@@ -34,7 +34,7 @@ def side_begin() -> str:
 
 def write_traffic(capture: pathlib.Path, side: pathlib.Path, most: int) -> None:
     """Traffic of at most so many bytes, and a side list with a time for each frame, five microseconds apart."""
-    with open(capture, "wb") as out, open(side, "w") as times:
+    with open(capture, "wb") as out, open(side, "w", encoding="utf-8") as times:
         times.write(side_begin())
         out.write(HEADER)
         for number, frame in enumerate(frames_within(most), 1):

@@ -31,7 +31,7 @@ class TraceProcessor:
 
     def ask(self, path: pathlib.Path, query: str) -> list[list[str]]:
         """The rows of an answer."""
-        asked = subprocess.run([self.program, "query", path, query], capture_output=True, text=True)
+        asked = subprocess.run([self.program, "query", path, query], capture_output=True, encoding="utf-8")
         if asked.returncode:
             raise RuntimeError(f"{path.name}: {asked.stderr.strip()[-400:]}")
         text = asked.stdout.lstrip("\n")
@@ -199,7 +199,8 @@ SELECT hex(name) FROM process WHERE pid > 0 AND name NOTNULL UNION SELECT hex(na
 def check_hostile(tool: TraceProcessor, folder: pathlib.Path, room: pathlib.Path, fail: Fail) -> None:
     """Names of processes, threads and methods come as they are."""
     _, side = texts_stored("hello-answers")
-    (room / "hostile.side").write_text(re.sub("name=.*$", lambda _: "name=" + HOSTILE, side, flags=re.MULTILINE))
+    (room / "hostile.side").write_text(re.sub("name=.*$", lambda _: "name=" + HOSTILE, side, flags=re.MULTILINE),
+                                       "utf-8")
     database = loaded(folder, room / "hostile.db", [DRIVER / "hello-answers/capture-1.cap"], room / "hostile.side")
     database.execute("INSERT OR REPLACE INTO method SELECT i.name, r.code, ?, '-' FROM interface i,"
                      " (SELECT DISTINCT code FROM raw_record WHERE code NOTNULL) r", (HOSTILE,))
@@ -291,7 +292,7 @@ def side_of(sleeps: bool, room: pathlib.Path) -> pathlib.Path:
     side = re.sub(r"( begin realtime=\d+)", rf"\1 boottime={begin + AHEAD}", side)
     if sleeps:
         side += f"{woke} clocks realtime=1 boottime={woke + AHEAD + SLEPT}\n"
-    (room / "threads.side").write_text(side)
+    (room / "threads.side").write_text(side, "utf-8")
     return room / "threads.side"
 
 
