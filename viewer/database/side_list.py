@@ -7,6 +7,7 @@ import sqlite3
 from typing import Iterable, NamedTuple
 
 from viewer.database import side_belongs
+from viewer.database.last_names import LastNames
 from viewer.database.process_names import long_name
 from viewer.files import Stopped, for_owner
 from viewer.units import signed
@@ -126,6 +127,9 @@ class SideList:
         self.copies: list[Copy] = []
         self.met: dict[int, str] = {}
         self.drivers: dict[tuple[int, int], str] | None = None
+        self.openings_of: dict[int, list[tuple[int, int]]] = {}
+        self.process_names = LastNames(database, "side_process", "pid")
+        self.thread_names = LastNames(database, "side_thread", "tid")
 
     def last(self) -> int:
         """The last number that has come in the list, of a frame or of a lost frame."""
@@ -143,6 +147,8 @@ class SideList:
         except OSError as error:
             raise Stopped(4, f"{path}: {error.strerror}") from error
         self.flush()
+        self.process_names.give()
+        self.thread_names.give()
         self.name_processes()
 
     def name_processes(self) -> None:
@@ -221,10 +227,13 @@ class SideList:
                                self.driver_of(number(keyed["major"]), number(keyed["minor"]))))
 
     def take_process(self, time: int, positional: list[str], keyed: dict[str, str]) -> None:
+        device, process, pid = *numbers(positional, 2), number(keyed["pid"])
         self.database.execute(
-            "INSERT OR REPLACE INTO side_process VALUES (?, ?, ?, ?, ?, ?, ?, NULL, NULL, NULL, NULL)",
-            (*numbers(positional, 2), number(keyed["pid"]), number(keyed["opening"]), keyed["met"], keyed["name"],
-             time))
+            "INSERT OR REPLACE INTO side_process(rowid, device, process, pid, opening, met, name, opened)"
+            " VALUES (?, ?, ?, ?, ?, ?, ?, ?)",
+            (self.process_names.next_row(), device, process, pid, number(keyed["opening"]), keyed["met"],
+             keyed["name"], time))
+        self.openings_of.setdefault(pid, []).append((device, process))
 
     def take_command(self, _: int, positional: list[str], keyed: dict[str, str]) -> None:
         """The last command line counts."""
@@ -241,15 +250,18 @@ class SideList:
                                 number(keyed["bytes"])))
 
     def take_thread(self, _: int, positional: list[str], keyed: dict[str, str]) -> None:
-        self.database.execute("INSERT OR REPLACE INTO side_thread VALUES (?, ?, ?, ?, ?, NULL, NULL, NULL, ?)",
-                              (*numbers(positional, 3), number(keyed["tid"]), keyed["name"], self.last() + 1))
+        self.database.execute(
+            "INSERT OR REPLACE INTO side_thread(rowid, device, process, thread, tid, name, from_seq)"
+            " VALUES (?, ?, ?, ?, ?, ?, ?)",
+            (self.thread_names.next_row(), *numbers(positional, 3), number(keyed["tid"]), keyed["name"],
+             self.last() + 1))
 
     def take_name(self, _: int, __: list[str], keyed: dict[str, str]) -> None:
         """The last name counts. A process has the name of its first thread. What has ended keeps its name."""
         pid, tid, name = number(keyed["pid"]), number(keyed["tid"]), keyed["name"]
-        self.database.execute("UPDATE side_thread SET name = ? WHERE tid = ? AND ended IS NULL", (name, tid))
+        self.thread_names.note(tid, name)
         if tid == pid:
-            self.database.execute("UPDATE side_process SET name = ? WHERE pid = ? AND ended IS NULL", (name, pid))
+            self.process_names.note(pid, name)
 
     def take_lost(self, _: int, positional: list[str], keyed: dict[str, str]) -> None:
         who = [number(keyed[name]) if name in keyed else None for name in ("device", "process", "thread")]
@@ -297,13 +309,19 @@ class SideList:
     def take_end(self, time: int, positional: list[str], keyed: dict[str, str]) -> None:
         after, what = number(keyed["after"]), positional[0]
         if what == "thread":
-            self.database.execute("UPDATE side_thread SET ended_after = ?, ended = ?, why = ? WHERE (device, process,"
-                                  " thread) = (?, ?, ?)", (after, time, keyed["why"], *numbers(positional[1:], 3)))
+            self.database.execute(
+                f"UPDATE side_thread SET name = iif(ended IS NULL, {self.thread_names.name}, name), ended_after = ?,"
+                " ended = ?, why = ? WHERE (device, process, thread) = (?, ?, ?)",
+                (after, time, keyed["why"], *numbers(positional[1:], 3)))
         elif what == "opening":
-            self.database.execute("UPDATE side_process SET ended_after = ?, ended = ? WHERE (device, process) = (?, ?)"
-                                  " AND ended IS NULL", (after, time, *numbers(positional[1:], 2)))
+            self.database.execute(
+                f"UPDATE side_process SET name = {self.process_names.name}, ended_after = ?, ended = ?"
+                " WHERE (device, process) = (?, ?) AND ended IS NULL", (after, time, *numbers(positional[1:], 2)))
         elif what == "pid":
-            self.database.execute("UPDATE side_process SET ended_after = ?, ended = ? WHERE pid = ? AND ended IS NULL",
-                                  (after, time, *numbers(positional[1:], 1)))
+            pid, = numbers(positional[1:], 1)
+            self.database.executemany(
+                f"UPDATE side_process SET name = {self.process_names.name}, ended_after = ?, ended = ?"
+                " WHERE (device, process) = (?, ?) AND pid = ? AND ended IS NULL",
+                [(after, time, *opening, pid) for opening in self.openings_of.pop(pid, ())])
         elif what == "recording":
             self.facts.update(end_ts=time, lost=number(keyed["lost"]))
