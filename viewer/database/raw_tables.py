@@ -47,7 +47,7 @@ def schema() -> str:
 def build_loader(program: pathlib.Path) -> None:
     """Builds the loader. Its bytes do not depend on the folder of the source."""
     needs = subprocess.run([FOLDER.parents[1] / "packager/needs", "--as", "view", "loader"], capture_output=True,
-                           text=True)
+                           encoding="utf-8")
     if needs.returncode:
         raise Stopped(1, needs.stderr.strip().removeprefix("view: "))
     built = subprocess.run(["cc", "-O2", "-std=gnu11", "-Wall", "-Wextra", "-o", program, "load.c", "-lsqlite3"],
