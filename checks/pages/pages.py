@@ -13,6 +13,7 @@ What must hold:
   together. The commands of a page are run one after another in one folder, which has the repository's files and the
   program as `audit`.
 - docs/DATABASE.md names the tables of `./listing --tables`.
+- The code words, sorts and flags in docs/COMMANDS.md are those by which the second reading and the database read.
 - The files of sources that a page names are there, and docs/ARCHITECTURE.md names every crate.
 - The options that a page names are those of `--help` of the programs, and of the checks.
 - Each crate's page begins with a caller: lines of code that stand in a file of a crate above, or in a file of the crate
@@ -31,7 +32,7 @@ import subprocess
 from checks.kit.checking import check
 from checks.kit.programs import ROOT, SMALL, folder_of, linked
 from checks.kit.runs import answer
-from checks.pages import callers, definitions, named_options, promises, sources, tables
+from checks.pages import callers, codes, definitions, named_options, promises, sources, tables
 
 TITLE = "BINDER AUDIT "
 
@@ -216,7 +217,7 @@ def judge(given, room, _):
         for number, what in (*wrong_links(page), *wrong_reports(page, reports), *wrong_answers(page, program, room),
                              *wrong_changes(page, program), *wrong_bodies(page), *callers.wrong(page),
                              *promises.wrong(page), *named_options.wrong(page, options), *sources.wrong(page),
-                             *tables.wrong(page), *stale_lines(page)):
+                             *tables.wrong(page), *codes.wrong(page), *stale_lines(page)):
             yield f"{page.relative_to(ROOT)}:{number}: {what}"
 
 
