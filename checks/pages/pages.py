@@ -21,6 +21,7 @@ What must hold:
 - The wrong bodies in a crate's page are those in its must-fail/, each of which names the goal at which it is refused.
 - docs/PROMISES.md names each wrong body of each crate and no others, in its tables only names that are in the sources,
   and the sizes of what is trusted, up to a tenth. README.md has the number of wrong bodies.
+- README.md has the figures that docs/MEASURED.md has on the blind test and on the second recorder.
 - docs/DEFINITIONS.md is the page that checks/run definitions makes.
 """
 
@@ -32,7 +33,7 @@ import subprocess
 from checks.kit.checking import check
 from checks.kit.programs import ROOT, SMALL, folder_of, linked
 from checks.kit.runs import answer
-from checks.pages import callers, codes, definitions, named_options, promises, sources, tables
+from checks.pages import callers, codes, definitions, figures, named_options, promises, sources, tables
 
 TITLE = "BINDER AUDIT "
 
@@ -217,7 +218,7 @@ def judge(given, room, _):
         for number, what in (*wrong_links(page), *wrong_reports(page, reports), *wrong_answers(page, program, room),
                              *wrong_changes(page, program), *wrong_bodies(page), *callers.wrong(page),
                              *promises.wrong(page), *named_options.wrong(page, options), *sources.wrong(page),
-                             *tables.wrong(page), *codes.wrong(page), *stale_lines(page)):
+                             *tables.wrong(page), *codes.wrong(page), *figures.wrong(page), *stale_lines(page)):
             yield f"{page.relative_to(ROOT)}:{number}: {what}"
 
 
