@@ -24,7 +24,11 @@ SOURCE = """\
 
 fn main(_rt: HostRuntime) {}
 """
-PROVED = "build: little is proved, crate 1 of 1\nbuild: built crates/little/out/little\n"
+PROVED = """\
+build: nothing is kept of an earlier build; from nothing this takes some 15 minutes on four cores
+build: little is proved, crate 1 of 1
+build: built crates/little/out/little
+"""
 
 
 class Repository:
