@@ -285,24 +285,43 @@ static int is_of_frame(const char *line, const char *end, sqlite3_int64 *time, s
 	return after_number(at + sizeof word - 1, end, number) == end;
 }
 
+static void load_line(sqlite3 *database, sqlite3_stmt *to, const char *line, size_t length)
+{
+	sqlite3_int64 time, number;
+	if (!is_of_frame(line, line + length, &time, &number))
+		return;
+	sqlite3_bind_int64(to, 1, time);
+	sqlite3_bind_int64(to, 2, number);
+	if (sqlite3_step(to) != SQLITE_DONE)
+		stop("%s", sqlite3_errmsg(database));
+	sqlite3_reset(to);
+}
+
+/*
+ * The side list is read and not mapped, since it may not be ours: where a mapped file was cut, a read of it would end
+ * this program. Of a line only as much is kept as one of a frame has.
+ */
 static void load_times(sqlite3 *database, const char *path)
 {
-	size_t length;
-	unsigned char *bytes = bytes_of(path, &length);
-	const char *line = (const char *)bytes, *last = line + length, *end;
+	FILE *list = fopen(path, "re");
+	if (!list)
+		stop("%s: %s", path, strerror(errno));
 	sqlite3_stmt *next = prepared(database, "INSERT OR REPLACE INTO side_time(ts, seq) VALUES (?, ?)");
-	for (; line < last && (end = memchr(line, '\n', (size_t)(last - line))); line = end + 1) {
-		sqlite3_int64 time, number;
-		if (!is_of_frame(line, end, &time, &number))
-			continue;
-		sqlite3_bind_int64(next, 1, time);
-		sqlite3_bind_int64(next, 2, number);
-		if (sqlite3_step(next) != SQLITE_DONE)
-			stop("%s", sqlite3_errmsg(database));
-		sqlite3_reset(next);
+	char line[2 * MOST_DIGITS + sizeof " frame "];
+	size_t length = 0;
+	for (int sign; (sign = getc_unlocked(list)) != EOF;) {
+		if (sign == '\n') {
+			if (length <= sizeof line)
+				load_line(database, next, line, length);
+			length = 0;
+		} else if (length++ < sizeof line) {
+			line[length - 1] = (char)sign;
+		}
 	}
+	if (ferror(list))
+		stop("%s: %s", path, strerror(errno));
 	sqlite3_finalize(next);
-	forget(bytes, length);
+	fclose(list);
 }
 
 static void run_file(sqlite3 *database, const char *path)

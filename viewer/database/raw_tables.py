@@ -44,16 +44,21 @@ def schema() -> str:
 # ---- the loader
 
 
+def said_by(ended: subprocess.CompletedProcess[bytes]) -> str:
+    """The lines of a program on why it failed, as one. Names of files in them may have any bytes."""
+    said = os.fsdecode(ended.stderr).strip().replace("\n", "; ")
+    return said or f"{os.path.basename(ended.args[0])} ended with status {ended.returncode}"
+
+
 def build_loader(program: pathlib.Path) -> None:
     """Builds the loader. Its bytes do not depend on the folder of the source."""
-    needs = subprocess.run([FOLDER.parents[1] / "packager/needs", "--as", "view", "loader"], capture_output=True,
-                           encoding="utf-8")
+    needs = subprocess.run([FOLDER.parents[1] / "packager/needs", "--as", "view", "loader"], capture_output=True)
     if needs.returncode:
-        raise Stopped(1, needs.stderr.strip().removeprefix("view: "))
+        raise Stopped(1, said_by(needs).removeprefix("view: "))
     built = subprocess.run(["cc", "-O2", "-std=gnu11", "-Wall", "-Wextra", "-o", program, "load.c", "-lsqlite3"],
-                           cwd=FOLDER, capture_output=True, encoding="utf-8")
+                           cwd=FOLDER, capture_output=True)
     if built.returncode:
-        raise Stopped(1, f"the loader could not be built: {built.stderr.strip()}")
+        raise Stopped(1, f"the loader could not be built: {said_by(built)}")
 
 
 @functools.cache
@@ -75,7 +80,6 @@ def load_rows(database: pathlib.Path, rows: pathlib.Path, side: str | None) -> N
     """Makes a new database from the `.rows` files of a folder, with the times of frames in a side list."""
     made = rows / "schema.sql"
     made.write_text(schema(), "utf-8")
-    loaded = subprocess.run([loader(), database, rows, made, *([] if side is None else [side])],
-                            capture_output=True, encoding="utf-8")
+    loaded = subprocess.run([loader(), database, rows, made, *([] if side is None else [side])], capture_output=True)
     if loaded.returncode:
-        raise Stopped(4, loaded.stderr.strip().removeprefix("load: "))
+        raise Stopped(4, said_by(loaded).removeprefix("load: "))

@@ -4,7 +4,7 @@ import pathlib
 import re
 import shutil
 import sqlite3
-from typing import Iterable, NamedTuple
+from typing import NamedTuple, TextIO
 
 from viewer.database import side_belongs
 from viewer.database.last_names import LastNames
@@ -15,11 +15,16 @@ from viewer.units import signed
 # ---- numbers
 
 
+def decimal(word: str, bits: int) -> int:
+    """A number of at most so many bits. Nothing longer is read: of thousands of digits Python takes no number."""
+    if not re.fullmatch("[0-9]{1,20}", word) or int(word) >= 2**bits:
+        raise ValueError(word)
+    return int(word)
+
+
 def number(word: str) -> int:
     """A number of at most 64 bits, as SQLite has it."""
-    if not (word.isascii() and word.isdigit() and int(word) < 2**64):
-        raise ValueError(word)
-    return signed(int(word))
+    return signed(decimal(word, 64))
 
 
 def address(word: str) -> int:
@@ -50,6 +55,9 @@ class Copy(NamedTuple):
     size: int
 
 
+# The most characters of a line. Those of the recorder have some ten thousand at most.
+MOST_OF_LINE = 2**20
+
 # The longest name that is kept. Those of the system have at most 15 bytes, and command lines at most 256.
 LONGEST_NAME = 256
 
@@ -65,13 +73,15 @@ def line_of(line: str, path: str) -> tuple[int, str, list[str], dict[str, str]]:
     front, named, name = line.partition(" name=")
     time, _, rest = front.partition(" ")
     word, *fields = rest.split(" ")
-    if not (time.isascii() and time.isdigit() and int(time) < 2**63):
-        raise Stopped(4, f"{path} has a line without a time: {line[:80]!r}")
+    try:
+        at = decimal(time, 63)
+    except ValueError as error:
+        raise Stopped(4, f"{path} has a line without a time: {line[:80]!r}") from error
     positional = [field for field in fields if "=" not in field]
     keyed = dict(field.split("=", 1) for field in fields if "=" in field)
     if named:
         keyed["name"] = unescaped(name)
-    return int(time), word, positional, keyed
+    return at, word, positional, keyed
 
 
 def drivers_of(text: str) -> dict[tuple[int, int], str]:
@@ -83,23 +93,43 @@ def drivers_of(text: str) -> dict[tuple[int, int], str]:
     return found
 
 
+# The first lines of the forms that are read: of earlier recorders, and of today's.
+VERSIONS = {"binder side list 1\n": 1, "binder side list 2\n": 2}
+
+
+def version_of(first: str, path: str) -> int:
+    """The version of a side list, by its first line. What is none is refused."""
+    if first in VERSIONS:
+        return VERSIONS[first]
+    what = "is empty, and no" if not first else "is a capture, and no" if first.startswith("BNDRCAP") else "is not a"
+    raise Stopped(4, f"{path} {what} side list of version 1 or 2")
+
+
+def refuse_others(paths: list[str]) -> None:
+    """Stops before anything is read if one of the files is no side list."""
+    for path in paths:
+        try:
+            with open(path, encoding="utf-8", errors="replace", newline="\n") as lines:
+                version_of(lines.readline(MOST_OF_LINE), path)
+        except OSError as error:
+            raise Stopped(4, f"{path}: {error.strerror}") from error
+
+
 def joined_sides(paths: list[str], to: pathlib.Path) -> str:
     """The side lists of the files of a flight recorder as one. Each of them begins with what was met before its file;
     of all but the first one, that is left out."""
+    refuse_others(paths)
     if len(paths) == 1:
         return paths[0]
     with open(to, "wb", opener=for_owner) as out:
         for at, path in enumerate(paths):
             with open(path, "rb") as lines:
-                for line in lines if at else ():
+                while at and (line := lines.readline(MOST_OF_LINE)):
                     if line.split(b" ", 2)[1:2] == [b"file"]:
                         break
                 shutil.copyfileobj(lines, out)
     return str(to)
 
-
-# The first lines of the forms that are read: of earlier recorders, and of today's.
-VERSIONS = {"binder side list 1\n": 1, "binder side list 2\n": 2}
 
 # The fields of `begin` since version 2. Lists of version 1 may lack some of them.
 BEGIN_FIELDS = frozenset(("realtime", "boottime", "kernel", "machine", "payloads", "drivers"))
@@ -139,9 +169,7 @@ class SideList:
         """Takes all lines of a side list. A last line that was cut is left out."""
         try:
             with open(path, encoding="utf-8", errors="replace", newline="\n") as lines:
-                self.version = VERSIONS.get(next(lines, ""), 0)
-                if not self.version:
-                    raise Stopped(4, f"{path} is not a side list of version 1 or 2")
+                self.version = version_of(lines.readline(MOST_OF_LINE), path)
                 self.facts["side_list"] = self.version
                 self.read_lines(lines, path)
         except OSError as error:
@@ -165,8 +193,8 @@ class SideList:
             raise Stopped(1, why)
         self.facts["side_doubt"] = side_belongs.doubt(self.database, self.last())
 
-    def read_lines(self, lines: Iterable[str], path: str) -> None:
-        for line in lines:
+    def read_lines(self, lines: TextIO, path: str) -> None:
+        while line := lines.readline(MOST_OF_LINE):
             # Nearly all lines are those of frames and of their stacks, so they are not split like the others.
             if frame := FRAME_LINE.match(line):
                 self.frame = frame
@@ -174,6 +202,8 @@ class SideList:
                 self.add_call(call[1], call[2])
             elif line.endswith("\n"):
                 self.take(line_of(line[:-1], path), path)
+            elif len(line) == MOST_OF_LINE:
+                raise Stopped(4, f"{path} has a line of more than {MOST_OF_LINE:,} characters")
 
     def take(self, line: tuple[int, str, list[str], dict[str, str]], path: str) -> None:
         time, word, positional, keyed = line
@@ -182,7 +212,7 @@ class SideList:
             return
         try:
             taker(time, positional, keyed)
-        except (KeyError, ValueError, IndexError) as error:
+        except (KeyError, ValueError, IndexError, OverflowError) as error:
             raise Stopped(4, f"{path}: the line '{word}' at {time} is not valid") from error
 
     def flush(self) -> None:
@@ -246,6 +276,8 @@ class SideList:
 
     def take_books(self, time: int, positional: list[str], keyed: dict[str, str]) -> None:
         moment, what = positional[:2]
+        if not re.fullmatch("[a-z_]+ [a-z_]+", f"{moment} {what}"):  # they are a part of the names of files
+            raise ValueError(positional)
         self.copies.append(Copy(moment, what, number(keyed["from"]), number(keyed["after"]), time,
                                 number(keyed["bytes"])))
 

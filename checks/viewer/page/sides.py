@@ -1,8 +1,14 @@
 """Side lists, and how a capture is loaded."""
 
+import contextlib
+import os
 import pathlib
+import random
 import re
 import sqlite3
+import subprocess
+import time
+from typing import Callable
 
 from checks.kit.checking import Fail, compare
 from checks.kit.frames import frames_of
@@ -95,13 +101,8 @@ def check_forms(_: pathlib.Path, room: pathlib.Path, fail: Fail) -> None:
     for number, (version, begin, due) in enumerate(FORMS):
         list_ = room / f"form-{number}.side"
         list_.write_text(f"binder side list {version}\n5 begin {begin}\n", "utf-8")
-        database = sqlite3.connect(":memory:")
-        database.executescript(raw_tables.schema())
-        taken, came = side_list.SideList(database), ""
-        try:
-            taken.load(str(list_))
-        except Stopped as stopped:
-            came = str(stopped)
+        taken = side_list.SideList(empty_database())
+        came = refusal(lambda: taken.load(str(list_)))
         compare(f"side list {number}", (due in came, bool(came)), (True, bool(due)), fail)
         compare(f"the version of side list {number}", taken.facts.get("side_list"), version if version < 3 else None,
                 fail)
@@ -179,6 +180,153 @@ def check_renames(folder: pathlib.Path, room: pathlib.Path, fail: Fail) -> None:
         database.close()
 
 
+# ---- the last names
+
+WHOLE_BEGIN = f"binder side list 2\n5 begin {OLD_BEGIN} boottime=1 payloads=whole drivers=\n"
+
+
+class Row:
+    """A process or a thread of a side list, by the lines that came for it."""
+
+    def __init__(self, number: int, name: str):
+        self.number, self.name, self.has_ended = number, name, False
+
+
+class Named:
+    """What the lines of a side list name, line by line: a line `name` is for all that has not ended."""
+
+    def __init__(self) -> None:
+        self.lines: list[str] = []
+        self.processes: dict[int, Row] = {}
+        self.threads: dict[int, Row] = {}
+
+    def tell(self, line: str) -> None:
+        self.lines.append(f"{6 + len(self.lines)} {line}\n")
+
+    def comes(self, key: int, pid: int, tid: int) -> None:
+        name = f"first-{len(self.lines)}"
+        self.tell(f"process 0 {key} pid={pid} start=1 opening={key} met=from-start name={name}")
+        self.tell(f"thread 0 {key} 1 pid={pid} tid={tid} start=1 name={name}")
+        self.processes[key], self.threads[key] = Row(pid, name), Row(tid, name)
+
+    def is_called(self, pid: int, tid: int) -> None:
+        name = f"later-{len(self.lines)}"
+        self.tell(f"name pid={pid} tid={tid} after=0 name={name}")
+        for number, rows in ((tid, self.threads), (pid if pid == tid else -1, self.processes)):
+            for row in rows.values():
+                if row.number == number and not row.has_ended:
+                    row.name = name
+
+    def ends(self, what: str, key: int, pid: int) -> None:
+        self.tell(f"end {what} " + {"thread": f"0 {key} 1 after=0 why=ended", "opening": f"0 {key} after=0",
+                                    "pid": f"{pid} after=0"}[what])
+        ended = {"thread": [self.threads.get(key)], "opening": [self.processes.get(key)],
+                 "pid": [row for row in self.processes.values() if row.number == pid]}[what]
+        for row in filter(None, ended):
+            row.has_ended = True
+
+    def names(self) -> list[list[tuple[int, str]]]:
+        return [sorted((key, row.name) for key, row in rows.items()) for rows in (self.processes, self.threads)]
+
+
+def loaded_names(list_: pathlib.Path) -> tuple[list[list[tuple[int, str]]], int]:
+    """The names of the processes and of the threads of a side list, and how many thousands of its instructions SQLite
+    took for the list."""
+    database, thousands = empty_database(), [0]
+
+    def count() -> None:
+        thousands[0] += 1
+
+    database.set_progress_handler(count, 1000)
+    side_list.SideList(database).load(str(list_))
+    database.set_progress_handler(None, 0)
+    return [database.execute(f"SELECT process, name FROM side_{table} ORDER BY 1").fetchall()
+            for table in ("process", "thread")], thousands[0]
+
+
+def check_last_names(_: pathlib.Path, room: pathlib.Path, fail: Fail) -> None:
+    """Each row has the last name that came before it ended, in lists of made-up lines. And a line costs the same,
+    however many openings its thread or its process has."""
+    chance, list_ = random.Random(1), room / "names.side"
+    for number in range(30):
+        named = Named()
+        for _ in range(chance.choice((10, 100, 300))):
+            key, pid, tid = chance.randrange(12), chance.randrange(3), chance.randrange(4)
+            chance.choice((lambda: named.comes(key, pid, tid), lambda: named.is_called(pid, tid),
+                           lambda: named.ends(chance.choice(("thread", "opening", "pid")), key, pid)))()
+        list_.write_text(WHOLE_BEGIN + "".join(named.lines), "utf-8")
+        compare(f"the names of list {number}", loaded_names(list_)[0], named.names(), fail)
+    many = Named()
+    for key in range(300):
+        many.comes(key, 7, 7)
+    for _ in range(1000):
+        many.tell("name pid=7 tid=7 after=0 name=other")
+    for key in range(1000, 1300):
+        many.comes(key, 7, 7)
+        many.tell("end pid 7 after=0")
+    list_.write_text(WHOLE_BEGIN + "".join(many.lines), "utf-8")
+    _, thousands = loaded_names(list_)
+    compare(f"{thousands} thousand instructions for {len(many.lines)} lines, at most 100 a line",
+            10 * thousands <= len(many.lines), True, fail)
+
+
+# ---- lists that are none, and lines that mean harm
+
+CAPTURE = (DRIVER / "objects/capture-1.cap").read_bytes()
+
+# What is no side list, and why it is refused.
+NO_LISTS = ((b"", "is empty, and no side list of version 1 or 2"),
+            (CAPTURE, "is a capture, and no side list of version 1 or 2"),
+            (b"\xff\x1b[2J a text\n", "is not a side list of version 1 or 2"),
+            (b"binder side list 2", "is not a side list of version 1 or 2"))
+
+# Lines of a side list, and why it is refused; "" if it is read.
+BAD_LINES = (
+    ("9" * 5000 + " frame 1", f"has a line without a time: '{'9' * 80}'"),
+    (f"6 frame {'9' * 5000}", "the line 'frame' at 6 is not valid"),
+    (f"6 lost {2**63 - 1} why=ring-full\n7 thread 0 1 1 pid=1 tid=1 start=1 name=a",
+     "the line 'thread' at 7 is not valid"),
+    (f"6 lost {2**64} why=ring-full", "the line 'lost' at 6 is not valid"),
+    ("6 books begin\0 state from=0 after=0 bytes=0", "the line 'books' at 6 is not valid"),
+    ("6 books begin\x1b]0;a\x07 state from=0 after=0 bytes=0", "the line 'books' at 6 is not valid"),
+    ("6 books begin ../state from=0 after=0 bytes=0", "the line 'books' at 6 is not valid"),
+    ("6 books begin state from=0 after=0 bytes=0", ""),
+    ("6 " + "a" * side_list.MOST_OF_LINE, f"has a line of more than {side_list.MOST_OF_LINE:,} characters"))
+
+
+def refusal(do: Callable[[], object]) -> str:
+    """The line with which this is refused, or what else ends it; "" if it is not."""
+    try:
+        do()
+    except Exception as error:
+        return str(error) if isinstance(error, Stopped) and error.status == 4 else repr(error)
+    return ""
+
+
+def empty_database() -> sqlite3.Connection:
+    database = sqlite3.connect(":memory:")
+    database.executescript(raw_tables.schema())
+    return database
+
+
+def check_no_lists(_: pathlib.Path, room: pathlib.Path, fail: Fail) -> None:
+    """What is no side list is refused before anything is read, also as the second of two; and a list with a line that
+    is none."""
+    good = room / "good.side"
+    good.write_text(WHOLE_BEGIN, "utf-8")
+    for number, (data, due) in enumerate(NO_LISTS):
+        list_ = room / f"none-{number}.side"
+        list_.write_bytes(data)
+        for lists in ([list_], [good, list_]):
+            came = refusal(lambda: side_list.joined_sides(list(map(str, lists)), room / "joined.side"))
+            compare(f"what is no side list, {number} of {len(lists)}", came, f"{list_} {due}", fail)
+    for number, (line, due) in enumerate(BAD_LINES):
+        list_ = room / f"bad-{number}.side"
+        list_.write_text(f"{WHOLE_BEGIN}{line}\n", "utf-8")
+        came = refusal(lambda: side_list.SideList(empty_database()).load(str(list_)))
+        compare(f"a bad line, {number}", (due in came, bool(came)), (True, bool(due)), fail)
+
+
 # Lines of frames: one that comes twice, one with a number of 19 digits, one within a name, and a last one that is cut.
 ODD_SIDE = """binder side list 1
 100 frame 1
@@ -203,6 +351,30 @@ def check_times(folder: pathlib.Path, room: pathlib.Path, fail: Fail) -> None:
     compare("times of frames", made.execute("SELECT seq, ts FROM side_time").fetchall(),
             [(1, 100), (2, 250), (3, 300), (7, 999999999999999999), (10**18, 700)], fail)
     made.close()
+
+
+def is_reading(process: int, path: pathlib.Path) -> bool:
+    """Whether a process has a file open, or mapped."""
+    here = pathlib.Path(f"/proc/{process}")
+    with contextlib.suppress(OSError):  # it has ended
+        return str(path) in (here / "maps").read_text("utf-8") or any(
+            os.readlink(link) == str(path) for link in (here / "fd").iterdir())
+    return False
+
+
+def check_cut_meanwhile(_: pathlib.Path, room: pathlib.Path, fail: Fail) -> None:
+    """The loader does not crash if a side list is cut while it reads it."""
+    rows, list_ = room / "rows", room / "long.side"
+    rows.mkdir()
+    for table in columns_of_tables():
+        (rows / f"{table}.rows").touch()
+    (rows / "schema.sql").write_text(raw_tables.schema(), "utf-8")
+    list_.write_text("binder side list 2\n" + "".join(f"{5 + at} frame {at}\n" for at in range(1, 300_000)), "utf-8")
+    loading = subprocess.Popen([raw_tables.loader(), room / "made.db", rows, rows / "schema.sql", list_])
+    while loading.poll() is None and not is_reading(loading.pid, list_):
+        time.sleep(0.001)
+    os.truncate(list_, 0)
+    compare("the loader, of a list that is cut meanwhile", loading.wait(60), 0, fail)
 
 
 def loaded_rows(database: sqlite3.Connection, table: str) -> list[dict[str, object]]:
