@@ -24,16 +24,18 @@ What must hold:
 - The files of a flight recorder, each with its side list, are shown like the whole capture; the last one alone says
   what it cannot know.
 - Page, database and side list of a capture have no secret of its payloads, and a redacted capture has none either.
-- A side list of another form, or of another capture, is refused. If a side list may belong to another capture, a line
-  says so. A thread that changed its name has the last one. If frames are later than the end of the recording, a line
-  says how many.
+- A side list of another form, or of another capture, what is no side list, and a line that is none, are refused in a
+  line; a list that is cut while it is loaded crashes nothing. If a side list may belong to another capture, a line says
+  so. A thread that changed its name has the last one, and what that costs has a ceiling. If frames are later than the
+  end of the recording, a line says how many.
 - A malformed capture, in one file or in parts, has a page with the line of its fault and what comes before it, and
   status 2.
 - SIGTERM leaves nothing in TMPDIR.
 - Names from a stranger run nothing, break nothing and change no direction of text. Existing files are not overwritten.
 - All markup is in the templates of the page. Without their engine only the page is refused.
 - The driver's books at the end agree with the report, or a line says where not, or why they are not compared; copies
-  that are no such books are left out. A process is called what its command line says, where that is more than its name.
+  that are no such books are left out, also those with numbers of thousands of digits, and what long ones take has a
+  ceiling. A process is called what its command line says, where that is more than its name.
 - Of calls whose data name an interface, page, database, groups and timeline have that, and the methods of a table of
   `viewer/methods/table.py`. A table changes no verdict, and nothing of a capture without names. A wrong one is refused.
 - Of a side list with stacks the page shows that of the first record of a group, and how many have the same; the
@@ -63,15 +65,16 @@ from concurrent.futures import ProcessPoolExecutor
 from checks.kit.checking import FLAG, Fail, check, failures_of, run_parts
 from checks.kit.programs import DRIVER, ROOT, built_programs, programs
 from checks.viewer.page.against import check_against
-from checks.viewer.page.books import check_agreement, check_commands, check_copies
+from checks.viewer.page.books import (check_agreement, check_bad_books, check_commands, check_copies,
+                                      check_long_books)
 from checks.viewer.page.browser import check_browser
 from checks.viewer.page.growth import check_growth
 from checks.viewer.page.losses import CUTS, FAULTLESS, check_cuts, check_gaps
 from checks.viewer.page.methods import check_methods, check_unnamed
 from checks.viewer.page.reports import check_sample
 from checks.viewer.page.services import CAPTURES, check_libgbinder, check_services
-from checks.viewer.page.sides import (check_files, check_forms, check_late, check_loader, check_renames, check_side,
-                                      check_times)
+from checks.viewer.page.sides import (check_cut_meanwhile, check_files, check_forms, check_last_names, check_late,
+                                      check_loader, check_no_lists, check_renames, check_side, check_times)
 from checks.viewer.page.stacks import check_stacks
 from checks.viewer.page.words import (check_hostile, check_malformed, check_no_engine, check_secrets, check_stopped,
                                       check_templates, check_told, check_words)
@@ -95,10 +98,11 @@ def check_all(folder: pathlib.Path, room: pathlib.Path, fail: Fail) -> None:
                  for path in DRIVER.glob("*/capture.side")]
         check_templates(fail)
         run_parts((check_words, check_stopped, check_no_engine), folder, room, fail)
-        run_parts((check_side, check_forms, check_renames, check_files, check_secrets, check_told, check_late,
-                   check_malformed, check_hostile, check_methods, check_unnamed, check_services, check_times,
-                   check_loader, check_agreement, check_copies, check_commands, check_stacks, check_growth,
-                   check_against), built, room, fail)
+        run_parts((check_side, check_forms, check_no_lists, check_cut_meanwhile, check_renames, check_last_names,
+                   check_files, check_secrets, check_told, check_late, check_malformed, check_hostile, check_methods,
+                   check_unnamed, check_services, check_times, check_loader, check_agreement, check_copies,
+                   check_bad_books, check_long_books, check_commands, check_stacks, check_growth, check_against),
+                  built, room, fail)
         for job in jobs:
             for what in job.result():
                 fail(what)

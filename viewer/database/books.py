@@ -23,6 +23,7 @@ RUST_TRANSACTION = re.compile(
     r" code ([0-9a-f]+) flags ([0-9a-f]+) elapsed \d+ms(?: node (\d+))? size")
 RUST_NODE = re.compile(r"node (\d+): u([0-9a-f]+) c([0-9a-f]+) hs (true|false) hw (true|false) cs \d+ cw \d+")
 RUST_REF = re.compile(r"ref \d+: desc (\d+) (dead )?node (\d+) s (-?\d+) w (-?\d+)(?!\d| d )")
+NEXT_RUST_REF = re.compile(rf"\s*{RUST_REF.pattern}")
 RUST_BUFFER = re.compile(
     r"buffer(?: \d+)?: (\d+) size (\d+) pid -?\d+(?: oneway(?: true| false)?)? (reserved|allocated)")
 RUST_LINE = re.compile("|".join((r"thread \d+: l \w+ need_return (?:true|false)$", *(
@@ -65,7 +66,7 @@ class Opening:
     def __init__(self, pid: int):
         self.pid, self.context = pid, ""
         self.refs: dict[int, Handle] = {}
-        self.requests: list[int] = []
+        self.requests: set[int] = set()
         self.nodes: dict[tuple[int, int], tuple[int, int, int | None, int | None]] = {}
         self.node_numbers: dict[tuple[int, int], int] = {}
         self.areas: dict[int, Buffer] = {}
@@ -111,7 +112,7 @@ class Opening:
         elif found := REF.match(word):
             self.refs[int(found[1])] = Handle(int(found[4]), int(found[5]), int(found[3]), found[2] is not None)
             if found[6].strip("0"):
-                self.requests.append(int(found[1]))
+                self.requests.add(int(found[1]))
         elif found := BUFFER.match(word):
             self.areas[int(found[1])] = Buffer(int(found[2], 16), int(found[3]), int(found[4]))
         elif word.startswith("transaction error: "):
@@ -159,10 +160,11 @@ class RustOpening(Opening):
         return None
 
     def take_line(self, line: str, thread: int) -> None:
-        while found := RUST_REF.match(line.lstrip()):
+        at = 0
+        while found := NEXT_RUST_REF.match(line, at):
             self.refs[int(found[1])] = Handle(int(found[4]), int(found[5]), int(found[3]), found[2] is not None)
-            line = line.lstrip()[found.end():]
-        self.take(line, thread)
+            at = found.end()
+        self.take(line[at:], thread)
 
     def take(self, line: str, thread: int) -> None:
         word = line.strip()
@@ -253,7 +255,7 @@ def stats(text: str) -> tuple[Counter[str], list[Counts]]:
 
 
 def codes_of(part: str) -> Counter[str]:
-    return Counter({name: int(count) for name, count in re.findall(r"^\s*(B[CR]_\w+): (\d+)$", part, re.M)})
+    return Counter({name: int(count) for name, count in re.findall(r"^ *(B[CR]_\w+): (\d+)$", part, re.M)})
 
 
 def counts_of(driver: str, part: str) -> Counts:

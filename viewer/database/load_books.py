@@ -33,6 +33,8 @@ def text_of(copy: Copy, sides: list[str]) -> tuple[str | None, str | None]:
     for side in sides:
         for path in places_of(copy, side):
             try:
+                if not path.is_file():  # a FIFO would keep us waiting
+                    continue
                 data = path.read_bytes()
             except OSError:
                 continue
@@ -154,11 +156,21 @@ def load_state(database: sqlite3.Connection, copy: Copy, openings: list[Opening]
              for side, tid, item in sides_of(opening)))
 
 
-def load_stats(database: sqlite3.Connection, copy: Copy, text: str) -> None:
-    """For how many threads the driver asked, and may ask, by the book `stats`; and the free space for oneway sends."""
-    database.executemany("INSERT INTO book_stats VALUES (?, ?, ?, ?, ?, ?)", (
-        (copy.moment, upid, counts.requested, counts.started, counts.most, counts.oneway_free)
-        for upid, counts in matched(database, copy, stats(text)[1])))
+def none_of_the_drivers(what: str, moment: str) -> str:
+    return f"the copy of {what} at the {moment} has numbers that are none of the driver's"
+
+
+def load_stats(database: sqlite3.Connection, copy: Copy, text: str) -> str | None:
+    """For how many threads the driver asked, and may ask, by the book `stats`; and the free space for oneway sends.
+    Returns what is wrong with the book if it is left out."""
+    try:
+        database.executemany("INSERT INTO book_stats VALUES (?, ?, ?, ?, ?, ?)", (
+            (copy.moment, upid, counts.requested, counts.started, counts.most, counts.oneway_free)
+            for upid, counts in matched(database, copy, stats(text)[1])))
+    except (ValueError, OverflowError):
+        database.execute("DELETE FROM book_stats WHERE moment = ?", (copy.moment,))
+        return none_of_the_drivers("stats", copy.moment)
+    return None
 
 
 # ---- calls that were open throughout
@@ -192,6 +204,13 @@ class Throughout:
     def __init__(self, database: sqlite3.Connection, begin: list[Opening], end: list[Opening], copy: Copy,
                  names: dict[int, str]):
         self.database, self.names, self.silent = database, names, list[Matched]()
+        self.known = set(database.execute("SELECT p.pid, d.name, d.driver FROM process p"
+                                          " LEFT JOIN side_device d USING (device)"))
+        self.devices = {(name, driver): device for device, name, driver in
+                        database.execute("SELECT device, name, driver FROM side_device ORDER BY device DESC")}
+        self.last_upid, self.last_device = database.execute(
+            "SELECT coalesce((SELECT max(upid) FROM process), 0), coalesce((SELECT max(device) FROM"
+            " (SELECT device FROM side_device UNION ALL SELECT device FROM raw_process)), -1)").fetchone()
         self.upids = {id(one.opening): one.upid for one in matched(database, copy, end)}
         self.numbers = Counter((one.pid, one.context, one.driver) for one in end)
         made, served = places_of_calls(end)
@@ -201,27 +220,38 @@ class Throughout:
     def upid_of(self, opening: Opening) -> int | None:
         """The process of an opening; None if it is not certain which one it is."""
         if id(opening) not in self.upids:
-            known = self.database.execute("SELECT 1 FROM process p LEFT JOIN side_device d USING (device)"
-                                          " WHERE p.pid = ? AND coalesce(d.name = ?, 1) AND coalesce(d.driver = ?, 1)",
-                                          (opening.pid, opening.context, opening.driver)).fetchone()
-            if known or self.numbers[opening.pid, opening.context, opening.driver] > 1:
+            if self.is_known(opening) or self.numbers[opening.pid, opening.context, opening.driver] > 1:
                 return None
             self.add(opening)
         return self.upids[id(opening)]
 
+    def is_known(self, opening: Opening) -> bool:
+        """Whether the capture may have the opening: a process of this number, of whose device nothing else is known."""
+        return any((opening.pid, name, driver) in self.known
+                   for name in (opening.context, None) for driver in (opening.driver, None))
+
     def add(self, opening: Opening) -> None:
         """Gives an opening without a frame a number after those of the capture."""
-        upid, = self.database.execute("SELECT coalesce(max(upid), 0) + 1 FROM process").fetchone()
-        device = self.database.execute("SELECT device FROM side_device WHERE name = ? AND coalesce(driver = ?, 1)",
-                                       (opening.context, opening.driver)).fetchone()
-        if device is None:
-            device = self.database.execute("SELECT coalesce(max(device), -1) + 1 FROM side_device").fetchone()
-            self.database.execute("INSERT INTO side_device VALUES (?, ?, ?)",
-                                  (*device, opening.context, opening.driver))
+        self.last_upid += 1
+        device, driver = self.device_of(opening)
         self.database.execute("INSERT INTO book_process VALUES (?, ?, ?, ?)",
-                              (upid, *device, opening.pid, self.names.get(opening.pid)))
-        self.upids[id(opening)] = upid
-        self.silent.append(Matched(upid, opening))
+                              (self.last_upid, device, opening.pid, self.names.get(opening.pid)))
+        self.known.add((opening.pid, opening.context, driver))
+        self.upids[id(opening)] = self.last_upid
+        self.silent.append(Matched(self.last_upid, opening))
+
+    def device_of(self, opening: Opening) -> tuple[int, str | None]:
+        """The number of the device of an opening, with its driver if that is known; a new one if the side list has
+        none."""
+        found = [(self.devices[opening.context, driver], driver) for driver in (opening.driver, None)
+                 if (opening.context, driver) in self.devices]
+        if found:
+            return min(found, key=lambda device: device[0])
+        self.last_device += 1
+        self.database.execute("INSERT INTO side_device VALUES (?, ?, ?)",
+                              (self.last_device, opening.context, opening.driver))
+        self.devices[opening.context, opening.driver] = self.last_device
+        return self.last_device, opening.driver
 
     def load(self) -> None:
         """A thread has its calls at -1, the last one, -2 and so on: before all that the capture has of it."""
@@ -247,9 +277,14 @@ def load_states(database: sqlite3.Connection, states: dict[str, tuple[Copy, str]
                 names: dict[int, str]) -> Iterator[str]:
     """Puts the books `state` into the database, each by its moment. Returns what is wrong with those that are left
     out. `names` are those of the processes that were there before, by their pid."""
-    openings = {moment: state(text) for moment, (_, text) in states.items()}
+    openings: dict[str, list[Opening]] = {}
+    for moment, (_, text) in states.items():
+        try:
+            openings[moment] = state(text)
+        except ValueError:
+            yield none_of_the_drivers("state", moment)
     silent: list[Matched] = []
-    if len(states) == 2:
+    if len(openings) == 2:
         calls = Throughout(database, openings["begin"], openings["end"], states["end"][0], names)
         try:
             calls.load()
@@ -258,19 +293,20 @@ def load_states(database: sqlite3.Connection, states: dict[str, tuple[Copy, str]
             database.execute("DELETE FROM book_open")
             database.execute("DELETE FROM book_process")
             yield "the copies of state have calls with numbers that are none of the driver's"
-    for moment, (copy, _) in states.items():
+    for moment, those in openings.items():
         try:
-            load_state(database, copy, openings[moment], silent)
+            load_state(database, states[moment][0], those, silent)
         except OverflowError:
             for table in ("book_opening", "book_handle", "book_node", "book_buffer", "book_call"):
                 database.execute(f"DELETE FROM {table} WHERE moment = ?", (moment,))
-            yield f"the copy of state at the {moment} has numbers that are none of the driver's"
+            yield none_of_the_drivers("state", moment)
 
 
 def load(database: sqlite3.Connection, copies: list[Copy], sides: list[str], names: dict[int, str]) -> str | None:
-    """Puts the copies into the database. Returns what is wrong with those that are left out."""
+    """Puts the copies into the database. Returns what is wrong with those that are left out. Of two copies of one book
+    the last counts."""
     wrong, states = [], {}
-    for copy in copies:
+    for copy in {(copy.moment, copy.what): copy for copy in copies}.values():
         text, why = text_of(copy, sides)
         if text is None:
             wrong.append(why)
@@ -278,7 +314,7 @@ def load(database: sqlite3.Connection, copies: list[Copy], sides: list[str], nam
         copy = widened(database, copy)
         database.execute("INSERT OR REPLACE INTO book VALUES (?, ?, ?, ?, ?)", copy[:5])
         if copy.what == "stats" and copy.moment in ("begin", "end"):
-            load_stats(database, copy, text)
+            wrong.append(load_stats(database, copy, text))
         if copy.what == "state" and copy.moment in ("begin", "end"):
             states[copy.moment] = copy, text
     wrong += load_states(database, states, names)

@@ -1,17 +1,22 @@
-"""The driver's books beside a side list: what is read of them, and that they are compared with the report. And what
-processes are called by their command lines."""
+"""The driver's books beside a side list: what is read of them, that they are compared with the report, and books that
+mean harm. And what processes are called by their command lines."""
 
 import html
+import os
 import pathlib
 import re
 import sqlite3
+import time
 from typing import Iterator
 
 from checks.kit.checking import Fail, compare
 from checks.kit.frames import frames_of
 from checks.viewer.page.common import texts_of, view, written
-from checks.viewer.sessions.book_cases import buffer, own, ref, thread, transaction_of
+from checks.viewer.sessions.book_cases import buffer, call_of, own, ref, thread, transaction_of
 from checks.viewer.sessions.session import *
+from viewer.database import load_books, raw_tables
+from viewer.database.books import state, stats
+from viewer.database.side_list import Copy
 
 # ---- a session that ends with one of each thing that is compared, and the book of that
 
@@ -257,3 +262,84 @@ def check_commands(folder: pathlib.Path, room: pathlib.Path, fail: Fail) -> None
                                    "utf-8")
     status, _, _ = view(folder, room, "bad.cap", "--side", "bad.side", "--groups")
     compare("a command line without a user", status, 4, fail)
+
+
+# ---- books that mean harm
+
+LONG, WIDE = "9" * 5000, str(2**70)
+THREADS = "binder stats:\nproc 100\ncontext binder\n  requested threads: 0+{}/15\n"
+NO_NUMBERS = "the copy of {} at the begin has numbers that are none of the driver's"
+
+# What a book of the beginning has, and what is said of it.
+BAD_BOOKS = (
+    ("state", f"binder state:\nproc 100\ncontext binder\n{own(0x100, local=LONG)}", NO_NUMBERS.format("state")),
+    ("state", f"binder state:\nproc 100\ncontext binder\n{own(0x100, local=WIDE)}", NO_NUMBERS.format("state")),
+    ("state", f"binder state:\nproc {LONG}\n", NO_NUMBERS.format("state")),
+    ("stats", THREADS.format(LONG), NO_NUMBERS.format("stats")),
+    ("stats", THREADS.format(WIDE), NO_NUMBERS.format("stats")),
+    ("stats", f"{THREADS.format(1)}BC_REPLY: {LONG}\n", NO_NUMBERS.format("stats")),
+    ("stats", THREADS.format(1), None))
+
+
+def with_an_opening() -> sqlite3.Connection:
+    """The database of a capture with a process that was there when the recording began."""
+    database = sqlite3.connect(":memory:")
+    database.executescript(raw_tables.schema())
+    database.execute("INSERT INTO raw_capture VALUES (5, 1, 0, 1, 0, 1, 9, 0, NULL, NULL, NULL)")
+    database.execute("INSERT INTO raw_process VALUES (1, 0, 100, 1, 9, 1)")
+    database.execute("INSERT INTO side_device VALUES (0, 'binder', 'C')")
+    database.execute("INSERT INTO side_process(device, process, pid, opening, met) VALUES (0, 100, 100, 1,"
+                     " 'in-mid-life')")
+    return database
+
+
+def check_bad_books(_: pathlib.Path, room: pathlib.Path, fail: Fail) -> None:
+    """A book with numbers that no driver writes is left out, and a line says so. One that two lines name is read once,
+    and what is no file is not waited for."""
+    for number, (what, text, due) in enumerate(BAD_BOOKS):
+        side = room / f"bad-{number}.side"
+        side.with_suffix(f".begin.{what}").write_text(text, "utf-8")
+        copy, database = Copy("begin", what, 0, 0, 5, len(text)), with_an_opening()
+        try:
+            came = load_books.load(database, [copy, copy], [str(side)], {})
+        except Exception as error:
+            came = repr(error)
+        compare(f"a bad book, {number}", came, due, fail)
+        rows = [database.execute(f"SELECT count(*) FROM {table}").fetchone()[0]
+                for table in ("book_stats", "book_opening", "book_node")]
+        compare(f"what is kept of a bad book, {number}", rows, [0, 0, 0] if due else [1, 0, 0], fail)
+    os.mkfifo(room / "fifo.begin.state")
+    came = load_books.load(with_an_opening(), [Copy("begin", "state", 0, 0, 5, 0)], [str(room / "fifo.side")], {})
+    compare("a book that is no file", came, "fifo.begin.state is not beside the side list", fail)
+
+
+def silent_calls(count: int) -> str:
+    """The book `state` of so many calls, each by a process of its own to another one."""
+    lines = ["binder state:\n"]
+    for at in range(1, count + 1):
+        ours, theirs = 1000 + at, 9000 + at
+        for has, pid in ("outgoing", ours), ("incoming", theirs):
+            call = call_of(at, (ours, ours), (theirs, theirs), has)
+            lines.append(f"proc {pid}\ncontext binder\n{thread(pid, call)}")
+    return "".join(lines)
+
+
+def check_long_books(_: pathlib.Path, __: pathlib.Path, fail: Fail) -> None:
+    """What a book takes does not grow with its square: by the instructions of SQLite, and where Python reads it by the
+    processor's time, of which squares would take some eight seconds."""
+    text, thousands = silent_calls(500), [0]
+
+    def count() -> None:
+        thousands[0] += 1
+
+    database = with_an_opening()
+    database.set_progress_handler(count, 1000)
+    copies = {moment: (Copy(moment, "state", 0, 0, 5, len(text)), text) for moment in ("begin", "end")}
+    wrong = list(load_books.load_states(database, copies, {}))
+    compare("500 calls that were open throughout", (wrong, thousands[0] < 300), ([], True), fail)
+    begun = time.process_time()
+    stats("binder stats:\nproc 5\n" + "\n" * 20_000)
+    state("binder state:\nproc 5\n  thread 5: l 12 need_return false\n" + "ref 8: desc 1 node 8 s 1 w 0 " * 20_000)
+    opening, = state("binder state:\nproc 5\n" + "".join(asking(ref(handle)) for handle in range(20_000)))
+    compare("handles whose death is asked for", sum(map(opening.is_requested, opening.refs)), 20_000, fail)
+    compare("processor time of long books, below 2 s", time.process_time() - begun < 2, True, fail)
