@@ -55,7 +55,7 @@ _binder_listing() { # COMMAND WORD BEFORE
 
 _binder_methods() { # COMMAND WORD BEFORE
   COMPREPLY=()
-  _binder_audit_options "$2" '--help'
+  _binder_audit_options "$2" '--help --version'
 }
 
 _binder_record() { # COMMAND WORD BEFORE
@@ -84,7 +84,7 @@ _binder_view() { # COMMAND WORD BEFORE
     --names) _binder_audit_words "$2" android ;;
     *)
       _binder_audit_options "$2" '--side --methods --symbols -o --database --groups --against --fail-on --known --trace
-        --names --process --thread --from --to --help'
+        --names --process --thread --from --to --help --version'
       ;;
   esac
 }

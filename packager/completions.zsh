@@ -66,6 +66,7 @@ case $service in
   binder-methods)
     _arguments \
       '(- *)--help[say what the words mean]' \
+      '(- *)--version[say what the programs are made of]' \
       '*:.aidl or .hal file, or folder:_files'
     ;;
   binder-record)
@@ -111,6 +112,7 @@ case $service in
       '--from[from this frame on]:sequence:' \
       '--to[up to this frame]:sequence:' \
       '(- *)--help[say what the options do]' \
+      '(- *)--version[say what the programs are made of]' \
       $parts
     ;;
 esac

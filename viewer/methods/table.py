@@ -2,19 +2,20 @@
 """Makes a table of the methods of interfaces, from their sources.
 
     viewer/methods/table.py SOURCE...
+    viewer/methods/table.py --version
 
 SOURCE... are .aidl and .hal files, and folders, in which it takes all of them. It writes to standard output a line for
 each method, in the order of interfaces and codes, with four fields separated by tabs: interface (as calls name it),
 code, method, and source (file and line, or `-` if it is in no source).
 
-docs/VIEW.md explains the codes. What is left out is told on standard error.
+docs/VIEW.md explains the codes. What is left out is told on standard error. --version writes of which commit the
+programs are.
 
 Status 0: the table is written. 1: a source is wrong, and the line on standard error names its file and line; or two
 sources give one code of an interface to two methods; or no source is there. Then nothing is written to standard output.
 4: a file can't be read, or the table can't be written. 64: the command line is not valid.
 """
 
-import argparse
 import os
 import pathlib
 import signal
@@ -23,25 +24,19 @@ from typing import Iterable, Iterator, NoReturn
 
 sys.dont_write_bytecode = True
 sys.path.insert(0, str(pathlib.Path(__file__).resolve().parents[2]))
+from viewer.program_names import called  # noqa: E402
+from viewer.whole_python import need_whole_python  # noqa: E402
+need_whole_python(called("methods"))
 from viewer import terminal  # noqa: E402
+from viewer.command_line import Words  # noqa: E402
 from viewer.files import Stopped  # noqa: E402
 from viewer.methods import hal  # noqa: E402
 from viewer.methods.aidl import Aidl  # noqa: E402
 from viewer.methods.sources import Interface, Method, Wrong  # noqa: E402
-from viewer.program_names import as_called, called  # noqa: E402
 
 
 def tell(text: str) -> None:
     terminal.tell(called("methods"), text)
-
-
-class Words(argparse.ArgumentParser):
-    """The command line. A mistake ends with status 64, as in the other programs here."""
-
-    def error(self, message: str) -> NoReturn:
-        self.print_usage(sys.stderr)
-        tell(message)
-        self.exit(64)
 
 
 def fail(error: OSError) -> NoReturn:
@@ -116,8 +111,7 @@ def place_of(source: str) -> tuple[str, int]:
 
 
 def main() -> int:
-    line = Words(prog=called("methods"), description=as_called(__doc__ or ""), allow_abbrev=False,
-                 formatter_class=argparse.RawDescriptionHelpFormatter)
+    line = Words("methods", called("methods"), __doc__)
     line.add_argument("sources", metavar="SOURCE", nargs="+")
     words = line.parse_args().sources
     try:

@@ -1,0 +1,33 @@
+"""The command line of a program in Python."""
+
+import argparse
+import os
+import sys
+from typing import NoReturn
+
+from viewer.program_names import FOLDER, as_called, called
+from viewer.terminal import tell
+
+
+class Version(argparse.Action):
+    """Writes what the programs are made of, and ends this one."""
+
+    def __call__(self, *_: object) -> NoReturn:
+        sys.stdout.flush()
+        os.execv(FOLDER / "version.sh", ["version.sh"])
+
+
+class Words(argparse.ArgumentParser):
+    """The words of a program, whose docstring is what `--help` says. A mistake ends with status 64, as in the other
+    programs here; the line that names it begins with `name`."""
+
+    def __init__(self, program: str, name: str, told: str | None):
+        super().__init__(prog=called(program), description=as_called(told or ""), allow_abbrev=False,
+                         formatter_class=argparse.RawDescriptionHelpFormatter)
+        self.name = name
+        self.add_argument("--version", action=Version, nargs=0)
+
+    def error(self, message: str) -> NoReturn:
+        self.print_usage(sys.stderr)
+        tell(self.name, message)
+        self.exit(64)
