@@ -252,8 +252,11 @@ def check_sample(folder: pathlib.Path, room: pathlib.Path, files: list[pathlib.P
     compare(f"{name}, the report in the database", kept, [line.strip() for line in report.splitlines()], fail)
     page.write(database, list(map(str, files)), shown)
     text = shown.read_text("utf-8")
-    missing = proved_due(report) - set(shown_of(text).proved)
-    compare(f"{name}, rows that are not on its page", sorted(missing), [], fail)
+    proved = shown_of(text).proved
+    compare(f"{name}, rows that are not on its page", sorted(proved_due(report) - set(proved)), [], fail)
+    compare(f"{name}, what has the mark of a proved row, and no text", proved.count(""), 0, fail)
+    compare(f"{name}, names that begin with a space, which a browser leaves out", re.findall("<bdi> [^<]*", text), [],
+            fail)
     if side is not None:
         compare(f"{name}, groups", groups_of(database), groups_due(files[0].parent.name), fail)
     database.close()
