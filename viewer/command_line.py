@@ -13,7 +13,6 @@ class Version(argparse.Action):
     """Writes what the programs are made of, and ends this one."""
 
     def __call__(self, *_: object) -> NoReturn:
-        sys.stdout.flush()
         os.execv(FOLDER / "version.sh", ["version.sh"])
 
 
@@ -28,6 +27,9 @@ class Words(argparse.ArgumentParser):
         self.add_argument("--version", action=Version, nargs=0)
 
     def error(self, message: str) -> NoReturn:
+        for word in sys.argv[1:]:
+            if word.startswith("-") and os.path.lexists(word):
+                message = f"{word} is taken for an option; as a file it is ./{word}"
         self.print_usage(sys.stderr)
         tell(self.name, message)
         self.exit(64)

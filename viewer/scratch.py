@@ -59,8 +59,11 @@ def folder_in(beside: str | None, prefix: str = "view") -> Iterator[pathlib.Path
     with sigterm_held():
         beside = beside or tempfile.gettempdir()
         remove_left(prefix, beside)
-        made = tempfile.TemporaryDirectory(prefix=f"{prefix}-", dir=beside)
-        lock = lock_of(pathlib.Path(made.name))
+        try:
+            made = tempfile.TemporaryDirectory(prefix=f"{prefix}-", dir=beside)
+            lock = lock_of(pathlib.Path(made.name))
+        except OSError as error:  # it names the folder that could not be made, which nobody knows
+            raise OSError(error.errno, error.strerror, beside) from error
     try:
         yield pathlib.Path(made.name)
     finally:

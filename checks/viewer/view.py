@@ -30,7 +30,10 @@ What must hold:
   end of the recording, a line says how many.
 - A malformed capture, in one file or in parts, has a page with the line of its fault and what comes before it, and
   status 2.
+- A pipe, a folder, and a capture that changes while it is read end in a line. A file by whatever name is read.
+- A page is whole or not there, whatever ends it. It replaces an earlier page of the capture, and no other file.
 - SIGTERM leaves nothing in TMPDIR.
+- `--version` says the commit. Without a part of Python's library a line names that.
 - Names from a stranger run nothing, break nothing and change no direction of text. Existing files are not overwritten.
 - All markup is in the templates of the page. Without their engine only the page is refused.
 - The driver's books at the end agree with the report, or a line says where not, or why they are not compared; copies
@@ -68,6 +71,8 @@ from checks.viewer.page.against import check_against
 from checks.viewer.page.books import (check_agreement, check_bad_books, check_commands, check_copies,
                                       check_long_books)
 from checks.viewer.page.browser import check_browser
+from checks.viewer.page.files import (check_again, check_changing, check_names, check_pipes, check_terminal,
+                                       check_whole)
 from checks.viewer.page.growth import check_growth
 from checks.viewer.page.losses import CUTS, FAULTLESS, check_cuts, check_gaps
 from checks.viewer.page.methods import check_methods, check_unnamed
@@ -76,8 +81,8 @@ from checks.viewer.page.services import CAPTURES, check_libgbinder, check_servic
 from checks.viewer.page.sides import (check_cut_meanwhile, check_files, check_forms, check_last_names, check_late,
                                       check_loader, check_no_lists, check_renames, check_side, check_times)
 from checks.viewer.page.stacks import check_stacks
-from checks.viewer.page.words import (check_hostile, check_malformed, check_no_engine, check_secrets, check_stopped,
-                                      check_templates, check_told, check_words)
+from checks.viewer.page.words import (check_hostile, check_malformed, check_no_engine, check_python, check_secrets,
+                                      check_stopped, check_templates, check_told, check_version, check_words)
 from checks.viewer.page.wrong import check_edits
 from viewer.database import raw_tables
 
@@ -96,13 +101,14 @@ def check_all(folder: pathlib.Path, room: pathlib.Path, fail: Fail) -> None:
         jobs += [pool.submit(failures_of, check_libgbinder, built, room, name) for name in CAPTURES]
         jobs += [pool.submit(failures_of, check_gaps, built, room, path.parent.name)
                  for path in DRIVER.glob("*/capture.side")]
+        jobs += [pool.submit(failures_of, run_parts, (part,), built, room) for part in (
+            check_malformed, check_pipes, check_names, check_changing, check_again, check_whole, check_terminal)]
         check_templates(fail)
-        run_parts((check_words, check_stopped, check_no_engine), folder, room, fail)
+        run_parts((check_words, check_stopped, check_no_engine, check_python, check_version), folder, room, fail)
         run_parts((check_side, check_forms, check_no_lists, check_cut_meanwhile, check_renames, check_last_names,
-                   check_files, check_secrets, check_told, check_late, check_malformed, check_hostile, check_methods,
-                   check_unnamed, check_services, check_times, check_loader, check_agreement, check_copies,
-                   check_bad_books, check_long_books, check_commands, check_stacks, check_growth, check_against),
-                  built, room, fail)
+                   check_files, check_secrets, check_told, check_late, check_hostile, check_methods, check_unnamed,
+                   check_services, check_times, check_loader, check_agreement, check_copies, check_bad_books,
+                   check_long_books, check_commands, check_stacks, check_growth, check_against), built, room, fail)
         for job in jobs:
             for what in job.result():
                 fail(what)

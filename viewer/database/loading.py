@@ -1,6 +1,5 @@
 """From a capture to its database: the programs that read it, the side list, and the rows of the proved report."""
 
-import os
 import pathlib
 import shutil
 import sqlite3
@@ -11,7 +10,7 @@ from viewer.database.raw_tables import load_rows
 from viewer.database.report import load_findings, load_report
 from viewer.database.side_list import SideList
 from viewer.database.sqlite import open_database
-from viewer.files import Stopped, refuse_unreadable
+from viewer.files import Stopped, linked, shown_name, unchanged
 from viewer.methods.known import Methods, load_methods
 from viewer.program_names import called
 from viewer.rules.judging import judge
@@ -22,8 +21,7 @@ def load_facts(database: sqlite3.Connection, files: list[str], malformed: str | 
     """The table `capture`."""
     names = ("parts", "bytes", "frames", "records", "first_seq", "last_seq", "missing")
     row = database.execute(f"SELECT {', '.join(names)} FROM raw_capture").fetchone()
-    shown = os.fsencode(" ".join(os.path.basename(name) for name in files)).decode(errors="replace")
-    known: dict[str, object] = {"file": shown, "side_list": 0, "side_doubt": None, "books_doubt": None,
+    known: dict[str, object] = {"file": shown_name(files), "side_list": 0, "side_doubt": None, "books_doubt": None,
                                 **dict(zip(names, row)), "malformed": malformed, **facts}
     known["first_ts"], known["last_ts"] = database.execute(
         "SELECT (SELECT ts FROM side_time WHERE seq = ?), (SELECT ts FROM side_time WHERE seq = ?)",
@@ -63,17 +61,18 @@ def database_of(root: pathlib.Path, files: list[str], side: str | None, made: pa
                 beside: list[str] | None = None) -> str | None:
     """Makes the database of a capture, with the report and the verdicts of the rules, and the names of methods. Returns
     the line of the capture's first fault, or None."""
-    refuse_unreadable(files)
-    build_programs(root)
-    rows, report, told = (made.with_suffix(f".{what}") for what in ("rows", "report", "told"))
-    rows.mkdir()
-    # One after another, since each of them may need more memory than the capture has bytes.
-    tell("checking the capture")
-    malformed = fault_in(answer(root, report, "audit", "report", *files), report)
-    tell("reading the capture")
-    listed = fault_in(answer(root, told, "listing", "--tables", rows, *files), told)
-    if listed != malformed:
-        raise Stopped(1, f"{called('listing')} and {called('audit')} do not agree: {listed!r} and {malformed!r}")
+    with unchanged(files):
+        build_programs(root)
+        rows, report, told = (made.with_suffix(f".{what}") for what in ("rows", "report", "told"))
+        rows.mkdir()
+        parts = linked(files, rows)
+        # One after another, since each of them may need more memory than the capture has bytes.
+        tell("checking the capture")
+        malformed = fault_in(answer(root, report, "audit", "report", *parts), report)
+        tell("reading the capture")
+        listed = fault_in(answer(root, told, "listing", "--tables", rows, *parts), told)
+        if listed != malformed:
+            raise Stopped(1, f"{called('listing')} and {called('audit')} do not agree: {listed!r} and {malformed!r}")
     tell("making the database")
     load_rows(made, rows, side)
     if malformed:

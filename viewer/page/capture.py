@@ -1,9 +1,9 @@
 """The capture that a page shows: its database, and what all sections need of that."""
 
 import pathlib
-import shlex
 import sqlite3
 
+from viewer.files import word_of
 from viewer.program_names import called
 from viewer.rules.names import Names
 
@@ -18,7 +18,7 @@ class Capture:
 
     def __init__(self, database: sqlite3.Connection, files: list[str]):
         self.database = database
-        named = " ".join(map(shlex.quote, files))
+        named = " ".join(map(word_of, files))
         self.command, self.report = f"{called('listing')} {named}", f"{called('audit')} report {named}"
         self.facts = dict(database.execute("SELECT key, value FROM capture"))
         self.who = dict(database.execute("SELECT upid, who FROM who"))

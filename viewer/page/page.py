@@ -3,14 +3,17 @@ markup is theirs: what they write of a capture stays text, since the engine esca
 
 import base64
 import hashlib
+import html
 import importlib.util
+import os
 import pathlib
+import re
 import sqlite3
 from typing import Iterator
 
 from viewer.database.report import columns_of
 from viewer.defects.gate import Shown
-from viewer.files import Stopped, for_owner
+from viewer.files import Stopped, for_owner, shown_name, whole_file
 from viewer.page.capture import Capture
 from viewer.page.groups import FINDINGS, Groups
 from viewer.page.head import head_of
@@ -65,10 +68,33 @@ def document(capture: Capture, shown: Shown) -> Iterator[str]:
         report=capture.report, heads=heads)
 
 
+# How a page begins: by its title it is known what it is a page of.
+BEGINNING = re.compile(r'<!doctype html>\n<html lang="en">[^\0]*?<title>([^<]*): Binder capture</title>')
+
+
+def is_page_of(files: list[str], path: pathlib.Path) -> bool:
+    """Whether a file is a page of a capture that is called so."""
+    if path.is_symlink() or not path.is_file():
+        return False
+    with open(path, encoding="utf-8", errors="replace") as page:
+        begun = BEGINNING.match(page.read(1 << 14))
+    return begun is not None and html.unescape(begun[1]) == title_of(shown_name(files))
+
+
+def refuse_other(files: list[str], path: pathlib.Path) -> None:
+    """A page replaces an earlier one of the capture, and no other file."""
+    if os.path.lexists(path) and not is_page_of(files, path):
+        raise Stopped(1, f"{path} exists already, and is no page of {shown_name(files)}: name another file by -o")
+
+
+def counts_in(database: sqlite3.Connection) -> str:
+    """How many groups a page has of which verdict, as in its four counts."""
+    counts = dict(database.execute("SELECT verdict, count(*) FROM finding_group GROUP BY 1"))
+    return ", ".join(f"{counts.get(verdict, 0)} {verdict}" for verdict in ("real", "maybe", "explained", "normal"))
+
+
 def write(database: sqlite3.Connection, files: list[str], path: pathlib.Path, shown: Shown | None = None) -> None:
-    """Writes the page into a new file, for its owner only. `shown`: what it shows of another capture."""
-    try:
-        with open(path, "x", encoding="utf-8", errors="replace", opener=for_owner) as out:
+    """Writes the page, for its owner only. `shown`: what it shows of another capture."""
+    with whole_file(path, lambda: is_page_of(files, path)) as made:
+        with open(made, "x", encoding="utf-8", errors="replace", opener=for_owner) as out:
             out.writelines(document(Capture(database, files), shown or Shown({}, [])))
-    except FileExistsError as error:
-        raise Stopped(1, f"{path} exists already") from error

@@ -15,6 +15,7 @@ import time
 from checks.kit.checking import Fail, compare
 from checks.kit.frames import frames_of
 from checks.kit.programs import DRIVER, ROOT
+from checks.kit.runs import answer
 from checks.recorder.driver.compare import SECRETS, TO_CLEAR
 from checks.viewer.page.columns import check_columns
 from checks.viewer.page.common import stored, texts_of, view
@@ -41,8 +42,8 @@ def check_words(folder: pathlib.Path, room: pathlib.Path, fail: Fail) -> None:
     compare("a file that is not a side list", view(folder, room, capture, "--side", capture, "--groups")[0], 4, fail)
     compare("a page", view(folder, room, capture, "--side", side, "-o", "p.html", "--database", "d.db")[:2], (0, ""),
             fail)
-    for what, made in (("p.html", ("-o", "p.html")), ("d.db", ("-o", "q.html", "--database", "d.db"))):
-        compare(f"{what} exists", view(folder, room, capture, *made), (1, "", f"view: {what} exists already\n"), fail)
+    compare("d.db exists", view(folder, room, capture, "-o", "q.html", "--database", "d.db"),
+            (1, "", "view: d.db exists already\n"), fail)
     compare("what is left", sorted(path.name for path in room.iterdir() if path.name not in ("programs",)),
             ["d.db", "p.html"], fail)
     shutil.copy(capture, room / "own.cap")
@@ -67,11 +68,11 @@ def check_templates(fail: Fail) -> None:
     compare("what templates do not escape", raw, [("page.html", "autoescape false")] * 2, fail)
 
 
-# Runs ./view, which does not find the engine of the templates.
-NO_ENGINE = """
+# Runs a program, which does not find a module.
+WITHOUT = """
 import runpy, sys
-sys.modules["jinja2"] = None
-sys.argv = sys.argv[1:]
+sys.modules[sys.argv[1]] = None
+sys.argv = sys.argv[2:]
 runpy.run_path(sys.argv[0], run_name="__main__")
 """
 
@@ -79,7 +80,8 @@ runpy.run_path(sys.argv[0], run_name="__main__")
 def check_no_engine(folder: pathlib.Path, room: pathlib.Path, fail: Fail) -> None:
     """Without the engine there is no page, and all else is made."""
     here = DRIVER / "gaps"
-    words = [sys.executable, "-c", NO_ENGINE, folder / "view", here / "capture-1.cap", "--side", here / "capture.side"]
+    words = [sys.executable, "-c", WITHOUT, "jinja2", folder / "view", here / "capture-1.cap", "--side",
+             here / "capture.side"]
     missing = "view: jinja2 is missing to make the page; this installs it: apt-get install python3-jinja2\n"
     for more, due, made in ((("-o", "none.html", "--database", "none.db"), (1, missing), []),
                             (("--groups", "--database", "some.db", "--trace", "some.json.gz"), (0, ""),
@@ -87,6 +89,29 @@ def check_no_engine(folder: pathlib.Path, room: pathlib.Path, fail: Fail) -> Non
         ended = subprocess.run([*words, *more], cwd=room, capture_output=True, encoding="utf-8")
         compare(f"no engine, {more}", (ended.returncode, ended.stderr), due, fail)
         compare(f"no engine, {more}: what is made", [one for one in more if (room / one).exists()], made, fail)
+
+
+def check_python(folder: pathlib.Path, room: pathlib.Path, fail: Fail) -> None:
+    """Where a part of Python's library is missing, a line names it and its package."""
+    for program, name in ((folder / "view", "view"), (folder / "viewer/methods/table.py", "viewer/methods/table.py")):
+        due = (f"{name}: the module sqlite3 is missing in {sys.executable}; on Debian this installs it: apt-get install"
+               " python3\n")
+        came = answer([sys.executable, "-c", WITHOUT, "sqlite3", program, "x"], cwd=room, encoding="utf-8")
+        compare(f"{name} without sqlite3", came, (1, "", due), fail)
+
+
+def check_version(folder: pathlib.Path, room: pathlib.Path, fail: Fail) -> None:
+    """`--version` says the commit of a repository, or what a package was made of."""
+    head = answer(["git", "-C", ROOT, "rev-parse", "HEAD"], encoding="utf-8")[1].strip()
+    for program in folder / "view", folder / "viewer/methods/table.py":
+        status, said, told = answer([program, "--version"], cwd=room, encoding="utf-8")
+        compare(f"{program.name} --version", (status, said.split()[:1], said.split()[8:10], told),
+                (0, ["binder-audit"], ["commit", head], ""), fail)
+    (room / "viewer").mkdir()
+    shutil.copy(ROOT / "viewer/version.sh", room / "viewer")
+    (room / "version").write_text("binder-audit 1\n", "utf-8")
+    compare("--version of a package", answer([room / "viewer/version.sh"], encoding="utf-8"),
+            (0, "binder-audit 1\n", ""), fail)
 
 
 # Runs ./view, which gets SIGTERM with each call of a function of `os` that makes or removes a file in TMPDIR.

@@ -1,0 +1,156 @@
+"""The files that `view` reads, which may be odd or changed meanwhile; and pages, which are whole or not there."""
+
+import os
+import pathlib
+import re
+import shutil
+import subprocess
+import sys
+from typing import NamedTuple
+
+from checks.kit.checking import Fail, compare
+from checks.kit.programs import DRIVER
+from checks.kit.runs import answer
+from checks.viewer.page.common import stored, view
+
+CAPTURE = DRIVER / "gaps/capture-1.cap"
+
+# ---- files that are no files, and names
+
+
+def check_pipes(folder: pathlib.Path, room: pathlib.Path, fail: Fail) -> None:
+    """What can't be read more than once is refused in a line, and a file by whatever name is read."""
+    os.mkfifo(room / "pipe")
+    shutil.copy(CAPTURE, room / "good.cap")
+    pipe = " is a pipe or a device, and is read more than once: write it into a file first, by cat > FILE\n"
+    for words, told in ((("pipe",), pipe), (("good.cap", "--side", "pipe"), pipe),
+                        (("/dev/stdin",), pipe),
+                        ((".",), " is a folder, and not a file\n")):
+        came = subprocess.run([folder / "view", *words, "--groups"], cwd=room, capture_output=True, input="",
+                              encoding="utf-8", timeout=60)
+        compare(f"{words}", (came.returncode, came.stdout, came.stderr), (4, "", f"view: {words[-1]}{told}"), fail)
+    due = view(folder, room, "good.cap", "--groups")
+    with open(room / "good.cap", "rb") as file:
+        came = answer([folder / "view", "/dev/stdin", "--groups"], cwd=room, stdin=file, encoding="utf-8")
+    compare("a file as standard input", came, due, fail)
+
+
+# Names of files, and how a shell may be given them.
+NAMES = {b"-d.cap": "./-d.cap", b"a\xff b.cap": r"$'a\xff b.cap'"}
+
+
+def check_names(folder: pathlib.Path, room: pathlib.Path, fail: Fail) -> None:
+    """A capture may be called as it likes. The commands on its page are right for a shell."""
+    shutil.copyfile(CAPTURE, room / "-x.cap")
+    compare("a name that begins with a dash, without --", view(folder, room, "-x.cap")[2].splitlines()[-1],
+            "view: -x.cap is taken for an option; as a file it is ./-x.cap", fail)
+    for name, word in NAMES.items():
+        shutil.copyfile(CAPTURE, os.path.join(os.fsencode(room), name))
+        came = answer([folder / "view", "-o", "named.html", "--", name], cwd=room, encoding="utf-8")
+        compare(f"{name!r}", came, (0, "", ""), fail)
+        text = re.sub("&#39;", "'", (room / "named.html").read_text("utf-8"))
+        compare(f"{name!r}: the command on its page", f"./audit report {word} writes" in re.sub("<[^>]*>", "", text),
+                True, fail)
+        (room / "named.html").unlink()
+
+
+# ---- a capture that changes
+
+
+def changing(folder: pathlib.Path, room: pathlib.Path, how: str) -> pathlib.Path:
+    """The folder of programs, with a listing that does something to the capture and goes on."""
+    made = shutil.copytree(folder, room / "changing", symlinks=True)
+    listing = made / "crates/binder_listing/out/binder_listing"
+    built = listing.resolve()
+    listing.unlink()
+    listing.write_text(f'#!/bin/sh\n{how}\nexec {built} "$@"\n', "utf-8")
+    listing.chmod(0o755)
+    return made
+
+
+def check_changing(folder: pathlib.Path, room: pathlib.Path, fail: Fail) -> None:
+    """A capture that grows, or is replaced, between the two programs that read it has no answer but a line."""
+    capture, other = CAPTURE.read_bytes(), DRIVER / "threads/capture-1.cap"
+    due = "view: c.cap changed while it was read: end what writes it, or make a copy and read that\n"
+    for how in ("head -c 100 c.cap >more; cat more >>c.cap", f"cp {other} n.cap; mv n.cap c.cap"):
+        (room / "c.cap").write_bytes(capture)
+        made = changing(folder, room, how)
+        compare(f"a capture after {how}", view(made, room, "c.cap", "--groups"), (4, "", due), fail)
+        shutil.rmtree(made)
+
+
+# ---- a page is whole or not there
+
+
+def check_again(folder: pathlib.Path, room: pathlib.Path, fail: Fail) -> None:
+    """A page replaces an earlier one of its capture, and nothing else."""
+    for name in "<a & 'b'>.cap", "other.cap":
+        shutil.copy(CAPTURE, room / name)
+    own, page = room / "<a & 'b'>.cap", room / "<a & 'b'>.cap.html"
+    made = []
+    for _ in range(2):
+        compare("a page, and the same again", view(folder, room, own.name), (0, "", ""), fail)
+        made.append((page.stat().st_ino, page.read_bytes()))
+    compare("whether a page is a new one, and the same", (made[0][0] != made[1][0], made[0][1] == made[1][1]),
+            (True, True), fail)
+    (room / "text.html").write_text("<!doctype html>\n<title>mine</title>", "utf-8")
+    (room / "link.html").symlink_to(page.name)
+    for words in (("other.cap", "-o", page.name), (own.name, "-o", "text.html"), (own.name, "-o", "link.html"),
+                  (own.name, "-o", own.name), (own.name, "-o", ".")):
+        told = f"view: {words[2]} exists already, and is no page of {words[0]}: name another file by -o\n"
+        compare(f"{words}", view(folder, room, *words), (1, "", told), fail)
+    compare("the page after these", page.read_bytes(), made[1][1], fail)
+
+
+def check_terminal(folder: pathlib.Path, room: pathlib.Path, fail: Fail) -> None:
+    """At a terminal a line says what the page has."""
+    at, terminal = os.openpty()
+    answer([folder / "view", *stored("leaks"), "-o", "page.html"], cwd=room, stderr=terminal)
+    os.close(terminal)
+    said = os.read(at, 1 << 16).decode()
+    os.close(at)
+    compare("what is said at a terminal", re.findall(r"\033\[K(view: page.*)\r\n", said),
+            ["view: page.html: 0 real, 5 maybe, 1 explained, 3 normal"], fail)
+
+
+class End(NamedTuple):
+    """How a page that is being written ends: what Python does then, and what the program answers."""
+    name: str
+    does: str
+    answer: tuple[int, str, str]
+
+
+ENDS = (End("a full disk", "raise OSError(errno.ENOSPC, os.strerror(errno.ENOSPC))",
+            (4, "", "view: pages/page.html: No space left on device\n")),
+        End("SIGTERM", "os.kill(os.getpid(), signal.SIGTERM)", (143, "", "")),
+        End("SIGKILL", "os.kill(os.getpid(), signal.SIGKILL)", (-9, "", "")))
+
+# Runs ./view, whose page ends after its first pieces.
+ENDED = """
+import errno, itertools, os, runpy, signal, sys
+from viewer.page import page
+whole = page.document
+def ended(*given):
+    yield from itertools.islice(whole(*given), 9)
+    DOES
+page.document = ended
+sys.argv = sys.argv[1:]
+runpy.run_path(sys.argv[0], run_name="__main__")
+"""
+
+
+def check_whole(folder: pathlib.Path, room: pathlib.Path, fail: Fail) -> None:
+    """Whatever ends a page that is being written, it is not there, or an earlier one still is. What SIGKILL leaves is
+    removed by the next page beside it."""
+    page, words = room / "pages/page.html", [folder / "view", CAPTURE, "-o", "pages/page.html"]
+    run = {"cwd": room, "encoding": "utf-8", "env": {**os.environ, "TMPDIR": str(room), "PYTHONPATH": str(folder)}}
+    page.parent.mkdir()
+    for end in ENDS:
+        before = page.read_bytes() if page.exists() else None
+        came = answer([sys.executable, "-c", ENDED.replace("DOES", end.does), *words], **run)
+        compare(f"{end.name}: what is answered", came, end.answer, fail)
+        compare(f"{end.name}: the page", page.read_bytes() if page.exists() else None, before, fail)
+        left = [path for path in page.parent.iterdir() if path != page]
+        compare(f"{end.name}: folders that are left", len(left), 1 if end.name == "SIGKILL" else 0, fail)
+        answer(words, **run)
+        compare(f"{end.name}: what is left after the next page", list(page.parent.iterdir()), [page], fail)
