@@ -1,5 +1,5 @@
 #!/usr/bin/env bash
-# Makes the result of a session of a lab, LAB/results/BUILD/DEVICE/SESSION.json, as sessions.sh names sessions.
+# Makes the result of a session of a lab, LAB/results/BUILD/DEVICE/SESSION.json, as sessions.py names sessions.
 #
 #     job.sh LAB BUILD/DEVICE/SESSION
 #
@@ -14,9 +14,9 @@ at=$lab/$session
 
 files=("$at.cap") sides=("$at.side") words=()
 if [[ ! -e $at.cap ]]; then
-  mapfile -t files < <(printf '%s\n' "$at"-[0-9]*.cap | grep -E -- '-[0-9]+\.cap$' | sort -V)
+  mapfile -d '' -t files < <(printf '%s\0' "$at"-[0-9]*.cap | grep -zE -- '-[0-9]+\.cap$' | sort -zV)
 fi
-if [[ ! -e $at.side ]]; then mapfile -t sides < <(printf '%s\n' "${files[@]%.cap}" | sed 's/$/.side/'); fi
+if [[ ! -e $at.side ]]; then sides=("${files[@]/%.cap/.side}"); fi
 for side in "${sides[@]}"; do
   if [[ -e $side ]]; then words+=("--side=$side"); fi
 done

@@ -25,6 +25,7 @@ What must hold:
 - Known defects do not fail, and a line names one that does not occur.
 - lab/Makefile makes a result of each session, also of several parts; again only of what changed; and what is killed is
   done by the next call. Nothing is left in TMPDIR.
+- Names that make or a shell would obey are refused by a line each, and the other sessions are done; by Slurm too.
 """
 
 import argparse
@@ -45,6 +46,7 @@ from checks.kit.checking import FLAG, Fail, check, compare
 from checks.kit.programs import DRIVER, ROOT, built_programs
 from checks.kit.runs import answer
 from checks.lab.keys import CUT, check_keys_of_cut, print_keys_of_two
+from checks.lab.names import check_names
 from checks.lab.nodes import check_by_make, check_by_slurm
 from lab import result
 from lab.store import open_lab
@@ -422,6 +424,7 @@ def judge(given: argparse.Namespace, room: pathlib.Path, fail: Fail) -> None:
             check_results(folder, room, fail)
             check_each(folder, room, fail)
             check_made(folder, room, fail)
+            check_names(room / "names", fail)
             check_keys_of_cut(folder, room, CUT, fail)
         check_lab(folder, room, given.results or 200, bool(given.results), fail)
 
