@@ -8,8 +8,9 @@ import tempfile
 
 from viewer.defects.seen import defects_of, facts_of, seconds_of
 
-# The most bytes of a result; and the most characters of a text in it, since names may be long.
-MOST, LONGEST = 64_000, 512
+# The most bytes that a file of a result has. The most that its parts have together; and the most characters of a text
+# in it, since names may be long.
+LARGEST, MOST, LONGEST = 65_536, 64_000, 512
 
 # What each process of a program holds at most, and in the end. What had ended when the recording did holds nothing.
 HELD = """

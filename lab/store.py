@@ -1,22 +1,26 @@
 """A lab: one file of SQLite, which results are loaded into."""
 
 import json
+import os
 import pathlib
 import sqlite3
 import time
 from typing import Iterator
 
+from lab.form import CAPTURE, ROWS, Kind, wrong
+from lab.result import LARGEST
 from viewer.files import Stopped
 
 FOLDER = pathlib.Path(__file__).resolve().parent
 
-# The columns of each table, without the capture's number, which the lab gives.
-COLUMNS = {
-    "capture": ("digest build device file made begun seconds bytes frames records missing lost side doubt malformed"
-                " failed kernel version prints methods left_out"),
-    "found": "defect verdict n n_all waiting rules age place path note",
-    "talk": ("caller server interface method code call oneway sends failed refused open bytes buffers longest"),
-    "held": "process buffers buffers_most bytes bytes_most refs refs_most calls_most"}
+# The columns of each table, with the fields of a result that fill them. The lab gives the number of a capture.
+TABLES = {
+    "capture": {name: name for name in CAPTURE},
+    "defect": {"id": "key", "kind": "kind", "who": "who", "path": "path", "call": "call"},
+    "found": {"defect": "key", "path": "own_path",
+              **{name: name for name in ("verdict", "n", "n_all", "waiting", "rules", "age", "place", "note")}},
+    "talk": {name: name for name in ROWS["talk"]},
+    "held": {name: name for name in ROWS["held"]}}
 
 # How many results are loaded at a time: what is being loaded when a loader is killed is loaded again.
 AT_A_TIME = 500
@@ -43,24 +47,59 @@ def may_be_read_while_written(lab: sqlite3.Connection) -> None:
             time.sleep(0.01)
 
 
+def is_new(lab: sqlite3.Connection) -> bool:
+    """Whether a database has nothing yet."""
+    layout, = lab.execute("PRAGMA user_version").fetchone()
+    return layout == 0 and not lab.execute("SELECT 1 FROM sqlite_schema").fetchone()
+
+
+def strange_rows(table: str, kinds: dict[str, Kind]) -> str:
+    """The query for rows of a table that no result has: a value is of another type."""
+    return f"SELECT 1 FROM {table} WHERE " + " OR ".join(
+        f"typeof({column}) NOT IN ({', '.join(map(repr, kinds[name].types))})"
+        for column, name in TABLES[table].items())
+
+
+def is_lab(lab: sqlite3.Connection) -> bool:
+    """Whether a database has the tables of a lab, and in its captures and defects what results have."""
+    there = {name for name, in lab.execute("SELECT name FROM sqlite_schema WHERE type = 'table'")}
+    return set(TABLES) <= there and not any(
+        lab.execute(strange_rows(table, kinds)).fetchone()
+        for table, kinds in (("capture", CAPTURE), ("defect", ROWS["found"])))
+
+
+def refuse_other(lab: sqlite3.Connection, path: str) -> None:
+    """Refuses a database that is no lab, so that nothing is put into one that is another program's."""
+    layout, = lab.execute("PRAGMA user_version").fetchone()
+    if layout != LAYOUT or not is_lab(lab):
+        raise Stopped(4, f"{path}: it is no lab of this version")
+
+
+def make(lab: sqlite3.Connection) -> None:
+    """Makes what a lab has, but for what is there already."""
+    may_be_read_while_written(lab)
+    lab.execute("PRAGMA synchronous=NORMAL")
+    lab.execute("BEGIN IMMEDIATE")
+    for statement in (FOLDER / "lab.sql").read_text("utf-8").split(";\n"):
+        lab.execute(statement)
+    lab.execute("COMMIT")
+
+
 def open_lab(path: str, may_make: bool = False) -> sqlite3.Connection:
-    """The lab, which others may read while one writes."""
+    """The lab, which others may read while one writes. A text in it that is no UTF-8 fails nothing."""
+    if os.path.exists(path) and not os.path.isfile(path):
+        raise Stopped(4, f"{path}: it is no file")
     mode = "rwc" if may_make else "rw"
     try:
         lab = sqlite3.connect(f"{pathlib.Path(path).absolute().as_uri()}?mode={mode}", uri=True, isolation_level=None,
                               timeout=PATIENCE)
+        lab.text_factory = lambda text: text.decode("utf-8", "replace")
+        if not (may_make and is_new(lab)):
+            refuse_other(lab, path)
         if may_make:
-            may_be_read_while_written(lab)
-            lab.execute("PRAGMA synchronous=NORMAL")
-            lab.execute("BEGIN IMMEDIATE")
-            for statement in (FOLDER / "lab.sql").read_text("utf-8").split(";\n"):
-                lab.execute(statement)
-            lab.execute("COMMIT")
-        layout, = lab.execute("PRAGMA user_version").fetchone()
-    except sqlite3.Error as error:
+            make(lab)
+    except (sqlite3.Error, UnicodeError) as error:
         raise Stopped(4, f"{path}: {error}") from error
-    if layout != LAYOUT:
-        raise Stopped(4, f"{path}: it is no lab of this version")
     return lab
 
 
@@ -76,12 +115,11 @@ def elsewhere(lab: sqlite3.Connection, capture: dict) -> tuple[str, str] | None:
     return there if there and there != (capture["build"], capture["device"]) else None
 
 
-def insert(lab: sqlite3.Connection, table: str, given: dict, *before: object) -> int | None:
-    names = COLUMNS[table].split()
-    capture = ["capture"] * bool(before)
-    return lab.execute(f"INSERT INTO {table}({', '.join(capture + names)}) VALUES"
-                       f" ({', '.join('?' * (len(capture) + len(names)))})",
-                       [*before, *(given.get(name) for name in names)]).lastrowid
+def insert(lab: sqlite3.Connection, table: str, given: dict, how: str = "INSERT", **more: object) -> int | None:
+    """Puts what a result gives into a table, and these columns more."""
+    row = {column: given.get(name) for column, name in TABLES[table].items()} | more
+    return lab.execute(f"{how} INTO {table}({', '.join(row)}) VALUES ({', '.join('?' * len(row))})",
+                       [*row.values()]).lastrowid
 
 
 def put(lab: sqlite3.Connection, result: dict) -> bool:
@@ -96,48 +134,65 @@ def put(lab: sqlite3.Connection, result: dict) -> bool:
         lab.execute("DELETE FROM capture WHERE id = ?", before[:1])
     number = insert(lab, "capture", capture)
     for row in result["found"]:
-        lab.execute("INSERT OR IGNORE INTO defect VALUES (?, ?, ?, ?, ?)",
-                    [row[name] for name in ("key", "kind", "who", "path", "call")])
-        insert(lab, "found", {**row, "defect": row["key"], "path": row["own_path"]}, number)
+        insert(lab, "defect", row, "INSERT OR IGNORE")
+        insert(lab, "found", row, capture=number)
     for table in ("talk", "held"):
         for row in result[table]:
-            insert(lab, table, row, number)
+            insert(lab, table, row, capture=number)
     return True
+
+
+def text_in(path: pathlib.Path) -> bytes:
+    """What a file has, if it can be a result. A pipe is not waited for."""
+    try:
+        if path.exists() and not path.is_file():
+            raise Stopped(4, f"{path}: it is no file")
+        with open(path, "rb") as file:
+            text = file.read(LARGEST + 1)
+    except OSError as error:
+        raise Stopped(4, f"{path}: {error.strerror}") from error
+    if len(text) > LARGEST:
+        raise Stopped(4, f"{path}: it is no result of `one`: it has more than {LARGEST:,} bytes")
+    return text
 
 
 def read(path: pathlib.Path) -> dict:
     """A result."""
+    text = text_in(path)
     try:
-        result = json.loads(path.read_text(encoding="utf-8"))
-        if not all(result["capture"][name] for name in ("digest", "build", "device", "made")):
-            raise ValueError
-        return result
-    except OSError as error:
-        raise Stopped(4, f"{path}: {error.strerror}") from error
-    except (ValueError, KeyError, TypeError) as error:
-        raise Stopped(4, f"{path}: it is no result of `one`") from error
+        result = json.loads(text.decode("utf-8"))
+    except (ValueError, RecursionError) as error:
+        raise Stopped(4, f"{path}: it is no result of `one`: it is no JSON") from error
+    if why := wrong(result):
+        raise Stopped(4, f"{path}: it is no result of `one`: {why}")
+    return result
 
 
-def results_in(paths: list[str]) -> Iterator[pathlib.Path]:
-    """The files, and those of the folders."""
-    for path in map(pathlib.Path, paths):
-        yield from sorted(path.rglob("*.json")) if path.is_dir() else [path]
+def results_in(paths: list[str], unread: list[str]) -> Iterator[pathlib.Path]:
+    """The files, and those of the folders. A folder that can't be read is told."""
+    def tell(error: OSError) -> None:
+        unread.append(f"{error.filename}: {error.strerror}")
+
+    for path in paths:
+        found = [os.path.join(folder, name) for folder, _, names in os.walk(path, onerror=tell) for name in names
+                 if name.endswith(".json")] if os.path.isdir(path) else [path]
+        yield from map(pathlib.Path, sorted(found))
 
 
 def load(lab: sqlite3.Connection, paths: list[str]) -> tuple[int, int, list[str], list[str]]:
     """Loads results, some at a time. Returns how many were added, how many were there already, what is wrong with the
     others, and which of the loaded ones are of a capture that the lab had as one of another build or device."""
     added = there = 0
-    wrong: list[str] = []
+    unread: list[str] = []
     moved: list[str] = []
-    files = list(results_in(paths))
+    files = list(results_in(paths, unread))
     for begin in range(0, len(files), AT_A_TIME):
         some = []
         for path in files[begin:begin + AT_A_TIME]:
             try:
                 some.append((path, read(path)))
             except Stopped as stopped:
-                wrong.append(str(stopped))
+                unread.append(str(stopped))
         lab.execute("BEGIN IMMEDIATE")
         new = 0
         for path, result in some:
@@ -146,4 +201,4 @@ def load(lab: sqlite3.Connection, paths: list[str]) -> tuple[int, int, list[str]
             new += put(lab, result)
         lab.execute("COMMIT")
         added, there = added + new, there + len(some) - new
-    return added, there, wrong, moved
+    return added, there, unread, moved

@@ -6,6 +6,7 @@
                                                as take a minute, with a task and a node killed; by hand, as root, with
                                                Debian's slurmctld, slurmd and munge
     checks/run fleet -- --make                 makes 200 captures by lab/Makefile, with jobs killed; by hand
+    checks/run fleet -- --mutated N            loads N mutated results; prints how many were taken
     checks/run fleet -- --cut                  cuts all stored captures in front; prints how many keys are the same
     checks/run fleet -- --two FOLDER FOLDER    prints which keys only one of two recordings of the same sessions has, as
                                                `checks/run driver` leaves them for two kernels
@@ -20,7 +21,10 @@ What must hold:
 - The fault is the only new line of that build, and the only one that is gone in the build in which it is mended.
   Another one grows. Malformed and failed captures are told apart, and count for nothing.
 - Keys of two designs, and with and without tables of methods, are refused.
-- Each question that has a name has an answer, and so has SQL. `each` asks kept databases.
+- Of results that are none each has a line that says why, and the others are loaded. Mutated ones are loaded whole or
+  have such a line, and nothing in them moves a terminal.
+- Each question that has a name has an answer, and so has SQL. `each` asks kept databases. What can't be done is told in
+  a line.
 - In a capture that is cut in front, defects have the keys of the whole one, but where a name is not known.
 - Known defects do not fail, and a line names one that does not occur.
 - lab/Makefile makes a result of each session, also of several parts; again only of what changed; and what is killed is
@@ -46,8 +50,10 @@ from checks.kit.checking import FLAG, Fail, check, compare
 from checks.kit.programs import DRIVER, ROOT, built_programs
 from checks.kit.runs import answer
 from checks.lab.keys import CUT, check_keys_of_cut, print_keys_of_two
+from checks.lab.mutated import check_mutated, check_wrong
 from checks.lab.names import check_names
 from checks.lab.nodes import check_by_make, check_by_slurm
+from checks.lab.words import check_words
 from lab import result
 from lab.store import open_lab
 from viewer.units import defect_key
@@ -56,6 +62,8 @@ from viewer.units import defect_key
 COMMON, RARE = ("hello-sessions", "leaks", "oneway", "quarter"), ("twice", "hung", "mourned")
 # The fault that is put into one build, and mended in another; and the one that grows.
 PLANTED, GROWING = "hello-answers", "replies"
+# How many mutated results are loaded without --mutated.
+MUTATED = 100
 
 
 def fleet(folder: pathlib.Path, *words: object, **options: object) -> tuple[int, str, str]:
@@ -374,6 +382,9 @@ def check_lab(folder: pathlib.Path, room: pathlib.Path, count: int, tell: bool, 
     check_refused(folder, room, of, fail)
     check_not_met(folder, room, of, fail)
     check_better(folder, room, of, fail)
+    check_wrong(folder, room, of[COMMON[0]], fail)
+    check_mutated(folder, room, of[COMMON[0]], MUTATED, fail)
+    check_words(folder, room / "words", room / "lab.db", of[COMMON[0]], fail)
 
 
 # ---- sessions of captures
@@ -409,7 +420,9 @@ def check_made(folder: pathlib.Path, room: pathlib.Path, fail: Fail) -> None:
 
 def judge(given: argparse.Namespace, room: pathlib.Path, fail: Fail) -> None:
     folder = built_programs(room, given.programs[0])
-    if given.slurm is not None:
+    if given.mutated:
+        print(check_mutated(folder, room, made_of(folder, room, "hello-sessions"), given.mutated, fail))
+    elif given.slurm is not None:
         check_by_slurm(folder, room, given.slurm, fail)
     elif given.make:
         check_by_make(folder, room, fail)
@@ -430,6 +443,6 @@ def judge(given: argparse.Namespace, room: pathlib.Path, fail: Fail) -> None:
 
 
 if __name__ == "__main__":
-    check(judge, results={"type": int, "default": 0}, make=FLAG, cut=FLAG,
+    check(judge, results={"type": int, "default": 0}, mutated={"type": int, "default": 0}, make=FLAG, cut=FLAG,
           two={"type": pathlib.Path, "nargs": 2, "metavar": "FOLDER"},
           slurm={"type": int, "nargs": "?", "const": 0, "metavar": "N"})

@@ -1,0 +1,173 @@
+"""Results that others may have written: a good one, changed by chance. `fleet` must take each as it is, or leave it out
+with a line; whatever it has, nothing else is lost, and no terminal is moved."""
+
+import copy
+import json
+import os
+import pathlib
+import random
+import sqlite3
+from typing import Iterator
+
+from checks.kit.checking import Fail, compare
+from checks.kit.runs import answer
+from lab import result
+from viewer.terminal import is_sign
+
+# Where a result has another value than one that it may have.
+VALUES = (None, True, False, 0, -1, 2**31, 2**63 - 1, 2**63, -2**63 - 1, 2**70, 0.5, 1e308, float("nan"), float("inf"),
+          "", "x", "b2", "real", "0123456789abcdef", "\ud800", "\x1b]0;owned\x07\x1b[31m", "line\nfeed\ttab", "\u202e",
+          "\x00", "\x9b31m", "'); DROP TABLE capture; --", "x" * 3000, [], [[]], [None], {}, {"key": 1})
+
+# Files that are no results.
+TEXTS = (b"", b"{", b"null", b"[]", b"{}", b"[" * 60_000, b'{"capture":' * 5_000, b"\xff\xfe{}", b"x" * 100_000,
+         b"1" * 5_000, b'{"capture":{}}', b"\xef\xbb\xbf{}")
+
+Path = tuple[str | int, ...]
+
+
+def places(value: object, path: Path = ()) -> Iterator[Path]:
+    """The way to each value in a result."""
+    yield path
+    if isinstance(value, (dict, list)):
+        for key, below in value.items() if isinstance(value, dict) else enumerate(value):
+            yield from places(below, (*path, key))
+
+
+def parent_of(made: dict, path: Path) -> dict | list:
+    for key in path[:-1]:
+        made = made[key]  # type: ignore[index]
+    return made
+
+
+def change(chance: random.Random, made: dict) -> None:
+    """Changes a value, takes it away, doubles a row, or puts a value where another one was."""
+    # First a part, so that what says most is changed as often as the many rows.
+    part = chance.choice(list(made))
+    path = chance.choice(list(places(made[part], (part,))))
+    of, key = parent_of(made, path), path[-1]
+    how = chance.randrange(6)
+    if how == 0:
+        del of[key]  # type: ignore[arg-type]
+    elif how == 1 and isinstance(of, list):
+        of.append(copy.deepcopy(of[key]))  # type: ignore[index]
+    elif how == 2:
+        of[key] = copy.deepcopy(made[chance.choice(list(made))])  # type: ignore[index]
+    else:
+        of[key] = copy.deepcopy(chance.choice(VALUES))  # type: ignore[index]
+
+
+def changed_text(chance: random.Random, text: bytes) -> bytes:
+    """Flips a bit, cuts the text, or takes out or doubles a piece."""
+    at, length = chance.randrange(len(text)), chance.randrange(1, 200)
+    return chance.choice((
+        text[:at] + bytes([text[at] ^ 1 << chance.randrange(8)]) + text[at + 1:], text[:at],
+        text[:at] + text[at + length:], text[:at] + text[at:at + length] + text[at:]))
+
+
+def mutated_results(good: dict, chance: random.Random, count: int) -> Iterator[bytes]:
+    """So many results, each of a capture of its own and of one of a few builds."""
+    for number in range(count):
+        made = copy.deepcopy(good)
+        made["capture"] |= {"digest": f"{number:032x}", "build": f"b{number % 3}", "device": f"d{number % 5}"}
+        if chance.random() < 0.05:
+            yield chance.choice(TEXTS)
+            continue
+        for _ in range(chance.choice((0, 1, 1, 1, 2, 5))):
+            if made:
+                change(chance, made)
+        text = json.dumps(made, ensure_ascii=chance.random() < 0.5).encode("utf-8", "surrogatepass")
+        yield changed_text(chance, text) if chance.random() < 0.1 else text
+
+
+# ---- results that are wrong in one thing
+
+# The way to a value, another value, and what the line says.
+WRONG: tuple[tuple[Path, object, str], ...] = (
+    (("talk", 0), [], "talk[0] is no object"), (("found",), 5, "found is no list"),
+    (("held",), None, "held is no list"), (("capture",), "x", "capture is no object"),
+    (("capture", "bytes"), 2**70, "capture.bytes is not a whole number"),
+    (("capture", "frames"), True, "capture.frames is not a whole number"),
+    (("capture", "made"), float("nan"), "capture.made is not a number"),
+    (("capture", "build"), "\ud800", "capture.build is not a name"), (("capture", "device"), "", "is not a name"),
+    (("capture", "digest"), "x", "capture.digest is not 32 hexadecimal digits"),
+    (("found", 0, "verdict"), "good", "found[0].verdict is not a verdict"),
+    (("found", 0, "who"), None, "found[0].who is not a text"))
+
+NO_RESULTS = ((b"[" * 60_000, "it is no JSON"), (b"\xff", "it is no JSON"), (b"[]", "it is no object"),
+              (b"", "it is no JSON"), (b" " * 65_537, "it has more than 65,536 bytes"))
+
+
+def wrong_results(good: dict) -> Iterator[tuple[bytes, str]]:
+    yield from NO_RESULTS
+    for path, value, says in WRONG:
+        made = copy.deepcopy(good)
+        parent_of(made, path)[path[-1]] = value  # type: ignore[index]
+        yield json.dumps(made).encode(), says
+    yield json.dumps({**good, "found": [good["found"][0]] * 2}).encode(), "found has a key twice"
+
+
+def check_wrong(folder: pathlib.Path, room: pathlib.Path, good: dict, fail: Fail) -> None:
+    """Each has a line that says what is wrong, and the good one beside them is loaded. So is no pipe waited for."""
+    results = room / "wrong"
+    results.mkdir()
+    due = {}
+    for number, (text, says) in enumerate(wrong_results(good)):
+        due[f"{number}.json"] = says
+        (results / f"{number}.json").write_bytes(text)
+    os.mkfifo(results / "pipe.json")
+    due["pipe.json"] = "it is no file"
+    (results / "z.json").write_text(result.text_of(good), "utf-8")
+    status, out, err = answer([folder / "fleet", "load", room / "wrong.db", results], timeout=60, encoding="utf-8")
+    compare("wrong results: status, output", (status, out), (4, "1 added, 0 there already\n"), fail)
+    lines = err.splitlines()
+    compare("wrong results: lines", len(lines), len(due), fail)
+    for name, says in due.items():
+        told = [line for line in lines if line.startswith(f"fleet: {results / name}: ")]
+        compare(f"{name}: {told} says {says!r}", len(told) == 1 and says in told[0], True, fail)
+
+
+# ---- mutated ones
+
+
+def check_said(what: str, ended: tuple[int, bytes, bytes], statuses: set[int], fail: Fail) -> list[str]:
+    """A documented status, no words of Python, and no sign that a terminal obeys. Returns the lines that were told."""
+    status, out, err = ended
+    compare(f"{what}: status {status} is one of {sorted(statuses)}", status in statuses, True, fail)
+    said = (out + err).decode("utf-8", "backslashreplace")
+    compare(f"{what}: signs", {one for one in said if is_sign(one) and one not in "\t\n"}, set(), fail)
+    told = err.decode("utf-8", "backslashreplace").splitlines()
+    compare(f"{what}: lines of others", [line for line in told if not line.startswith("fleet: ")][:3], [], fail)
+    return told
+
+
+def check_mutated(folder: pathlib.Path, room: pathlib.Path, good: dict, count: int, fail: Fail) -> str:
+    """Loads mutated results at once, and one that is good. Returns how many were taken."""
+    results, lab = room / "mutated", room / "mutated.db"
+    results.mkdir()
+    for number, text in enumerate(mutated_results(good, random.Random(count), count)):
+        (results / f"{number}.json").write_bytes(text)
+    digest = "f" * 32
+    one = {**good, "capture": {**good["capture"], "digest": digest}}
+    (results / "good.json").write_text(result.text_of(one), "utf-8")
+
+    def fleet(*words: object) -> tuple[int, bytes, bytes]:
+        return answer([folder / "fleet", *map(str, words)], timeout=600)
+
+    ended = fleet("load", lab, results)
+    told = check_said("load", ended, {4}, fail)
+    added, there = map(int, ended[1].decode().split()[0::2][:2]) if ended[1] else (0, 0)
+    left_out = len([line for line in told if ".json: " in line])
+    compare("each result is in the lab, or has a line", added + there + left_out, count + 1, fail)
+    database = sqlite3.connect(lab)
+    compare("the good one is in the lab", database.execute("SELECT count(*) FROM capture WHERE digest = ?",
+                                                           (digest,)).fetchone(), (1,), fail)
+    compare("the lab is whole", database.execute("PRAGMA integrity_check").fetchone(), ("ok",), fail)
+    compare("captures in the lab", database.execute("SELECT count(*) FROM capture").fetchone(), (added,), fail)
+    builds = [build for build, in database.execute("SELECT build FROM capture GROUP BY 1 ORDER BY count(*) DESC")]
+    for build in (*builds[1:3], *(it for it in builds if not it.isalnum() and "\0" not in it)):
+        check_said(f"compare with build {build!a}",
+                   fleet("compare", lab, builds[0], build, "--least", "1", "--all"), {0, 1, 10}, fail)
+    for question in ("since", "longest", "holds", "SELECT * FROM capture JOIN found f ON f.capture = capture.id"):
+        check_said(f"ask {question}", fleet("ask", lab, question), {0}, fail)
+    return f"{added} results added, {there} there already, {left_out} left out"

@@ -1,0 +1,120 @@
+"""What `fleet` says when it can't do what is asked: one line, in its own words, whatever is wrong with the words, the
+lab, the locale or standard output."""
+
+import contextlib
+import os
+import pathlib
+import sqlite3
+import subprocess
+from typing import Callable
+
+from checks.kit.checking import Fail, compare
+from checks.kit.runs import answer
+from lab import result
+from lab.ask import ask
+from lab.store import open_lab
+from viewer.files import Stopped
+
+# Questions that can't be asked, and what is said of each.
+QUESTIONS = (
+    (["new"], "new takes old=, new= and devices="), (["new", "old=b1", "new=b2"], "new takes old=, new= and devices="),
+    (["since", "build=b1"], "since takes no value"), (["rate", "key=0"], "rate takes defect="),
+    (["rate", "defect"], "defect: a value of a question is NAME=VALUE"),
+    (["sinse"], "no question is called sinse, but these: called holds longest new rate since"),
+    (["SELECT :build"], "the question takes build="), (["SELECT ?", "build=b1"], "values that have names, as :build"),
+    (["SELECT 1; SELECT 2"], "a question is one statement of SQL"), (["SELECT * FROM none"], "no such table: none"),
+    (["DELETE FROM capture"], "readonly"), (["-"], "near"))
+
+# Command lines that are not valid.
+WORDS = (["compare", "lab.db", "b1", "b2", "--share", "nan"], ["ask\x1b[31m"],
+         ["one", "x", "--build", "", "--device", "d", "-o", "x.json"],
+         ["one", "x", "--build", "b", "--device", "\x1b[31m", "-o", "x.json"],
+         ["one", "x", "--build", "\udcff", "--device", "d", "-o", "x.json"])
+
+# A locale that is not UTF-8, and is there without being generated.
+ASCII = {"LC_ALL": "C", "PYTHONCOERCECLOCALE": "0", "PYTHONUTF8": "0"}
+
+
+def check_line(what: str, came: tuple[int, str, str], status: int, says: str, fail: Fail) -> None:
+    """The status, and a last line that says this; before it comes at most the usage."""
+    lines = [line for line in came[2].splitlines() if not line.startswith(("usage: ", " "))]
+    compare(f"{what}: status, lines", (came[0], len(lines)), (status, 1), fail)
+    compare(f"{what}: it says {says!r}, not {lines}", says in lines[-1] if lines else False, True, fail)
+    compare(f"{what}: signs", came[2].replace("\n", "").isprintable(), True, fail)
+
+
+def check_stopped(what: str, call: Callable[[], object], status: int, says: str, fail: Fail) -> None:
+    """The status and the line with which a call stops the program."""
+    came = 0, ""
+    try:
+        call()
+    except Stopped as stopped:
+        came = stopped.status, str(stopped)
+    compare(f"{what}: status", came[0], status, fail)
+    compare(f"{what}: it says {says!r}, not {came[1]!r}", says in came[1], True, fail)
+
+
+def check_questions(folder: pathlib.Path, lab: pathlib.Path, fail: Fail) -> None:
+    for (question, *values), says in QUESTIONS:
+        with contextlib.closing(open_lab(str(lab))) as opened:
+            check_stopped(f"ask {question} {values}", lambda: list(ask(opened, question, values)), 64, says, fail)
+    for question, says in (("new", "new takes old="), ("SELECT '\udcff'", "is not UTF-8")):
+        came = answer([folder / "fleet", "ask", lab, question], encoding="utf-8")
+        check_line(f"ask {question!a}", came, 64, f"fleet: {says}" if question == "new" else says, fail)
+
+
+def check_labs(folder: pathlib.Path, room: pathlib.Path, lab: pathlib.Path, good: dict, fail: Fail) -> None:
+    """What is no lab is refused, and nothing is put into it."""
+    (room / "good.json").write_text(result.text_of(good), "utf-8")
+    (room / "folder").mkdir()
+    os.mkfifo(room / "pipe")
+    (room / "text").write_bytes(b"no database, but a text\n" * 99)
+    other, changed = room / "other", room / "changed"
+    with sqlite3.connect(other) as database:
+        database.executescript("PRAGMA user_version = 1; CREATE TABLE capture(build); INSERT INTO capture VALUES (1)")
+    changed.write_bytes(lab.read_bytes())
+    with sqlite3.connect(changed) as database:
+        database.execute("UPDATE defect SET kind = x'ff00' WHERE rowid % 2")
+    before = other.read_bytes()
+    for name in ("folder", "pipe", "text", "other", "changed"):
+        for may_make in False, True:
+            check_stopped(f"a {name} as a lab", lambda: open_lab(str(room / name), may_make), 4, f"{room / name}: ",
+                          fail)
+    for words in (["load", "other", "good.json"], ["compare", "changed", "b1", "b2"]):
+        came = answer([folder / "fleet", *words], cwd=room, encoding="utf-8", timeout=60)
+        check_line(" ".join(words), came, 4, f"fleet: {words[1]}: ", fail)
+    compare("another program's database", other.read_bytes() == before, True, fail)
+
+
+def check_strangers(folder: pathlib.Path, room: pathlib.Path, good: dict, fail: Fail) -> None:
+    """Signs that a terminal obeys, in all texts of results, in words and in names of files; and letters that a locale
+    lacks."""
+    name = "клиент\x1b]0;owned\x07"
+    for number, build in enumerate(("b1", name)):
+        of = {**good["capture"], "digest": f"{number:032x}", "build": build, "device": name, "version": build + name}
+        found = [{**it, "kind": name, "path": name, "note": name} for it in good["found"]]
+        (room / f"{number}.json").write_text(result.text_of({**good, "capture": of, "found": found}), "utf-8")
+    (room / f"{name}.json").write_text("{}", "utf-8")
+    for words, status in ((["load", "stranger.db", "0.json", "1.json", f"{name}.json"], 4),
+                          (["compare", "stranger.db", "b1", name, "--all", "--least", "1"], 0),
+                          (["compare", "stranger.db", "b1", f"no {name}"], 1), (["ask", "stranger.db", "since"], 0),
+                          (["ask", "stranger.db", f"SELECT '{name}' AS \"{name}\""], 0), (["ask", name, "since"], 4)):
+        # In a locale of ASCII other words are no UTF-8.
+        for locale in ({}, ASCII) if " ".join(words).isascii() else ({},):
+            came = answer([folder / "fleet", *words], cwd=room, env={**os.environ, **locale}, timeout=60)
+            said = (came[1] + came[2]).decode("utf-8", "backslashreplace").replace("\n", "").replace("\t", "")
+            compare(f"{words!a} {locale}: status, signs", (came[0], said.isprintable()), (status, True), fail)
+
+
+def check_words(folder: pathlib.Path, room: pathlib.Path, lab: pathlib.Path, good: dict, fail: Fail) -> None:
+    room.mkdir()
+    check_questions(folder, lab, fail)
+    for words in WORDS:
+        check_line(f"{words!a}", answer([folder / "fleet", *words], cwd=room, encoding="utf-8"), 64, "fleet: ", fail)
+    for how, says in ((">&-", "standard output is closed"), (">/dev/full", "standard output: No space left on device")):
+        for words in (["load", str(lab), str(room)], ["ask", str(lab), "since"]):
+            shell = ["sh", "-c", f'"$@" {how}', "sh", str(folder / "fleet"), *words]
+            ended = subprocess.run(shell, stderr=subprocess.PIPE, encoding="utf-8")
+            check_line(f"{words[0]} {how}", (ended.returncode, "", ended.stderr), 4, says, fail)
+    check_labs(folder, room, lab, good, fail)
+    check_strangers(folder, room, good, fail)
