@@ -26,6 +26,8 @@ from typing import Iterator
 HERE = pathlib.Path(__file__).resolve().parent
 sys.path.insert(0, str(HERE.parent))
 sys.dont_write_bytecode |= not (HERE.parent / "crates/build").exists()
+from viewer.whole_python import need_whole_python  # noqa: E402
+need_whole_python("fleet")
 from viewer.files import Stopped  # noqa: E402
 from viewer.program_names import LIBRARY, PACKED  # noqa: E402
 from viewer.terminal import tell, write  # noqa: E402

@@ -33,6 +33,7 @@ case $service in
       '--known[defects that are known]:file:_files' \
       '--all[also what is the same]' \
       '(- *)--help[say what the words mean]' \
+      '(- *)--version[say what the programs are made of]' \
       ':command:(one load compare ask each)' \
       '*:file:_files'
     ;;
