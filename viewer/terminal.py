@@ -28,6 +28,11 @@ def field_of(value: object) -> str:
     return "-" if value in (None, "") else shown(str(value).replace("\\", "\\x5c"))
 
 
+def line_of(*values: object) -> str:
+    """A line of fields, with tabs between."""
+    return "\t".join(map(field_of, values)) + "\n"
+
+
 def tell(program: str, line: str) -> None:
     """Writes a line to standard error, in the encoding of the locale: what that lacks is written as its number. If
     standard error takes nothing, nobody can be told."""

@@ -29,7 +29,8 @@ What must hold:
   so. A thread that changed its name has the last one, and what that costs has a ceiling. If frames are later than the
   end of the recording, a line says how many.
 - A malformed capture, in one file or in parts, has a page with the line of its fault and what comes before it, and
-  status 2.
+  status 2. Standard error and the first line of --groups name the file and what the fault means; the status is 2 with
+  --fail-on too.
 - A pipe, a folder, and a capture that changes while it is read end in a line. A file by whatever name is read.
 - A page is whole or not there, whatever ends it. It replaces an earlier page of the capture, and no other file.
 - SIGTERM leaves nothing in TMPDIR.
@@ -48,7 +49,8 @@ What must hold:
   has its interface and each registered object its service, the page has the methods of a table from sources, and those
   without a fault have no verdict real and at most two maybe.
 - Against the database of another capture, lines and marks say what is new, worse, grown or gone, and `gone` only of
-  what could have come up again. Keys that are not alike are refused. `--fail-on` gives status 10 for what is not known.
+  what could have come up again. Keys that are not alike are refused, a side list on one side only, and a database that
+  `view` did not make so. `--fail-on` gives status 10 for what is not known.
 - SIGKILL leaves a folder, which the next `view` removes.
 - The loader puts each row as it is into its table, and refuses rows that are not whole.
 - No statement of the rules takes the square of what a capture has.
@@ -71,8 +73,8 @@ from checks.viewer.page.against import check_against
 from checks.viewer.page.books import (check_agreement, check_bad_books, check_commands, check_copies,
                                       check_long_books)
 from checks.viewer.page.browser import check_browser
-from checks.viewer.page.files import (check_again, check_changing, check_names, check_pipes, check_terminal,
-                                       check_whole)
+from checks.viewer.page.files import (check_again, check_changing, check_malformed, check_names, check_pipes,
+                                       check_terminal, check_whole)
 from checks.viewer.page.growth import check_growth
 from checks.viewer.page.losses import CUTS, FAULTLESS, check_cuts, check_gaps
 from checks.viewer.page.methods import check_methods, check_unnamed
@@ -81,8 +83,8 @@ from checks.viewer.page.services import CAPTURES, check_libgbinder, check_servic
 from checks.viewer.page.sides import (check_cut_meanwhile, check_files, check_forms, check_last_names, check_late,
                                       check_loader, check_no_lists, check_renames, check_side, check_times)
 from checks.viewer.page.stacks import check_stacks
-from checks.viewer.page.words import (check_hostile, check_malformed, check_no_engine, check_python, check_secrets,
-                                      check_stopped, check_templates, check_told, check_version, check_words)
+from checks.viewer.page.words import (check_hostile, check_no_engine, check_python, check_secrets, check_stopped,
+                                      check_templates, check_told, check_version, check_words)
 from checks.viewer.page.wrong import check_edits
 from viewer.database import raw_tables
 

@@ -3,9 +3,10 @@
 import sqlite3
 from typing import Iterator, NamedTuple
 
-from viewer.defects.seen import Defect, defects_of, facts_of, seconds_of
+from viewer.defects.seen import Defect, Seen, defects_of, facts_of, seconds_of
 from viewer.files import Stopped
-from viewer.terminal import field_of
+from viewer.malformed import Fault
+from viewer.terminal import line_of
 
 # What a defect may have become, in the order of the lines.
 NEW, WORSE, GROWN, GONE, SAME, NOT_MET = "new", "worse", "grown", "gone", "same", "not met"
@@ -23,15 +24,19 @@ class Change(NamedTuple):
     now: int
 
 
+# The options without which defects have other keys and verdicts, by the facts that say whether they were given.
+OPTIONS = {"methods": "--methods", "side_list": "--side"}
+
+
 def refuse_unlike(old: dict, new: dict, name: str) -> None:
-    """Keys of two designs, and keys with and without the names of methods, are not compared."""
+    """Keys of two designs are not compared, and none where one side alone has the names of methods, or a side list."""
     if old["prints"] != new["prints"]:
         raise Stopped(1, f"{name}: its keys are of design {old['prints']}, and those of the capture of {new['prints']}:"
                          " make it anew")
-    if bool(old["methods"]) != bool(new["methods"]):
-        has = "has the names of methods, and the capture has not" if old["methods"] else (
-            "has no names of methods, and the capture has")
-        raise Stopped(1, f"{name}: {has}: give both --methods, or none")
+    for fact, option in OPTIONS.items():
+        if bool(old[fact]) != bool(new[fact]):
+            made, viewed = ("with", "without") if old[fact] else ("without", "with")
+            raise Stopped(1, f"{name} was made {made} {option}, and the capture is viewed {viewed}: give both, or none")
 
 
 def has_grown(before: Defect, now: Defect, seconds: tuple[float | None, float | None]) -> bool:
@@ -41,13 +46,13 @@ def has_grown(before: Defect, now: Defect, seconds: tuple[float | None, float | 
 
 
 class Comparison:
-    """The changes between the databases of two captures."""
+    """The changes in the database of a capture since another one, whose database is called `name`."""
 
-    def __init__(self, new: sqlite3.Connection, old: sqlite3.Connection, name: str):
-        facts = facts_of(old), facts_of(new)
+    def __init__(self, new: sqlite3.Connection, old: Seen, name: str):
+        facts = old.facts, facts_of(new)
         refuse_unlike(*facts, name)
         self.seconds = seconds_of(facts[0]), seconds_of(facts[1])
-        self.before, self.now = defects_of(old), defects_of(new)
+        self.before, self.now = old.defects, defects_of(new)
         self.met = {who for who, in new.execute("SELECT program || ' on ' || device FROM program")}
         self.called = set(new.execute("SELECT caller, call FROM talk UNION SELECT server, call FROM talk"))
         self.changes = [Change(self.what(key), self.now.get(key) or self.before[key],
@@ -79,10 +84,13 @@ class Comparison:
     def of(self, *what: str) -> list[Change]:
         return [change for change in self.changes if change.what in what]
 
-    def lines(self) -> Iterator[str]:
-        """A line for each defect that is not the same, then one with counts."""
+    def lines(self, fault: Fault | None) -> Iterator[str]:
+        """A line for each defect that is not the same, then one with counts. If the new capture is malformed, the first
+        line says so."""
+        if fault:
+            yield line_of("malformed", None, None, None, fault.kind, None, fault.file, fault.place, None)
         for what in SHOWN:
             for _, defect, before, now in self.of(what):
-                yield "\t".join(map(field_of, (what, defect.verdict, before, now, defect.kind, defect.who, defect.path,
-                                               defect.place, defect.key))) + "\n"
+                yield line_of(what, defect.verdict, before, now, defect.kind, defect.who, defect.path, defect.place,
+                              defect.key)
         yield ", ".join(f"{len(self.of(what))} {what}" for what in (*SHOWN, SAME, NOT_MET)) + "\n"

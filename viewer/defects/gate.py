@@ -5,7 +5,8 @@ from typing import Iterator, NamedTuple
 
 from viewer.defects.changes import GONE, GROWN, NEW, WORSE, Comparison
 from viewer.defects.known import known_in, unseen_lines
-from viewer.defects.seen import RANKS, Defect, defects_of, kept_database
+from viewer.defects.seen import RANKS, Defect, defects_of, seen_in
+from viewer.malformed import Fault
 
 
 class Shown(NamedTuple):
@@ -20,7 +21,7 @@ class Gate:
 
     def __init__(self, against: str | None, fail_on: str | None, known: str | None):
         self.against, self.fail_on = against, fail_on
-        self.old = None if against is None else kept_database(against)
+        self.old = None if against is None else seen_in(against)
         self.known = {} if known is None else known_in(known)
         self.comparison: Comparison | None = None
         self.now: dict[str, Defect] = {}
@@ -33,9 +34,15 @@ class Gate:
         elif self.fail_on:
             self.now = defects_of(database)
 
-    def lines(self) -> Iterator[str]:
+    def doubt(self) -> str | None:
+        """Why what is new may not be new; None if nothing is known against it."""
+        malformed = self.old and self.old.facts["malformed"]
+        return f"{self.against} has only what comes before a fault: {malformed}" if malformed else None
+
+    def lines(self, fault: Fault | None) -> Iterator[str]:
+        """What is printed of a capture with this first fault."""
         if self.comparison:
-            yield from self.comparison.lines()
+            yield from self.comparison.lines(fault)
         yield from unseen_lines(self.known, set(self.now))
 
     def failed(self) -> list[str]:

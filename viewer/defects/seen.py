@@ -4,7 +4,7 @@ import pathlib
 import sqlite3
 from typing import NamedTuple
 
-from viewer.files import Stopped
+from viewer.files import Stopped, state_of
 
 QUERY = pathlib.Path(__file__).resolve().parents[1] / "page/queries/defects.sql"
 
@@ -47,6 +47,11 @@ def defects_of(database: sqlite3.Connection) -> dict[str, Defect]:
     return {row[0]: Defect(*row) for row in database.execute(QUERY.read_text("utf-8"))}
 
 
+# The facts of a capture on which a comparison rests.
+FACTS = {"prints": int, "methods": int, "side_list": int, "first_ts": int | None, "until_ts": int | None,
+         "malformed": str | None}
+
+
 def facts_of(database: sqlite3.Connection) -> dict[str, object]:
     return dict(database.execute("SELECT key, value FROM capture"))
 
@@ -58,15 +63,42 @@ def seconds_of(facts: dict) -> float | None:
 
 
 def kept_database(path: str) -> sqlite3.Connection:
-    """A database that `./view --database` kept, to read."""
+    """A database that `./view --database` kept, to read. A text in it that is no UTF-8 fails nothing."""
+    state_of(path)
     try:
-        open(path, "rb").close()
         database = sqlite3.connect(f"{pathlib.Path(path).absolute().as_uri()}?mode=ro", uri=True)
         layout, = database.execute("PRAGMA user_version").fetchone()
-    except OSError as error:
-        raise Stopped(4, f"{path}: {error.strerror}") from error
     except sqlite3.DatabaseError as error:
         raise Stopped(4, f"{path}: {error}") from error
     if layout != LAYOUT:
         raise Stopped(4, f"{path}: its layout is {layout} and not {LAYOUT}: make it anew, by --database")
+    database.text_factory = lambda text: text.decode("utf-8", "replace")
     return database
+
+
+class Seen(NamedTuple):
+    """What a comparison takes of a capture."""
+    facts: dict[str, object]
+    defects: dict[str, Defect]
+
+
+def are_ours(seen: Seen) -> bool:
+    """Whether facts and defects have the types that `./view` gives them."""
+    return (all(isinstance(seen.facts.get(name), kind) for name, kind in FACTS.items())
+            and all(isinstance(value, kind) for defect in seen.defects.values()
+                    for value, kind in zip(defect, Defect.__annotations__.values()))
+            and all(defect.verdict in RANKS for defect in seen.defects.values()))
+
+
+def seen_in(path: str) -> Seen:
+    """What a database has that was kept. A file may have been changed since, or be a stranger's."""
+    database = kept_database(path)
+    try:
+        seen = Seen(facts_of(database), defects_of(database))
+    except sqlite3.Error as error:
+        raise Stopped(4, f"{path}: {error}: make it anew, by --database") from error
+    finally:
+        database.close()
+    if not are_ours(seen):
+        raise Stopped(4, f"{path}: it has what ./view does not write: make it anew, by --database")
+    return seen

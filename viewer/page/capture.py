@@ -1,9 +1,11 @@
 """The capture that a page shows: its database, and what all sections need of that."""
 
+import os
 import pathlib
 import sqlite3
 
 from viewer.files import word_of
+from viewer.malformed import fault_of
 from viewer.program_names import called
 from viewer.rules.names import Names
 
@@ -21,6 +23,8 @@ class Capture:
         named = " ".join(map(word_of, files))
         self.command, self.report = f"{called('listing')} {named}", f"{called('audit')} report {named}"
         self.facts = dict(database.execute("SELECT key, value FROM capture"))
+        malformed = self.facts["malformed"]
+        self.fault = fault_of(malformed, list(map(os.path.basename, files))) if malformed else None
         self.who = dict(database.execute("SELECT upid, who FROM who"))
         self.rules = dict(database.execute("SELECT id, text FROM rule"))
         self.names = Names(database)

@@ -4,7 +4,8 @@ import pathlib
 import sqlite3
 from typing import Iterator
 
-from viewer.terminal import field_of
+from viewer.malformed import Fault
+from viewer.terminal import line_of
 
 KEYS = (pathlib.Path(__file__).resolve().parent / "queries/group_keys.sql").read_text("utf-8")
 
@@ -25,5 +26,13 @@ def group_lines(database: sqlite3.Connection) -> Iterator[str]:
         processes = ",".join(map(str, dict.fromkeys(process for _, process, _ in of)))
         names = ",".join(dict.fromkeys(name for *_, name in of if name))
         keys = ",".join(key for key, in database.execute(KEYS, (number,)))
-        yield "\t".join(map(field_of, (verdict, title, n, n_all, devices, processes, path, rules, note, names, keys))
-                        ) + "\n"
+        yield line_of(verdict, title, n, n_all, devices, processes, path, rules, note, names, keys)
+
+
+def lines_of(database: sqlite3.Connection, fault: Fault | None) -> Iterator[str]:
+    """What --groups prints. If the capture is malformed, a line comes first that has the fields of a group, but no
+    verdict: so nobody takes the groups for those of a whole capture, or the line for a group."""
+    if fault:
+        yield line_of("malformed", fault.kind, None, None, None, None, fault.file, None,
+                      f"at {fault.place}: {fault.meaning}", None, None)
+    yield from group_lines(database)

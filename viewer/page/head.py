@@ -12,6 +12,7 @@ def head_of(capture: Capture) -> dict[str, object]:
     ask = capture.ask
     return {
         "first_ts": None, "until_ts": None, "payloads": None, **capture.facts, "has_end": "end_ts" in capture.facts,
+        "fault": capture.fault,
         "agreed": agreement.line_of(capture.database),
         "met": ask("SELECT who FROM who JOIN process USING (upid) WHERE met IS NOT 'from-start' AND upid NOT IN (SELECT"
                    " upid FROM book_opening WHERE moment = 'begin' UNION SELECT upid FROM book_process) ORDER BY upid"

@@ -1,6 +1,8 @@
 """What is new since another capture: lines, marks on the page, the gate, and what is refused."""
 
+import contextlib
 import pathlib
+import shutil
 import sqlite3
 
 from checks.kit.checking import Fail, compare
@@ -9,6 +11,8 @@ from checks.viewer.page.common import texts_of, view, written
 from checks.viewer.page.methods import make_table
 from checks.kit.programs import CHECKS
 from checks.viewer.sessions.session import *
+from viewer.defects.seen import seen_in
+from viewer.files import Stopped
 
 IDS = marked("check.forms.IIds")
 
@@ -123,8 +127,42 @@ def check_unlike(folder: pathlib.Path, room: pathlib.Path, old: tuple, new: tupl
     compare("methods on both sides", lines.splitlines()[-1], "1 new, 0 worse, 1 grown, 1 gone, 1 same, 1 not met", fail)
     compare("a key with a method", "reply to check.forms.IIds.tenth of service" in "\n".join(
         path for path, in sqlite3.connect(room / "named.db").execute("SELECT path FROM defect")), True, fail)
+    view(folder, room, old[0], "--groups", "--database", "no-side.db")
+    for words, against, made, viewed in ((new, "no-side.db", "without", "with"),
+                                         (new[:1], "old.db", "with", "without")):
+        told = f"view: {against} was made {made} --side, and the capture is viewed {viewed}: give both, or none\n"
+        compare(f"a side list on one side, {against}", view(folder, room, *words, "--against", against), (1, "", told),
+                fail)
+    check_changed(room, fail)
     with sqlite3.connect(room / "old.db") as database:
         database.execute("UPDATE capture SET value = 0 WHERE key = 'prints'")
-    for against, due in (("old.db", 1), ("new.cap", 4), ("none.db", 4)):
+    for against, due in (("old.db", 1), ("new.cap", 4), ("none.db", 4), (".", 4)):
         status, lines, told = view(folder, room, *new, "--against", against)
         compare(f"against {against}", (status, lines, told.count("\n")), (due, "", 1), fail)
+
+
+# What somebody may have done to a kept database.
+CHANGES = ("DELETE FROM capture WHERE key = 'prints'", "DELETE FROM capture WHERE key = 'methods'",
+           "UPDATE capture SET value = 'a' WHERE key = 'prints'",
+           "UPDATE capture SET value = 'a' WHERE key = 'first_ts'",
+           "UPDATE rule SET verdict = 'wrong'", "DROP TABLE defect",
+           "ALTER TABLE defect RENAME TO was; CREATE VIEW defect AS SELECT id, kind, who, 7 AS path, call FROM was")
+
+
+def check_changed(room: pathlib.Path, fail: Fail) -> None:
+    """A database that is not as `view` makes it ends in a line with its name. A text that is no UTF-8 ends nothing."""
+    for change in CHANGES:
+        shutil.copy(room / "old.db", room / "changed.db")
+        with contextlib.closing(sqlite3.connect(room / "changed.db", isolation_level=None)) as database:
+            database.executescript(change)
+        try:
+            seen_in(str(room / "changed.db"))
+            told = ""
+        except Stopped as stopped:
+            told = f"{stopped.status} {stopped}"
+        compare(f"a kept database after {change}", told.startswith(f"4 {room}/changed.db: "), True, fail)
+    shutil.copy(room / "old.db", room / "changed.db")
+    with contextlib.closing(sqlite3.connect(room / "changed.db", isolation_level=None)) as database:
+        database.execute("UPDATE defect SET who = CAST(x'ff' AS TEXT)")
+    compare("a text that is no UTF-8", {defect.who for defect in seen_in(str(room / "changed.db")).defects.values()},
+            {"\ufffd"}, fail)

@@ -1,4 +1,5 @@
-"""The files that `view` reads, which may be odd or changed meanwhile; and pages, which are whole or not there."""
+"""The files that `view` reads, which may be malformed, foreign, odd or changed meanwhile; and pages, which are whole or
+not there."""
 
 import os
 import pathlib
@@ -9,11 +10,74 @@ import sys
 from typing import NamedTuple
 
 from checks.kit.checking import Fail, compare
-from checks.kit.programs import DRIVER
+from checks.kit.frames import frames_of
+from checks.kit.programs import DRIVER, ROOT
 from checks.kit.runs import answer
 from checks.viewer.page.common import stored, view
+from viewer.malformed import MEANINGS
 
 CAPTURE = DRIVER / "gaps/capture-1.cap"
+
+# ---- malformed captures
+
+
+def make_malformed(room: pathlib.Path) -> list[tuple[str, ...]]:
+    """A bad capture, one that is cut within a frame, files that are no captures, and bad second parts."""
+    whole = (DRIVER / "threads/capture-1.cap").read_bytes()
+    frames = frames_of(whole)
+    middle = frames[len(frames) // 2][0]
+    bad = bytearray(whole[:16] + whole[middle:])
+    bad[51] ^= 0xc0  # the direction in the first code word
+    for name, data in (("first.cap", whole[:middle]), ("bad.cap", bad), ("cut.cap", whole[:middle + 40]),
+                       ("text.txt", b"a text of more than 16 bytes"), ("empty.cap", b"")):
+        (room / name).write_bytes(data)
+    return [("bad.cap",), ("cut.cap",), ("text.txt",), ("empty.cap",), (str(DRIVER / "threads/capture.side"),),
+            ("first.cap", "bad.cap"), ("first.cap", "text.txt"), ("first.cap", "first.cap")]
+
+
+def fault_of_page(path: pathlib.Path) -> str:
+    """What the page of a malformed capture begins with, without markup."""
+    text = path.read_text("utf-8") if path.exists() else ""
+    return re.sub("<[^>]*>", "", text.partition('<p class="fault">')[2].partition("</p>")[0])
+
+
+def check_malformed(folder: pathlib.Path, room: pathlib.Path, fail: Fail) -> None:
+    """The page and standard error have the line of the first fault, the file that has it, and what that means."""
+    made, stored_ones = make_malformed(room), [(str(path),) for path in sorted(ROOT.glob("samples/*.cap"))]
+    for number, files in enumerate(made + stored_ones):
+        ended = subprocess.run([folder / "audit", "report", *files], cwd=room, capture_output=True, encoding="utf-8")
+        if ended.returncode == 0 and files in stored_ones:
+            continue
+        line, shown = ended.stdout.strip(), room / f"malformed-{number}.html"
+        part = re.search(r"in part (\d+)", line)
+        file = files[int(part[1]) - 1 if part else 0]
+        status, said, told = view(folder, room, *files, "-o", shown)
+        compare(f"{files}: status, and whether standard error has the fault",
+                (status, said, told.startswith(f"view: {line}: {file} ")), (2, "", True), fail)
+        compare(f"{files}: what its page begins with", fault_of_page(shown),
+                f"{told.removeprefix('view: ').strip().replace(file, os.path.basename(file))}.", fail)
+    check_malformed_lines(folder, room, fail)
+    kinds = re.findall(r"^\d+\. ([A-Z]\w+)", (ROOT / "docs/ENVELOPE.md").read_text("utf-8"), re.MULTILINE)
+    compare("kinds of faults that have a meaning", sorted(MEANINGS), sorted(kinds), fail)
+
+
+def check_malformed_lines(folder: pathlib.Path, room: pathlib.Path, fail: Fail) -> None:
+    """The first line of --groups and --against names the fault and is no group, and --fail-on lets nothing pass."""
+    for files, kind in (("text.txt",), "HeaderMagic"), (("first.cap", "bad.cap"), "RecordDirection"):
+        status, said, _ = view(folder, room, *files, "--groups", "--fail-on", "real", "--database", f"{kind}.db")
+        lines = [line.split("\t") for line in said.splitlines()]
+        compare(f"{files}: status, and how many fields a line has", (status, {len(line) for line in lines}), (2, {11}),
+                fail)
+        compare(f"{files}: the first line of --groups", lines[0][:8] + lines[0][9:],
+                ["malformed", kind, "-", "-", "-", "-", files[-1], "-", "-", "-"], fail)
+    status, said, told = view(folder, room, "cut.cap", "--against", "RecordDirection.db", "--fail-on", "real")
+    compare("a malformed capture against another: status, and the first line",
+            (status, said.partition("\n")[0].split("\t")[:7]),
+            (2, ["malformed", "-", "-", "-", "FrameLength", "-", "cut.cap"]), fail)
+    compare("a malformed capture against another: standard error", [line.split(": malformed ")[0] for line in
+                                                                    told.splitlines()],
+            ["view", "view: RecordDirection.db has only what comes before a fault"], fail)
+
 
 # ---- files that are no files, and names
 
@@ -24,7 +88,7 @@ def check_pipes(folder: pathlib.Path, room: pathlib.Path, fail: Fail) -> None:
     shutil.copy(CAPTURE, room / "good.cap")
     pipe = " is a pipe or a device, and is read more than once: write it into a file first, by cat > FILE\n"
     for words, told in ((("pipe",), pipe), (("good.cap", "--side", "pipe"), pipe),
-                        (("/dev/stdin",), pipe),
+                        (("good.cap", "--against", "pipe"), pipe), (("/dev/stdin",), pipe),
                         ((".",), " is a folder, and not a file\n")):
         came = subprocess.run([folder / "view", *words, "--groups"], cwd=room, capture_output=True, input="",
                               encoding="utf-8", timeout=60)

@@ -206,30 +206,6 @@ def check_secrets(folder: pathlib.Path, room: pathlib.Path, fail: Fail) -> None:
         compare(f"{name}: the page says it", "Payloads are redacted" in texts_of(shown), not due, fail)
 
 
-def check_malformed(folder: pathlib.Path, room: pathlib.Path, fail: Fail) -> None:
-    """Stored malformed captures; a bad one, one cut within a frame and one that is no capture; and bad second parts."""
-    whole = (DRIVER / "threads/capture-1.cap").read_bytes()
-    frames = frames_of(whole)
-    middle = frames[len(frames) // 2][0]
-    (room / "first.cap").write_bytes(whole[:middle])
-    bad = bytearray(whole[:16] + whole[middle:])
-    bad[48] = 0xff
-    (room / "bad.cap").write_bytes(bad)
-    (room / "cut.cap").write_bytes(whole[:middle + 40])
-    (room / "none.cap").write_bytes(b"no capture")
-    asked = [(path,) for path in sorted(ROOT.glob("samples/*.cap"))]
-    asked += [("bad.cap",), ("cut.cap",), ("none.cap",), ("first.cap", "bad.cap"), ("first.cap", "none.cap")]
-    for number, files in enumerate(asked):
-        ended = subprocess.run([folder / "audit", "report", *files], cwd=room, capture_output=True, encoding="utf-8")
-        if ended.returncode != 2:
-            continue
-        shown = f"malformed-{number}.html"
-        compare(f"{files}, status", view(folder, room, *files, "-o", shown)[:2], (2, ""), fail)
-        text = (room / shown).read_text("utf-8") if (room / shown).exists() else ""
-        compare(f"{files}, the first line of its page", text.partition('<p class="fault">')[2].partition(":")[0],
-                ended.stdout.strip(), fail)
-
-
 HOSTILE = {"manager": "<script>window.bad=1</script>, one", "short-lived": "\"'><img src=x onerror=bad()>",
            "deaf-watcher": "\u202egnp.exe", "service": "a" * 2**20, "client": "\u05d0</table></details><h1>",
            "waiting": "tab\there", "hasty-watcher": "\u05d0\u05d1 1"}
