@@ -4,6 +4,7 @@
 #include "met.h"
 #include "names.h"
 #include "side.h"
+#include "slice.h"
 #include "stacks.h"
 #include <stdio.h>
 #include <string.h>
@@ -48,6 +49,16 @@ void begin_tell_again(u64 number)
 	names_tell_again(number);
 	met_tell_again();
 	stacks_tell_again();
+	side_wait();
 	if (tell_also)
 		tell_also(number);
+}
+
+int begin_tell_on(void)
+{
+	slice_begin();
+	side_go_on();
+	int is_told = names_tell_on() && met_tell_on();
+	side_wait();
+	return is_told;
 }

@@ -79,5 +79,8 @@ void file_remove(struct file *file)
 		return;
 	close(file->descriptor);
 	unlink(file->path);
+	free(file->waiting);
+	file->waiting = NULL;
+	file->room = 0;
 	file->descriptor = -1;
 }

@@ -212,8 +212,9 @@ enum reason frame_write(struct frame *frame, u64 consumed)
 		attached = 0;
 	if (!parts_have_room(FRAME_HEAD + consumed))
 		return REASON_FILE_TOO_SMALL;
-	if (parts_next_frame(frame->number, frame->time, FRAME_HEAD + consumed + attached))
-		return REASON_NOT_WRITTEN;
+	int error = parts_next_frame(frame->number, frame->time, FRAME_HEAD + consumed + attached);
+	if (error)
+		return error == PARTS_LATER ? REASON_LATER : REASON_NOT_WRITTEN;
 	write_head(frame, consumed, attached);
 	if (attached)
 		write_entries(frame, consumed);

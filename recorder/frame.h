@@ -40,8 +40,8 @@ void frame_free(struct frame *frame);
 int frame_add_chunk(struct frame *frame, const struct chunk *chunk);
 void frame_add_piece(struct frame *frame, const struct piece *piece);
 void frame_add_note(struct frame *frame, u32 record, u32 reason);
-/* Writes the first `consumed` bytes and their entries, and the lines of the side list. Returns REASON_NONE, or why the
- * frame is lost; then nothing is written. */
+/* Writes the first `consumed` bytes and their entries, and the lines of the side list. Returns REASON_NONE; or, if nothing
+ * is written, why the frame is lost, or REASON_LATER: the next file is not begun yet, and the call is due once more. */
 enum reason frame_write(struct frame *frame, u64 consumed);
 /* How many entries were written in all frames. */
 u64 frame_entries_written(void);

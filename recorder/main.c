@@ -71,7 +71,7 @@ static void create_files(const struct options *options)
 		fail("%s: %s", parts_path(), strerror(error));
 	if (options->files) {
 		names_keep_endings();
-		met_keep();
+		met_keep(options->size);
 		begin_tell_also(missed_tell_again);
 	}
 }

@@ -52,7 +52,7 @@ enum reason {
 	REASON_FILE_TOO_SMALL,	/* the frame is larger than a file may be */
 	REASON_NOT_WRITTEN,	/* the disk had no room */
 	REASON_END,
-	REASON_LATER,		/* in the kernel only: the next run of a program copies it */
+	REASON_LATER,		/* not lost: the next run of a program copies it, or the frame waits for the next file */
 };
 
 /* Whether one of the recorder's programs in the kernel keeps its processor until its end. */

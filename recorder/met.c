@@ -1,11 +1,16 @@
 #include "met.h"
 #include "side.h"
+#include "slice.h"
 #include "table.h"
 #include <linux/android/binder.h>
 #include <stdlib.h>
 #include <string.h>
 
-#define LARGEST_HANDLE 1048575u		/* the driver gives the lowest free number; more are not remembered */
+/* A process may name handles that it does not have: the driver says nothing of it. So if it names one above the largest,
+ * all its handles are forgotten. The driver gives the lowest free number, so that one of it has as many handles. */
+#define LARGEST_HANDLE 16383u
+#define MOST_HANDLES 262144u		/* of all processes together, */
+#define BYTES_OF_HANDLE 64u		/* and so many bytes of a file for each: a line takes about half of them */
 #define DEEPEST 62			/* calls of a thread; more are not remembered */
 
 /* The open calls of a thread: a 1, and for each call a bit, the innermost one last: 1 if the thread serves it. */
@@ -15,7 +20,8 @@
 struct met_process {
 	u32 device, process;
 	u64 *handles;			/* a bit for each */
-	u32 words;
+	u32 words, count;
+	int is_forgotten;		/* it has named too many handles */
 };
 
 static struct table calls;		/* by device, process and thread */
@@ -23,10 +29,19 @@ static struct table processes;		/* by device and process: the place in `met`, pl
 static struct met_process *met;
 static u32 met_count;
 static int is_kept;
+static u64 most_handles, handle_count;	/* of all processes */
+static u32 most_of_process = LARGEST_HANDLE;
+static struct again {			/* how far met_tell_on is */
+	u64 call;
+	u32 process, word;
+} again;
 
-void met_keep(void)
+void met_keep(u64 most_bytes)
 {
 	is_kept = 1;
+	most_handles = most_bytes / BYTES_OF_HANDLE;
+	if (most_handles > MOST_HANDLES)
+		most_handles = MOST_HANDLES;
 }
 
 static u64 key_of(u32 device, u32 process)
@@ -45,18 +60,56 @@ static struct met_process *met_of(const struct who *who)
 	return met + *place - 1;
 }
 
-static void met_handle(const struct who *who, u32 handle)
+static void drop_handles(struct met_process *m)
 {
-	struct met_process *m = met_of(who);
-	if (!handle || handle > LARGEST_HANDLE)	/* 0 is the context manager, for every process */
-		return;
+	handle_count -= m->count;
+	free(m->handles);
+	m->handles = NULL;
+	m->words = m->count = 0;
+}
+
+static void forget_handles(struct met_process *m)
+{
+	drop_handles(m);
+	m->is_forgotten = 1;
+}
+
+/* If all processes together have too many handles, those with the most are forgotten. The bound is halved each time, so
+ * this does not come often. */
+static void make_room(void)
+{
+	while (handle_count > most_handles) {
+		most_of_process /= 2;
+		for (u32 i = 0; i < met_count; i++)
+			if (met[i].count > most_of_process)
+				forget_handles(met + i);
+	}
+}
+
+static void add_handle(struct met_process *m, u32 handle)
+{
 	if (handle / 64 >= m->words) {
 		u32 words = handle / 64 + 16;
 		m->handles = resize(m->handles, words * sizeof *m->handles);
 		memset(m->handles + m->words, 0, (words - m->words) * sizeof *m->handles);
 		m->words = words;
 	}
-	m->handles[handle / 64] |= 1ull << handle % 64;
+	u64 bit = 1ull << handle % 64;
+	m->count += !(m->handles[handle / 64] & bit);
+	handle_count += !(m->handles[handle / 64] & bit);
+	m->handles[handle / 64] |= bit;
+}
+
+static void met_handle(const struct who *who, u32 handle)
+{
+	struct met_process *m = met_of(who);
+	if (!handle || m->is_forgotten)		/* 0 is the context manager, for every process */
+		return;
+	if (handle <= LARGEST_HANDLE)
+		add_handle(m, handle);
+	if (handle > LARGEST_HANDLE || m->count > most_of_process)
+		forget_handles(m);
+	make_room();
 }
 
 static u64 *calls_of(const struct who *who)
@@ -156,10 +209,14 @@ void met_process_ended(u32 device, u32 process)
 	u64 *place = table_find(&processes, key_of(device, process), 0);
 	if (!place || !*place)
 		return;
-	struct met_process *m = met + *place - 1;
-	free(m->handles);
-	m->handles = NULL;
-	m->words = 0;
+	drop_handles(met + *place - 1);
+	met[*place - 1].is_forgotten = 0;
+}
+
+int met_knows_handles(u32 device, u32 process)
+{
+	u64 *place = table_find(&processes, key_of(device, process), 0);
+	return !place || !*place || !met[*place - 1].is_forgotten;
 }
 
 static void tell_calls(u64 key, u32 thread, u64 open)
@@ -173,13 +230,41 @@ static void tell_calls(u64 key, u32 thread, u64 open)
 		side_line(now(), "calls %u %u %u made=%u served=%u", (u32)(key >> 32), (u32)key, thread, made, served);
 }
 
+static void tell_handles(const struct met_process *m, u32 word)
+{
+	for (u32 bit = 0; bit < 64; bit++)
+		if (m->handles[word] >> bit & 1)
+			side_line(now(), "handle %u %u %u", m->device, m->process, word * 64 + bit);
+}
+
+static void tell_forgotten(const struct met_process *m)
+{
+	side_line(now(), "handles %u %u why=%s", m->device, m->process, reason_word(REASON_TOO_MANY));
+}
+
 void met_tell_again(void)
 {
-	for (u64 i = 0; i < calls.size; i++)
-		if (calls.slots[i].used)
-			tell_calls(calls.slots[i].key, calls.slots[i].second, calls.slots[i].value);
-	for (u32 i = 0; i < met_count; i++)
-		for (u32 handle = 1; handle < met[i].words * 64; handle++)
-			if (met[i].handles[handle / 64] >> handle % 64 & 1)
-				side_line(now(), "handle %u %u %u", met[i].device, met[i].process, handle);
+	again = (struct again){ 0 };
+}
+
+int met_tell_on(void)
+{
+	for (; again.call < calls.size; again.call++) {
+		const struct table_slot *slot = calls.slots + again.call;
+		if (slice_is_over())
+			return 0;
+		if (slot->used)
+			tell_calls(slot->key, slot->second, slot->value);
+	}
+	for (; again.process < met_count; again.process++, again.word = 0) {
+		const struct met_process *m = met + again.process;
+		for (; again.word < m->words; again.word++) {
+			if (slice_is_over())
+				return 0;
+			tell_handles(m, again.word);
+		}
+		if (m->is_forgotten)
+			tell_forgotten(m);
+	}
+	return 1;
 }

@@ -5,13 +5,18 @@
 #include "common.h"
 #include "frame.h"
 
-/* From now on, remembers what is met. Without this the other functions do nothing. */
-void met_keep(void);
+/* From now on, remembers what is met, for files of at most so many bytes. Without this the other functions do
+ * nothing. */
+void met_keep(u64 most_bytes);
 /* Takes the records of a frame, of which `consumed` command bytes are written. */
 void met_frame(const struct frame *frame, u64 consumed);
 /* What ended has nothing open and holds nothing any more. */
 void met_thread_ended(struct who who);
 void met_process_ended(u32 device, u32 process);
-/* Writes a line for each thread with open calls, and one for each handle. */
+/* Whether all handles that the process has named are remembered. */
+int met_knows_handles(u32 device, u32 process);
+/* Begins to write a line for each thread with open calls, and one for each handle, */
 void met_tell_again(void);
+/* and writes the next slice of it. Returns 1 if all is written. */
+int met_tell_on(void);
 #endif

@@ -3,6 +3,7 @@
 #include "devices.h"
 #include "met.h"
 #include "side.h"
+#include "slice.h"
 #include "table.h"
 #include <stdio.h>
 #include <stdlib.h>
@@ -19,6 +20,7 @@ struct known_opening {
 	int known, numbered, closed;
 	u32 device, process;
 	u64 told;			/* when it was met, or numbered */
+	u32 list;			/* the last side list that tells of it */
 	u64 after;			/* if it is closed: the last number before that */
 	char name[NAME_BYTES];
 };
@@ -47,6 +49,10 @@ static struct table threads_of;		/* by opening and thread: the number in the cap
 static struct ending *endings;		/* only if they are asked for */
 static u32 ending_count, ending_room;
 static int keeps_endings;
+static struct again {			/* how far names_tell_on is in which side list, and from which frame on it tells */
+	u64 number;
+	u32 list, opening, thread, ending, endings_kept;
+} again = { .list = 1 };
 
 static struct known_opening *opening_of(u32 opening)
 {
@@ -72,8 +78,9 @@ static struct known_thread *thread_of(u32 thread)
 
 static void tell_met(u32 opening, u64 time)
 {
-	const struct known_opening *o = opening_of(opening);
+	struct known_opening *o = opening_of(opening);
 	char clean[CLEAN_NAME_BYTES];
+	o->list = again.list;
 	clean_name(clean, o->name, NAME_BYTES);
 	side_line(time, "met opening=%u pid=%u name=%s", opening, o->process_id, clean);
 }
@@ -144,8 +151,9 @@ static u32 free_number(struct table *used, u64 key, u32 wanted, int is_usable)
 
 static void tell_process(u32 opening, const char *met)
 {
-	const struct known_opening *o = opening_of(opening);
+	struct known_opening *o = opening_of(opening);
 	char clean[CLEAN_NAME_BYTES], space[64] = "";
+	o->list = again.list;
 	clean_name(clean, o->name, NAME_BYTES);
 	if (o->space)
 		snprintf(space, sizeof space, " pidns=%u nspid=%u", o->space, o->id_there);
@@ -286,8 +294,10 @@ static void tell_opening_again(u32 opening, u64 number)
 		o->known = o->numbered = 0;
 		command_forget(opening);
 	}
+	if (o->list == again.list)
+		return;
 	if (o->numbered)
-		tell_process(opening, "before-file");
+		tell_process(opening, met_knows_handles(o->device, o->process) ? "before-file" : "in-mid-life");
 	else if (o->known && o->met == MET_IN_MID_LIFE)
 		tell_met(opening, o->told);
 }
@@ -302,30 +312,44 @@ static void tell_threads_again(u32 thread)
 	}
 }
 
-/* Tells of threads that have ended while a frame may come from before that, and forgets the others. */
-static void tell_endings_again(u64 number)
+/* Tells of a thread that has ended while a frame may come from before that, and otherwise forgets it. */
+static void tell_ending_again(struct ending ending)
 {
-	u32 kept = 0;
-	for (u32 i = 0; i < ending_count; i++) {
-		const struct ending ending = endings[i];
-		const struct known_opening *o = opening_of(ending.opening);
-		if (ending.after < number) {
-			met_thread_ended((struct who){ o->device, o->process, ending.number });
-			continue;
-		}
-		tell_thread(ending.opening, ending.thread, ending.number, now());
-		endings[kept++] = ending;
+	const struct known_opening *o = opening_of(ending.opening);
+	if (ending.after < again.number) {
+		met_thread_ended((struct who){ o->device, o->process, ending.number });
+		return;
 	}
-	ending_count = kept;
+	tell_thread(ending.opening, ending.thread, ending.number, now());
+	endings[again.endings_kept++] = ending;
 }
 
 void names_tell_again(u64 number)
 {
+	again = (struct again){ .number = number, .list = again.list + 1 };
 	for (u32 device = 0; device < device_count; device++)
 		tell_device(device, now());
-	for (u32 opening = 0; opening < opening_room; opening++)
-		tell_opening_again(opening, number);
-	for (u32 thread = 0; thread < thread_room; thread++)
-		tell_threads_again(thread);
-	tell_endings_again(number);
+}
+
+/* An opening that comes meanwhile is told already, after the first lines. A thread may be told twice. One that ends
+ * meanwhile is among the endings, which come last. */
+int names_tell_on(void)
+{
+	for (; again.opening < opening_room; again.opening++) {
+		if (slice_is_over())
+			return 0;
+		tell_opening_again(again.opening, again.number);
+	}
+	for (; again.thread < thread_room; again.thread++) {
+		if (slice_is_over())
+			return 0;
+		tell_threads_again(again.thread);
+	}
+	for (; again.ending < ending_count; again.ending++) {
+		if (slice_is_over())
+			return 0;
+		tell_ending_again(endings[again.ending]);
+	}
+	again.ending = ending_count = again.endings_kept;
+	return 1;
 }

@@ -29,8 +29,10 @@ void names_ended(u32 thread, u32 process, int is_last, u64 time, u64 after);
 void names_changed(u32 thread, const char *name, u64 time, u64 after);
 /* From now on, remembers what has ended until names_tell_again. */
 void names_keep_endings(void);
-/* Writes again what the numbers mean that may be in frames from this number on. */
+/* Begins to write again what the numbers mean that may be in frames from this number on, */
 void names_tell_again(u64 number);
+/* and writes the next slice of it. Returns 1 if all is written. */
+int names_tell_on(void);
 /* A line about something that came after a number. It is written as soon as that number is settled. */
 void later_line(u64 time, u64 after, const char *format, ...) __attribute__((format(printf, 3, 4)));
 #endif

@@ -14,14 +14,18 @@
 static struct file part;
 static const char *prefix;
 static u64 most_bytes, bytes_before;
-static u64 *sizes;		/* of the closed files; at the end also of the last one */
+static u64 *sizes;		/* by number, of the closed files; at the end also of the last one; 0: no file of ours */
 static u32 count, first = 1;	/* the files from number `first` to number `count` are kept */
+static u32 made, removed;	/* how many there were, and how many are not kept */
 static u32 most_files;		/* 0: all are kept, and have one side list */
+static int is_begun = 1;	/* the first lines of the side list are there */
+static u64 first_bytes;		/* so many bytes they have */
 static int first_error, side_failed;	/* side_failed: that was an error of the side list */
 static u64 frames_added, last_added, frames_whole, last_whole;
 
 #define FLUSH_BYTES 65536u
 #define LONGEST_PATH 4096u
+#define MOST_PASSED 65536u	/* numbers whose names others have taken, before a file */
 
 /* Whether the path is the prefix, a dash, digits and .cap or .side. */
 static int is_part(const char *path)
@@ -64,19 +68,48 @@ const char *parts_in_the_way(const char *out)
 	return lstat(side, &status) ? NULL : side;	/* not opened: that would wait for the other end of a FIFO */
 }
 
-static int create_next(void)
+static void add_number(u64 size)
+{
+	sizes = resize(sizes, (count + 1) * sizeof *sizes);
+	sizes[count++] = size;
+}
+
+/* Creates the file of the next number, and with --files its side list. Returns 0, or an errno. */
+static int create(void)
 {
 	static const u8 head[FILE_HEAD] = { 'B', 'N', 'D', 'R', 'C', 'A', 'P', '2', 8 };
 	char path[4200];
-	snprintf(path, sizeof path, "%s-%u.cap", prefix, count + 1);
-	int error = file_create(&part, path);
+	int error = most_files ? side_create(prefix, count + 1) : 0;
+	side_failed = error != 0;
 	if (error)
 		return error;
-	count++;
-	sizes = resize(sizes, count * sizeof *sizes);
-	sizes[count - 1] = FILE_HEAD;
+	snprintf(path, sizeof path, "%s-%u.cap", prefix, count + 1);
+	error = file_create(&part, path);
+	if (error && most_files)
+		side_remove();
+	if (error)
+		return error;
+	add_number(FILE_HEAD);
+	made++;
 	file_add(&part, head, sizeof head);
 	return file_flush(&part);
+}
+
+/* Creates the next file. Others may make names in the same folder meanwhile, and no file of theirs is replaced: a number
+ * of which a name is there is passed over. */
+static int create_next(void)
+{
+	char taken[4200] = "";
+	u32 most = count + MOST_PASSED;
+	int error;
+	while ((error = create()) == EEXIST && count < most) {
+		if (!taken[0])
+			snprintf(taken, sizeof taken, "%s", parts_path());
+		add_number(0);
+	}
+	if (!error && taken[0])
+		complain("%s exists already, and is not overwritten: the next file is %s", taken, part.path);
+	return error;
 }
 
 int parts_begin(const char *out, u64 most, u32 files)
@@ -84,12 +117,16 @@ int parts_begin(const char *out, u64 most, u32 files)
 	prefix = out;
 	most_bytes = most;
 	most_files = files;
-	int error = side_create(out, files ? 1 : 0);
-	side_line(now(), "file 1");
-	if (!error)
-		error = side_flush();
+	int error = files ? 0 : side_create(out, 0);
 	side_failed = error != 0;
-	return error ? error : create_next();
+	if (!error)
+		error = create();
+	side_line(now(), "file 1");
+	if (error)
+		return error;
+	error = side_flush();
+	side_failed = error != 0;
+	return error;
 }
 
 void parts_remove(void)
@@ -146,57 +183,85 @@ static int remove_part(u32 number, const char *ending)
 /* Makes room for one more file, of --files, by removing the oldest one and its side list. */
 static int remove_oldest(void)
 {
-	if (count - first + 1 < most_files)
+	if (parts_kept() < most_files)
 		return 0;
+	while (!sizes[first - 1])
+		first++;
 	int error = remove_part(first, "cap");
 	int side_error = remove_part(first, "side");
 	bytes_before -= sizes[first - 1];
 	first++;
+	removed++;
 	return error ? error : side_error;
 }
 
-/* Begins the side list of the next file, which begins with the frame of this number. */
-static int begin_side(u64 number)
+/* Closes the side list of --files. The next one is for the next file. */
+static int end_side(void)
 {
 	int error = remove_oldest();
-	if (!error)
-		error = side_close();
-	if (!error)
-		error = side_create(prefix, count + 1);
-	if (!error)
-		begin_tell_again(number);
+	if (error)
+		return error;
+	error = side_close();
+	side_failed = error != 0;
 	return error;
 }
 
-static void begin_next(u64 number, u64 time)
+static void flush_side(void)
 {
-	close_part();
-	if (first_error)
-		return;
-	if (most_files)
-		first_error = begin_side(number);
-	side_line(time, "file %u", count + 1);
 	if (!first_error)
 		first_error = side_flush();
 	side_failed = first_error != 0;
+}
+
+/* Begins the next file, with the frame of this number. */
+static void begin_next(u64 number, u64 time)
+{
+	close_part();
+	if (!first_error && most_files)
+		first_error = end_side();
 	if (!first_error)
 		first_error = create_next();
+	if (first_error)
+		return;
+	first_bytes = 0;
+	if (most_files)
+		begin_tell_again(number);
+	is_begun = !most_files;
+	side_line(time, "file %u", count);
+	if (is_begun)
+		flush_side();
+}
+
+/* Writes some more of the first lines of the side list, and at last what came meanwhile. They do not count for its size:
+ * how many there are depends on what all processes do, and each file must have room for frames. */
+static void go_on(void)
+{
+	is_begun = begin_tell_on();
+	if (is_begun) {
+		side_let_go();
+		first_bytes = side_bytes();
+	}
+	flush_side();
 }
 
 /* Whether the file, or with --files its side list, is as long as it may be. */
 static int is_full(u64 bytes)
 {
-	return part.bytes + bytes > most_bytes || (most_files && side_bytes() > most_bytes);
+	return part.bytes + bytes > most_bytes || (most_files && side_bytes() - first_bytes > most_bytes);
 }
 
 int parts_next_frame(u64 number, u64 time, u64 bytes)
 {
-	if (is_full(bytes) && !first_error)
+	if (is_begun && is_full(bytes) && !first_error)
 		begin_next(number, time);
 	else if (part.waiting_bytes >= FLUSH_BYTES)
 		parts_flush();
+	if (!is_begun && !first_error)
+		go_on();
 	if (first_error)
 		return first_error;
+	if (!is_begun)
+		return PARTS_LATER;
 	frames_added++;
 	last_added = number;
 	return 0;
@@ -237,12 +302,12 @@ u64 parts_bytes(void)
 
 u32 parts_count(void)
 {
-	return count;
+	return made;
 }
 
 u32 parts_kept(void)
 {
-	return count - first + 1;
+	return made - removed;
 }
 
 /* Quotes the word for a shell. */
@@ -263,17 +328,32 @@ static void quote(char *to, u64 room, const char *word)
 	strcpy(to, "'");
 }
 
-static u64 add_command(char *text, u64 room, const char *audit, u32 from, u32 to)
+/* Adds the names of files whose numbers follow each other. */
+static u64 add_names(char *text, u64 room, u32 from, u32 to)
 {
-	static char program[4 * LONGEST_PATH], out[4 * LONGEST_PATH];
+	static char out[4 * LONGEST_PATH];
 	int length;
-	quote(program, sizeof program, audit);
 	quote(out, sizeof out, prefix);
 	if (from == to)
-		length = snprintf(text, room, "%s report %s-%u.cap", program, out, from);
+		length = snprintf(text, room, " %s-%u.cap", out, from);
 	else
-		length = snprintf(text, room, "%s report %s-{%u..%u}.cap", program, out, from, to);
+		length = snprintf(text, room, " %s-{%u..%u}.cap", out, from, to);
 	return (u64)length < room ? (u64)length : room - 1;
+}
+
+static u64 add_command(char *text, u64 room, const char *audit, u32 from, u32 to)
+{
+	static char program[4 * LONGEST_PATH];
+	quote(program, sizeof program, audit);
+	int length = snprintf(text, room, "%s report", program);
+	u64 used = (u64)length < room ? (u64)length : room - 1;
+	for (u32 number = from, next; number <= to; number = next + 1) {
+		for (next = number; next <= to && sizes[next - 1]; next++)
+			continue;
+		if (next > number)
+			used += add_names(text + used, room - used, number, next - 1);
+	}
+	return used;
 }
 
 void parts_commands(const char *audit, char *text, u64 room)
@@ -281,11 +361,15 @@ void parts_commands(const char *audit, char *text, u64 room)
 	u64 used = 0;
 	for (u32 from = first - 1, to; from < count; from = to) {
 		u64 together = sizes[from];
-		for (to = from + 1; to < count && to - from < MOST_FILES_TOGETHER; to++) {
+		u32 files = sizes[from] != 0;
+		for (to = from + 1; to < count && files < MOST_FILES_TOGETHER; to++) {
 			if (together + sizes[to] > MOST_TOGETHER)
 				break;
 			together += sizes[to];
+			files += sizes[to] != 0;
 		}
+		if (!files)
+			continue;
 		if (used && room - used < room / 4) {
 			snprintf(text + used, room - used, "; and so on");
 			return;

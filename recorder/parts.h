@@ -7,6 +7,7 @@
 #define MOST_TOGETHER 1073741824u	/* the most bytes that the auditor takes as one capture, */
 #define MOST_FILES_TOGETHER 256u	/* and the most files */
 #define FILE_HEAD 16u
+#define PARTS_LATER (-1)		/* the next file is not begun yet */
 
 /* Returns the path of a file that exists already, or NULL. */
 const char *parts_in_the_way(const char *out);
@@ -16,8 +17,9 @@ int parts_begin(const char *out, u64 most_bytes, u32 most_files);
 void parts_remove(void);
 /* Whether a frame of this many bytes fits into a file of the largest size. */
 int parts_have_room(u64 bytes);
-/* Makes room for a frame of this many bytes, in the next file if this one is full. Returns 0, or the errno of the first
- * failure; then the frame is not written. */
+/* Makes room for a frame of this many bytes, in the next file if this one is full. Returns 0; or the errno of the first
+ * failure; then the frame is not written. Or PARTS_LATER: the side list of the next file has many first lines, and the
+ * ring must not get full meanwhile. Then the call is due once more, for the same frame. */
 int parts_next_frame(u64 number, u64 time, u64 bytes);
 void parts_add(const void *bytes, u64 count);
 /* Hands to the system what was added, the side list first, so that each frame of the capture has its lines there.
@@ -29,7 +31,7 @@ const char *parts_path(void);
 /* How many frames are in the files for certain, and the number of the last one. */
 u64 parts_frames(void);
 u64 parts_last(void);
-/* How many bytes are in the files that are kept, how many files there were, and how many are kept. */
+/* How many bytes are in the files that are kept, how many files were made, and how many are kept. */
 u64 parts_bytes(void);
 u32 parts_count(void);
 u32 parts_kept(void);

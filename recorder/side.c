@@ -2,9 +2,13 @@
 #include "file.h"
 #include <stdarg.h>
 #include <stdio.h>
+#include <stdlib.h>
 #include <string.h>
 
 static struct file side;
+static int waits;
+static char *waiting;			/* what waits, without a NUL at its end */
+static u64 waiting_bytes, waiting_room;
 
 static const char *const reasons[REASON_END] = {
 	[REASON_NONE] = "none",
@@ -59,9 +63,42 @@ void side_remove(void)
 	file_remove(&side);
 }
 
+static void add_waiting(const char *text, u64 bytes)
+{
+	if (waiting_bytes + bytes > waiting_room) {
+		waiting_room = (waiting_bytes + bytes) * 2;
+		waiting = resize(waiting, waiting_room);
+	}
+	memcpy(waiting + waiting_bytes, text, bytes);
+	waiting_bytes += bytes;
+}
+
 void side_text(const char *text)
 {
-	file_add(&side, text, strlen(text));
+	if (waits)
+		add_waiting(text, strlen(text));
+	else
+		file_add(&side, text, strlen(text));
+}
+
+void side_wait(void)
+{
+	waits = 1;
+}
+
+void side_go_on(void)
+{
+	waits = 0;
+}
+
+void side_let_go(void)
+{
+	waits = 0;
+	if (waiting_bytes)
+		file_add(&side, waiting, waiting_bytes);
+	free(waiting);
+	waiting = NULL;
+	waiting_bytes = waiting_room = 0;
 }
 
 void side_line(u64 time, const char *format, ...)

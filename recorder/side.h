@@ -15,6 +15,11 @@ void side_remove(void);
 void side_line(u64 time, const char *format, ...) __attribute__((format(printf, 2, 3)));
 /* Adds text: whole lines, as they are. */
 void side_text(const char *text);
+/* From now on what is added waits, until it is let go: other lines come before it. */
+void side_wait(void);
+/* From now on what is added does not wait. What waits already, still does. */
+void side_go_on(void);
+void side_let_go(void);
 /* Hands to the system what was added. Returns 0, or an errno; after that nothing more is written. */
 int side_flush(void);
 /* The word for a reason. */

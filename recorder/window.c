@@ -108,11 +108,13 @@ static void write_lost(const struct slot *slot)
 	lost_because[slot->reason]++;
 }
 
-/* Writes the contents of the slot of `next`. */
-static void settle_slot(struct slot *slot)
+/* Writes the contents of the slot of `next`. Returns 0 if they wait for the next file. */
+static int settle_slot(struct slot *slot)
 {
 	if (slot->state == WHOLE) {
 		enum reason reason = frame_write(slot->frame, slot->consumed);
+		if (reason == REASON_LATER)
+			return 0;
 		if (reason)
 			lose_slot(slot, reason);
 		else
@@ -130,12 +132,13 @@ static void settle_slot(struct slot *slot)
 		memory -= slot->frame->memory;
 	frame_free(slot->frame);
 	*slot = (struct slot){ 0 };
+	return 1;
 }
 
 int window_settle(void)
 {
 	u64 began = now();
-	for (u64 first = next; next < end; next++) {
+	for (u64 first = next; next < end;) {
 		struct slot *slot = at(next);
 		if (slot->state == WAITING && (slot->since + LONGEST_WAIT < began || memory > MOST_MEMORY))
 			lose_slot(slot, REASON_HELD_TOO_LONG);
@@ -143,7 +146,10 @@ int window_settle(void)
 			return 0;
 		if (next > first && memory <= MOST_MEMORY && now() - began > LONGEST_SETTLE)
 			return 1;
-		settle_slot(slot);
+		if (settle_slot(slot))
+			next++;
+		else if (memory <= MOST_MEMORY)
+			return 1;
 	}
 	return 0;
 }

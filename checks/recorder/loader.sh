@@ -5,7 +5,9 @@
 # list. And if most frames of a flight recorder are written only when it ends, that the last side list tells of the
 # driver's books of the end, and each one of what was missed meanwhile, since older side lists are removed then. And that
 # a recording ends at one moment: what has its number by then is written later, and what comes later is in no line. And
-# that the side list says what the clocks show after a sleep, at once and in each later list, and at the end.
+# that the side list says what the clocks show after a sleep, at once and in each later list, and at the end. And that
+# no process can take the files of a flight recorder for what it names and opens: each file has its frames, be the first
+# lines of its side list ever so many.
 #
 #     checks/run loader
 #
@@ -58,6 +60,8 @@ sleeps() { # DUE SIDE
 failed=0
 "$here/build.sh" loader "$room"
 "$room/loader" "$room/out" || failed=1
+"$here/build.sh" hostile "$room"
+"$room/hostile" "$room/hostile" || failed=1
 
 "$here/build.sh" flight "$room" -Wl,--wrap=open,--wrap=clock_gettime
 ends='pid,end state,end transactions,end stats,recording'

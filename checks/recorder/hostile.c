@@ -1,0 +1,193 @@
+/* hostile OUT: a flight recorder's loader among processes that name handles which they do not have, and hold many
+ * openings. Each file must have room for frames, whatever its side list begins with. See loader. */
+#include "begin.h"
+#include "kit.h"
+#include "met.h"
+#include "names.h"
+#include "parts.h"
+#include "redact.h"
+#include "side.h"
+#include "slice.h"
+#include "window.h"
+#include <linux/android/binder.h>
+#include <stdio.h>
+#include <stdlib.h>
+#include <string.h>
+
+enum {
+	SIZE = 1 << 20,			/* the most bytes of a file */
+	FILES = 3,
+	HOST = 1, LIAR, CROWD,		/* openings, each of a thread of its own; from CROWD on are others */
+	NAMED = 40000,			/* handles that the liar names */
+	TOLD = 100,			/* handles of the host */
+	LIARS = 64,			/* processes that name fewer each, and more in all than may be told */
+	NAMED_EACH = 1000,
+	MOST_TOLD = SIZE / 64,		/* handles in a side list */
+	OPENINGS = 65536,		/* from before the recording */
+	RETURNS = 2000,			/* codes of a read of the host */
+	SLICE = 1000,			/* steps of the work that is done in slices */
+};
+
+static u64 last;			/* the number that was taken last */
+static u32 steps;			/* of this slice */
+static char *list;			/* the newest side list */
+
+/* In place of those of the loader, which look at the clock. */
+void slice_begin(void) { steps = 0; }
+int slice_is_over(void) { return ++steps > SLICE; }
+
+static void hear_frame(u32 direction, u32 opening, const void *commands, u32 bytes)
+{
+	struct chunk *chunk = allocate(sizeof *chunk + bytes);
+	*chunk = (struct chunk){ .head = head_of(MESSAGE_CHUNK, direction, ++last, opening), .commands = bytes,
+				 .next = direction == DIRECTION_WRITE ? bytes : 0 };
+	chunk->head.opening = opening;
+	memcpy(chunk + 1, commands, bytes);
+	window_hear(chunk, sizeof *chunk + bytes);
+	free(chunk);
+	struct event event = { .head = head_of(MESSAGE_WRITTEN, direction, last, opening), .written = { bytes } };
+	if (direction == DIRECTION_WRITE)
+		window_hear(&event, sizeof event);
+}
+
+/* Writes what can be written. Returns how often the ring would have been looked at meanwhile. */
+static int settle(void)
+{
+	int looks = 0;
+	while (window_settle())
+		looks++;
+	return looks;
+}
+
+static void hear_handles(u32 opening, u32 first, u32 count)
+{
+	struct { u32 code, handle; } *commands = allocate(count * sizeof *commands);
+	for (u32 i = 0; i < count; i++) {
+		commands[i].code = BC_INCREFS;
+		commands[i].handle = first + i;
+	}
+	hear_frame(DIRECTION_WRITE, opening, commands, count * (u32)sizeof *commands);
+	free(commands);
+}
+
+static void name_handles(u32 opening, u32 first, u32 count)
+{
+	hear_handles(opening, first, count);
+	settle();
+}
+
+static void hear_return(void)
+{
+	static u32 codes[RETURNS];
+	for (u32 i = 0; i < RETURNS; i++)
+		codes[i] = BR_NOOP;
+	hear_frame(DIRECTION_READ, HOST, codes, sizeof codes);
+}
+
+static void read_list(void)
+{
+	u64 bytes;
+	parts_flush();
+	free(list);
+	list = whole_file(side_path(), &bytes);
+}
+
+/* The host reads on until the next file is begun, and its side list has its first lines. */
+static void fill_file(void)
+{
+	for (u32 before = parts_count(); parts_count() == before; settle())
+		hear_return();
+	read_list();
+}
+
+static int times(const char *text)
+{
+	int found = 0;
+	for (const char *at = list; (at = strstr(at, text)); at++)
+		found++;
+	return found;
+}
+
+static void open_process(u32 opening, enum met met)
+{
+	static const char name[NAME_BYTES] = "caller";
+	names_opening(opening, now(), 0, 1000 + opening, 1, name, met);
+	names_thread(opening, 1000 + opening, 1000 + opening, 1, name);
+}
+
+/* Each file but the newest one has as many frames as one without any first lines. */
+static void should_fill(const char *what)
+{
+	u32 files = parts_count();
+	u64 before = last;
+	fill_file();
+	u64 frames = last - before, due = SIZE / (RETURNS * sizeof(u32) + 32);
+	should(parts_count() == files + 1 && frames + 2 > due && frames < due + 2, what, (double)frames);
+}
+
+static void a_liar(void)
+{
+	name_handles(HOST, 1, TOLD);
+	name_handles(LIAR, 1, NAMED);
+	fill_file();
+	should(times(" handle 0 1001 ") == TOLD && times(" handle 0 1002 ") == 0, "handles that are told",
+	       times(" handle "));
+	should(times(" handles 0 1002 why=too-many\n") == 1 && times(" handles ") == 1,
+	       "processes whose handles are not told", times(" handles "));
+	should(times("process 0 1001 pid=1001 start=1 opening=1 met=before-file ") == 1, "a process with handles", 0);
+	should(times("process 0 1002 pid=1002 start=1 opening=2 met=in-mid-life ") == 1, "a process without handles", 0);
+	should_fill("frames of a file beside a process that names many handles");
+}
+
+static void many_liars(void)
+{
+	for (u32 i = 0; i < LIARS; i++)
+		open_process(CROWD + i, MET_FROM_START);
+	for (u32 i = 0; i < LIARS; i++)
+		name_handles(CROWD + i, 1 + i, NAMED_EACH);
+	fill_file();
+	should(times(" handle ") <= MOST_TOLD, "handles of all processes", times(" handle "));
+	should(times(" handle 0 1001 ") == TOLD, "handles of a process that has few", times(" handle 0 1001 "));
+	should(times(" handles ") + times(" met=before-file ") == LIARS + 2, "processes whose handles are not told",
+	       times(" handles "));
+	should_fill("frames of a file beside many processes that name handles");
+}
+
+/* While the first lines are written, the ring is looked at. Who comes then is told after them: whoever reads several lists
+ * takes the first lines of the first list alone. */
+static void many_openings(void)
+{
+	u32 late = CROWD + LIARS + OPENINGS;
+	char line[64];
+	for (u32 i = 0; i < OPENINGS; i++)
+		open_process(CROWD + LIARS + i, MET_IN_MID_LIFE);
+	for (u32 before = parts_count(); parts_count() == before; window_settle())
+		hear_return();
+	open_process(late, MET_FROM_START);
+	hear_handles(late, 1, 1);
+	int looks = settle();
+	should(looks > OPENINGS / SLICE && looks < 4 * OPENINGS / SLICE, "looks at the ring during the first lines", looks);
+	read_list();
+	snprintf(line, sizeof line, "process 0 %u ", 1000 + late);
+	char *came = strstr(list, line), *file = strstr(list, " file ");
+	should(times(" met opening=") == OPENINGS, "openings that are told", times(" met opening="));
+	should(times(line) == 1 && came > file, "who comes during the first lines", times(line));
+	should_fill("frames of a file beside many openings");
+}
+
+int main(int count, char **words)
+{
+	if (count != 2 || parts_begin(words[1], SIZE, FILES))
+		fail("usage: hostile OUT");
+	redact_begin(0);
+	names_keep_endings();
+	met_keep(SIZE);
+	open_process(HOST, MET_FROM_START);
+	open_process(LIAR, MET_FROM_START);
+	a_liar();
+	many_liars();
+	many_openings();
+	if (parts_end())
+		fail("the files can't be written");
+	return failed;
+}
