@@ -15,7 +15,8 @@
 #define MOST_BYTES (64u << 20)		/* of a copy; what is longer is not kept */
 #define PIECE 65536u
 
-static const char *const whens[] = { "begin", "end" };
+enum { BEGIN, END };
+static const char *const whens[] = { [BEGIN] = "begin", [END] = "end" };
 static const char *const names[] = { "state", "transactions", "stats" };	/* the first one is what matters */
 #define WHENS (sizeof whens / sizeof *whens)
 #define NAMES (sizeof names / sizeof *names)
@@ -26,6 +27,7 @@ struct copy {
 	u64 time, from, after, bytes;
 };
 
+static struct file ends[NAMES] = { { .descriptor = -1 }, { .descriptor = -1 }, { .descriptor = -1 } };
 static struct copy untold[NAMES];	/* of which the side list does not tell yet */
 static size_t untold_count;
 
@@ -93,22 +95,40 @@ static int read_book(int book, struct file *to, u64 *after)
 	return count < 0 ? errno : 0;
 }
 
-/* Copies one of the books. Of two drivers that of the one in C comes first in the file. */
-static void copy_book(const char *out, const char *when, const char *name)
+/* Opens the book of each driver. Returns whether there is one. */
+static int open_books(const char *name, int *books)
 {
-	char path[LONGEST_PATH];
-	struct file to;
-	struct copy copy = { .when = when, .name = name, .time = now(), .from = kernel_last_number() };
-	int books[DRIVERS], has_some = 0;
+	int has_some = 0;
 	for (enum driver driver = 0; driver < DRIVERS; driver++) {
 		books[driver] = open_book(driver, name);
 		has_some |= books[driver] >= 0;
 	}
-	if (!has_some)
+	return has_some;
+}
+
+/* The file of a copy: that of the end is there already, unless somebody else had its name. Returns 0, or an errno. */
+static int create_copy(struct file *to, const char *out, size_t when, size_t name)
+{
+	char path[LONGEST_PATH];
+	if (when == END && ends[name].descriptor >= 0) {
+		*to = ends[name];
+		ends[name].descriptor = -1;
+		return 0;
+	}
+	path_of(path, out, whens[when], names[name]);
+	return file_create(to, path);
+}
+
+/* Copies one of the books. Of two drivers that of the one in C comes first in the file. */
+static void copy_book(const char *out, size_t when, size_t name)
+{
+	struct file to;
+	struct copy copy = { .when = whens[when], .name = names[name], .time = now(), .from = kernel_last_number() };
+	int books[DRIVERS];
+	if (!open_books(names[name], books))
 		return;
 	copy.after = copy.from;
-	path_of(path, out, when, name);
-	int error = file_create(&to, path);
+	int error = create_copy(&to, out, when, name);
 	for (enum driver driver = 0; driver < DRIVERS; driver++)
 		if (books[driver] >= 0) {
 			error = error ? error : read_book(books[driver], &to, &copy.after);
@@ -122,7 +142,7 @@ static void copy_book(const char *out, const char *when, const char *name)
 	int end_error = file_close(&to);
 	error = error ? error : end_error;
 	if (error)
-		complain("%s: %s; the driver's books are not copied", path, strerror(error));
+		complain("%s: %s; the driver's books are not copied", to.path, strerror(error));
 	else
 		untold[untold_count++] = copy;
 }
@@ -130,7 +150,23 @@ static void copy_book(const char *out, const char *when, const char *name)
 void books_copy(const char *out, const char *when)
 {
 	for (size_t i = 0; i < NAMES; i++)
-		copy_book(out, when, names[i]);
+		copy_book(out, !strcmp(when, whens[END]) ? END : BEGIN, i);
+	if (!strcmp(when, whens[END]))
+		books_drop_names();
+}
+
+void books_keep_names(const char *out)
+{
+	struct file made;
+	for (size_t i = 0; i < NAMES; i++)
+		if (!create_copy(&made, out, END, i))
+			ends[i] = made;
+}
+
+void books_drop_names(void)
+{
+	for (size_t i = 0; i < NAMES; i++)
+		file_remove(&ends[i]);
 }
 
 void books_tell(void)

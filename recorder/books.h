@@ -8,6 +8,10 @@
 const char *books_in_the_way(const char *out);
 /* Copies the books. `when` is "begin" or "end". What can't be read is left out. */
 void books_copy(const char *out, const char *when);
+/* Creates the copies of the end, empty: nobody else can take their names until then. */
+void books_keep_names(const char *out);
+/* Removes them again, if they were not made. */
+void books_drop_names(void);
 /* Says in the side list which copies were made since the last call. At the end it is called when all frames are
  * written: with --files, one more file may be begun before that, and an older side list is removed. */
 void books_tell(void);

@@ -308,6 +308,7 @@ static void begin(const struct options *options, FILE *for_ready)
 	kernel_start();
 	begin_tell(options->no_attachments ? "none" : options->redact ? "redacted" : "whole");
 	books_copy(options->out, "begin");
+	books_keep_names(options->out);
 	books_tell();
 	side_flush();
 	program_go();
@@ -331,7 +332,9 @@ int main(int count, char **words)
 	load(&options, &ring);
 	begin(&options, for_ready);
 	int error = record(&ring);
-	if (!error)
+	if (error)
+		books_drop_names();
+	else
 		books_copy(options.out, "end");
 	finish(&ring);
 	redact_end();

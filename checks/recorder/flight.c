@@ -1,5 +1,5 @@
 /* flight WORD..: the recorder on these words, with a driver that is made up, which ends the recording by a signal,
- * unless GOES_ON is in the environment. It is through with its only write after that: so nearly all frames are written
+ * unless GOES_ON is in the environment. PLANTED there names files that somebody else makes meanwhile. It is through with its only write after that: so nearly all frames are written
  * after its books were copied. And it does more then, which is not in the recording. See loader. */
 #define _GNU_SOURCE
 #include "drivers.h"
@@ -12,6 +12,7 @@
 #include <linux/android/binder.h>
 #include <signal.h>
 #include <stdarg.h>
+#include <stdio.h>
 #include <stdlib.h>
 #include <string.h>
 #include <sys/mman.h>
@@ -67,6 +68,17 @@ static void hear_last(void (*hear)(const void *, u64))
 	hear_end(hear, 2003);
 }
 
+/* Somebody else makes the files that PLANTED in the environment names, with spaces between, if they are not there. */
+static void plant(void)
+{
+	char *names = getenv("PLANTED");
+	for (char *name = names ? strtok(names, " ") : NULL; name; name = strtok(NULL, " ")) {
+		FILE *file = fopen(name, "wx");
+		if (file && (fputs("planted", file) < 0 || fclose(file)))
+			fail("%s can't be planted", name);
+	}
+}
+
 /* Two reads come, and something is missed that no later frame lacks. Then the write comes, and the reads that wait for
  * it; what is missed then is told long before they are written. */
 long ring_drain(struct ring *ring, void (*hear)(const void *message, u64 bytes))
@@ -74,6 +86,8 @@ long ring_drain(struct ring *ring, void (*hear)(const void *message, u64 bytes))
 	u64 before = last;
 	(void)ring;
 	looks++;
+	if (looks == 1)
+		plant();
 	if (looks <= 2) {
 		hear_codes(hear, DIRECTION_READ, BR_NOOP, RETURNS);
 		missed += looks == 1;

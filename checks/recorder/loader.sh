@@ -7,7 +7,7 @@
 # a recording ends at one moment: what has its number by then is written later, and what comes later is in no line. And
 # that the side list says what the clocks show after a sleep, at once and in each later list, and at the end. And that
 # no process can take the files of a flight recorder for what it names and opens: each file has its frames, be the first
-# lines of its side list ever so many.
+# lines of its side list ever so many. And that names which somebody else makes in the same folder end no recording.
 #
 #     checks/run loader
 #
@@ -81,4 +81,23 @@ told=$(for list in "${lists[@]}"; do sed -n '/ file [0-9]*$/,$d; / missed /p' "$
 if [[ ! $told =~ ^\ *2\ [0-9]+\ missed\ 3\ what=events\ from=2\ after=103$ ]]; then
   printf 'checks/loader: before their files two side lists say that this was missed: %s\n' "$told" && failed=1
 fi
+
+# The names that somebody makes meanwhile are OUT-2.cap, OUT-3.side and OUT.end.state. The last one has its name from
+# the beginning on.
+planted() { # OUT DUE WORD..: the recorder with these words, whose standard error must be of this form
+  local told
+  PLANTED="$1-2.cap $1-3.side $1.end.state" "$room/flight" -o "$1" --size 65536 "${@:3}" 2>"$room/told"
+  told=$(sed "s|$room/||g; s|next: [^ ]*|next:|" "$room/told")
+  if [[ ! $told =~ ^$2$ ]]; then
+    printf 'checks/loader: with names that others have made, the recorder says: %s\n' "$told" && failed=1
+  fi
+  if [[ $(cat -- "$1-2.cap" "$1-3.side") != plantedplanted ]]; then
+    printf 'checks/loader: %s: a file of somebody else was changed\n' "${1##*/}" && failed=1
+  fi
+}
+passed='record: OUT-2.cap exists already, and is not overwritten: the next file is OUT-'
+planted "$room/all" "${passed//OUT/all}3.cap"$'\n''record: 103 frames,.* next: report all-1.cap all-\{3..8\}.cap'
+tells "$room/all" "begin state,begin transactions,begin stats,$ends" "$room/all.side"
+planted "$room/few" "${passed//OUT/few}4.cap"$'\n''record: 103 frames,.* 2 files,.* next: report few-\{8..9\}.cap' --files 2
+tells "$room/few" "$ends" "$room"/few-[89].side
 exit "$failed"
