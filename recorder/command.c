@@ -1,3 +1,4 @@
+#define _GNU_SOURCE
 #include "command.h"
 #include "side.h"
 #include <stdio.h>
@@ -30,28 +31,50 @@ static struct kept *kept_of(u32 opening)
 	return kept + opening;
 }
 
-/* The bytes that are kept: without the NULs at the end. */
-static u32 bytes_of(const struct command *command)
+/* The part of a command line that is kept. */
+struct part {
+	const char *text;
+	u32 bytes;
+};
+
+/* What may be secret is left out: all words but the first one, its folders, and of a title that a program wrote over its
+ * command line what comes after a space. Of a path the slash stays before the name of the program. What has a slash and
+ * a space may be a folder's name up to the space, and what is cut may end with one: nothing of it is kept. */
+static struct part name_of_program(const char *text, u32 bytes)
+{
+	u32 word = (u32)strnlen(text, bytes), name = 0;
+	const char *slash = memrchr(text, '/', word);
+	int is_cut = word == COMMAND_BYTES;
+	while (name < word && (unsigned char)text[name] > ' ')
+		name++;
+	if (!slash)
+		return (struct part){ text, name };
+	if (name < word || is_cut)
+		return (struct part){ text, 0 };
+	return (struct part){ slash, (u32)(text + word - slash) };
+}
+
+static struct part part_of(const struct command *command)
 {
 	u32 bytes = command->bytes < COMMAND_BYTES ? command->bytes : COMMAND_BYTES;
 	if (is_redacted)
-		return (u32)strnlen(command->text, bytes);
+		return name_of_program(command->text, bytes);
 	while (bytes && !command->text[bytes - 1])
 		bytes--;
-	return bytes;
+	return (struct part){ command->text, bytes };
 }
 
 int command_keep(const struct command *command)
 {
 	struct kept *k = kept_of(command->head.opening);
-	u32 bytes = bytes_of(command);
-	if (k->text && k->user == command->user && k->bytes == bytes && !memcmp(k->text, command->text, bytes))
+	struct part part = part_of(command);
+	if (k->text && k->user == command->user && k->bytes == part.bytes && !memcmp(k->text, part.text, part.bytes))
 		return 0;
 	k->after = command->head.number;
 	k->user = command->user;
-	k->bytes = bytes;
-	k->text = resize(k->text, bytes);
-	memcpy(k->text, command->text, bytes);
+	k->bytes = part.bytes;
+	k->text = resize(k->text, part.bytes);
+	memcpy(k->text, part.text, part.bytes);
 	return 1;
 }
 

@@ -4,7 +4,7 @@
 #include "common.h"
 #include "messages.h"
 
-/* From now on, keeps only the first word of a command line: the others may be secret. */
+/* From now on, keeps of a command line only what the program is called: the rest may be secret. */
 void command_redact(void);
 /* Keeps the command line of an opening. Returns 1 if it is another one than before. */
 int command_keep(const struct command *command);

@@ -30,7 +30,7 @@ static const char help[] =
 	"--pid PID          records only the openings of this process; may be given several times\n"
 	"--device NAME      records only this device, for example binder or /dev/binder; may be given several times\n"
 	"--redact           replaces what is secret in the data of transactions and replies by bytes that tell nothing of it,\n"
-	"                   and keeps only the first word of command lines\n"
+	"                   and keeps of command lines only what programs are called, without folders\n"
 	"--no-attachments   leaves out the data of transactions and replies\n"
 	"--stacks           also records the stacks of calls that write, as far as programs keep frame pointers\n"
 	"--ring BYTES       the size of the buffer between kernel and recorder, a power of two; by default 67108864\n"

@@ -152,8 +152,49 @@ static int has_line(const char *line)
 	return found;
 }
 
-/* The longest command line, of bytes that are written as four each; one that is said to be longer; one that comes when
- * the opening has its number, and again; and what is kept of it if payloads are redacted. */
+/* Whether the side list ends with this. */
+static int is_last_line(const char *line)
+{
+	u64 bytes, length = strlen(line);
+	char *text = whole_file(side_path(), &bytes);
+	int is_last = bytes > length && !strcmp(text + bytes - length, line);
+	free(text);
+	return is_last;
+}
+
+/* What is kept of a command line if payloads are redacted: what the program is called. */
+static void redacted_command(const char *text, const char *due)
+{
+	char line[2 * COMMAND_BYTES];
+	u32 bytes = (u32)strlen(text) + 1;
+	hear_command(1, "another", 7, 7);
+	hear_command(1, text, bytes < COMMAND_BYTES ? bytes : COMMAND_BYTES, bytes);
+	parts_flush();
+	snprintf(line, sizeof line, " uid=10123 name=%s\n", due);
+	should(is_last_line(line), text, (double)bytes);
+}
+
+/* A program may write a title over its command line, which is one word then, and may be in a folder with any name. */
+static void redacted_commands(void)
+{
+	char longest[COMMAND_BYTES + 32] = "/";
+	memset(longest + 1, 'a', COMMAND_BYTES);
+	hear_command(1, "first\0SECRET", 12, 12);
+	parts_flush();
+	should(has_line(" uid=10123 name=first\n"), "what is kept of a command line", 0);
+	redacted_command("postgres: alice SECRET 10.0.0.5 SELECT", "postgres:");
+	redacted_command("title:\tSECRET", "title:");
+	redacted_command("com.example.mail:remote", "com.example.mail:remote");
+	redacted_command("/usr/SECRET/program", "/program");
+	redacted_command("./SECRET/other", "/other");
+	redacted_command("/usr/a SECRET/third", "");
+	redacted_command("shell: me@SECRET/0", "");
+	redacted_command(longest, "");
+	should(!has_line("SECRET"), "secrets of command lines", 0);
+}
+
+/* The longest command line, of bytes that are written as four each; one that is said to be longer; and one that comes
+ * when the opening has its number, and again. */
 static void command_lines(void)
 {
 	char control[COMMAND_BYTES], due[4 * COMMAND_BYTES + 64] = " command 0 1000 after=";
@@ -170,11 +211,10 @@ static void command_lines(void)
 	should(has_line(" uid=10123 name=a\\x0a \\x5c\\x00b\n"), "a command line with NULs", 0);
 	should(!has_line("name=a\\x0a \\x5c\\x00b\\x00"), "NULs at the end of a command line", 0);
 	command_redact();
-	hear_command(1, "first\0second", 12, 12);
 	hear_command(1, "", 0, 0);
 	parts_flush();
-	should(has_line(" uid=10123 name=first\n") && !has_line("second"), "what is kept of a command line", 0);
 	should(has_line(" uid=10123 name=\n"), "an empty command line", 0);
+	redacted_commands();
 }
 
 int main(int count, char **words)

@@ -229,8 +229,15 @@ COMMANDS = (	# of each process of the scenario people, in order: the users, and 
     [(USER, b"/system/bin/other-user\0person\0u")], [(0, b"l" * LONGEST_COMMAND)])
 
 
+def program_in(command):
+    """What `--redact` keeps of a command line: what the program is called."""
+    word = command.partition(b"\0")[0]
+    name = re.match(rb"[^\0-\x20]*", word)[0]
+    return name if b"/" not in word else word[word.rindex(b"/"):] if name == word else b""
+
+
 def command_differences(recording):
-    """The command lines of the scenario; only their first words if payloads are redacted."""
+    """The command lines of the scenario; only what the programs are called if payloads are redacted."""
     came = defaultdict(list)
     for device, number, user, name in re.findall(r"^\d+ command (\d+) (\d+) after=\d+ uid=(\d+) name=(.*)$",
                                                  recording.side, re.M):
@@ -240,7 +247,7 @@ def command_differences(recording):
     for nth, due in enumerate(COMMANDS):
         key = sorted(recording.names)[nth]
         if recording.is_redacted:
-            due = [(user, text.partition(b"\0")[0]) for user, text in due]
+            due = [(user, program_in(text)) for user, text in due]
         if came[key] != due:
             yield "names", recording.names[key], "command", came[key], due
 
