@@ -275,6 +275,29 @@ u64 kernel_calls_without_number(void)
 	return program->bss->calls_without_room + program->bss->calls_without_file;
 }
 
+/* Puts the share into the list, which falls, at its place, if it has one there. Returns how many there are then. */
+static u32 add_holder(struct share *holders, u32 count, u32 most, struct share share)
+{
+	u32 place = count < most ? count : most - 1;
+	if (count == most && holders[place].openings >= share.openings)
+		return count;
+	for (; place && holders[place - 1].openings < share.openings; place--)
+		holders[place] = holders[place - 1];
+	holders[place] = share;
+	return count < most ? count + 1 : count;
+}
+
+u32 kernel_holders(struct share *holders, u32 most)
+{
+	u32 count = 0;
+	for (u32 i = 0; i < SHARES; i++) {
+		struct share share = program->bss->shares[i];
+		if (share.openings)
+			count = add_holder(holders, count, most, share);
+	}
+	return count;
+}
+
 u64 kernel_stacks_without_room(void)
 {
 	return program->bss->stacks_without_room;

@@ -1,6 +1,7 @@
 /* The recorder's program in the kernel: how it is loaded, started and stopped, and what it says outside the ring. */
 #ifndef RECORDER_KERNEL_H
 #define RECORDER_KERNEL_H
+#include "messages.h"
 #include "options.h"
 #include "ring.h"
 
@@ -21,6 +22,8 @@ u64 kernel_bound(void);
 u64 kernel_calls_32_bit(void);
 /* How many calls took no number, because a table was full or the opening was not found. */
 u64 kernel_calls_without_number(void);
+/* The processes with the most openings, the one with the most first. Returns how many it found, at most `most`. */
+u32 kernel_holders(struct share *holders, u32 most);
 /* How many events a program did not see, because another one ran on the same CPU. */
 u64 kernel_runs_missed(void);
 /* How many stacks had no room in the ring, could not be taken, or had no address. */

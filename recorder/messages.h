@@ -11,6 +11,9 @@
 #define MOST_AT_ONCE (1u << 20)	/* the most bytes of attachments of a record, or of a read: preemption is off */
 #define FIRST_BYTES 65536u	/* so many bytes of a frame may use the whole ring */
 #define MOST_CPUS 512u
+#define MOST_OPENINGS 65536u	/* that are recorded at one time, */
+#define SHARE_OF_OPENINGS 1024u	/* and those of one process */
+#define SHARES 32768u		/* processes whose ids differ by a multiple of this have one share together */
 #define NAME_BYTES 16u
 #define COMMAND_BYTES 256u	/* the most bytes of a command line */
 #define MOST_OF_STACK 64u	/* the most addresses of a stack */
@@ -113,6 +116,11 @@ struct stack {
 	unsigned long long memory, start;	/* its process's mm, and when that process began */
 	unsigned int process, count;
 	unsigned long long addresses[MOST_OF_STACK];	/* only `count` of them are in the ring */
+};
+
+/* How many openings a process has among those that are recorded. */
+struct share {
+	unsigned int process, openings;
 };
 
 /* What the iterator over open files writes: an opening from before the recording. */

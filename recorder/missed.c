@@ -1,4 +1,5 @@
 #include "missed.h"
+#include "holders.h"
 #include "kernel.h"
 #include "side.h"
 #include "window.h"
@@ -22,7 +23,10 @@ static struct kind {
 	[MISSED_STACK_EMPTY] = { .line = "unstacked", .word = "empty", .counted = kernel_stacks_empty },
 };
 
+#define HOLDERS_EVERY 1000000000u	/* nanoseconds */
+
 static u64 number_at_last_look;
+static u64 holders_told;
 
 void missed_begin(void)
 {
@@ -62,6 +66,10 @@ void missed_tell(void)
 		tell(kind, amount);
 		add_pending(kind, amount);
 		kind->told = count;
+		if (kind == kinds + MISSED_NUMBERS && now() - holders_told > HOLDERS_EVERY) {
+			holders_tell();
+			holders_told = now();
+		}
 	}
 	number_at_last_look = number;
 }
@@ -69,8 +77,11 @@ void missed_tell(void)
 void missed_tell_again(u64 number)
 {
 	for (struct kind *kind = kinds; kind < kinds + MISSED_END; kind++)
-		if (concerns(kind->pending, number))
+		if (concerns(kind->pending, number)) {
 			tell(kind, kind->pending);
+			if (kind == kinds + MISSED_NUMBERS)
+				holders_tell();
+		}
 }
 
 u64 missed_count(enum missed what)

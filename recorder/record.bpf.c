@@ -44,14 +44,53 @@ static __always_inline void describe(struct opening *o, struct task_struct *task
 	describe_space(o, task);
 }
 
-/* An opening that is met without this is from before the recording. */
+/* Takes room for an opening of the process. Returns 0 if there is some. */
+static __always_inline int take_share(u32 process)
+{
+	struct share *share = &shares[process & (SHARES - 1)];
+	if (share->openings >= SHARE_OF_OPENINGS || opening_count >= MOST_OPENINGS)
+		return 1;
+	share->process = process;
+	__sync_fetch_and_add(&share->openings, 1);
+	__sync_fetch_and_add(&opening_count, 1);
+	return 0;
+}
+
+static __always_inline void give_share_back(u32 process)
+{
+	__sync_fetch_and_add(&shares[process & (SHARES - 1)].openings, -1);
+	__sync_fetch_and_add(&opening_count, -1);
+}
+
+/* Puts a new opening of the task's process into the table, if there is room for it. Returns 0 if it is there. */
+static __always_inline long keep_opening(struct opening *o, struct task_struct *task, struct file *file)
+{
+	u64 key = (u64)file;
+	if (take_share(BPF_CORE_READ(task, tgid)))
+		return 1;
+	describe(o, task, file);
+	long failed = bpf_map_update_elem(&openings, &key, o, BPF_NOEXIST);
+	if (failed)
+		give_share_back(o->process);
+	return failed;
+}
+
+static __always_inline void forget_opening(struct opening *o, u64 key)
+{
+	u32 process = o->process;
+	if (!bpf_map_delete_elem(&openings, &key))
+		give_share_back(process);
+}
+
+/* An opening that is met without this is from before the recording. One that is there already has closed unseen. */
 static __always_inline int begin_opening(struct file *file)
 {
 	u64 key = (u64)file;
-	struct opening o = {};
+	struct opening o = {}, *before = bpf_map_lookup_elem(&openings, &key);
+	if (before)
+		forget_opening(before, key);
 	o.born = 1;
-	describe(&o, bpf_get_current_task_btf(), file);
-	bpf_map_update_elem(&openings, &key, &o, BPF_ANY);
+	keep_opening(&o, bpf_get_current_task_btf(), file);
 	return 0;
 }
 
@@ -62,7 +101,7 @@ static __always_inline int end_opening(u64 key)
 		return 0;
 	if (o->told)
 		say(MESSAGE_CLOSED, 0, o->id, last_number, 0, 0, 0, 0);
-	bpf_map_delete_elem(&openings, &key);
+	forget_opening(o, key);
 	return 0;
 }
 
@@ -120,9 +159,8 @@ SEC("iter/task_file") int meet_openings(struct bpf_iter__task_file *context)
 	if (bpf_map_lookup_elem(&openings, &key))
 		return 0;
 	struct opening o = {};
-	describe(&o, task, file);
 	o.told = 1;
-	if (bpf_map_update_elem(&openings, &key, &o, BPF_NOEXIST) || !o.recorded)
+	if (keep_opening(&o, task, file) || !o.recorded)
 		return 0;
 	struct met_opening met = {};
 	met.process = o.process;
@@ -138,10 +176,8 @@ SEC("iter/task_file") int meet_openings(struct bpf_iter__task_file *context)
 
 static __noinline int add_opening(struct task_struct *task, struct file *file)
 {
-	u64 key = (u64)file;
 	struct opening o = {};
-	describe(&o, task, file);
-	return bpf_map_update_elem(&openings, &key, &o, BPF_NOEXIST);
+	return keep_opening(&o, task, file);
 }
 
 static __noinline int add_thread(struct task_struct *task, u32 id, u32 process)
@@ -261,7 +297,7 @@ static __always_inline int enter(struct task_struct *task, struct file *file, u3
 		add_opening(task, file);
 		o = bpf_map_lookup_elem(&openings, &key);
 	}
-	if (o && !o->recorded) {
+	if (o ? !o->recorded : !is_wanted(process, BPF_CORE_READ(file, f_inode, i_rdev))) {
 		leave_out(id);
 		return 0;
 	}

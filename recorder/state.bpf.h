@@ -105,7 +105,7 @@ struct {
 	} name SEC(".maps")
 
 TABLE(threads, u32, struct thread);	/* by the thread's id */
-TABLE(openings, u64, struct opening);	/* by the address of the file */
+TABLE(openings, u64, struct opening);	/* by the address of the file; see MOST_OPENINGS */
 TABLE(processes, u32, u32);		/* those whose end will be reported */
 TABLE(wanted_processes, u32, u32);	/* of --pid */
 TABLE(wanted_devices, u32, u32);	/* of --device */
@@ -121,6 +121,12 @@ u32 last_thread = 0, last_opening = 0;
 u64 half_calls = 0;	/* calls of which the entry, a command or the return was not seen */
 u32 preemption = PREEMPTION_NOT_SEEN;
 u64 calls_32_bit = 0, calls_without_room = 0, calls_without_file = 0;
+
+/* Openings by process: without a bound for each, a few processes could take the whole table, and no opening of others
+ * would be recorded any more. A count can't go wrong when a process ends before its openings, as it may: each opening
+ * names the process by which it was counted. */
+struct share shares[SHARES];
+u32 opening_count = 0;
 
 /* For each CPU: no number below this one waits for the program that runs there; 0 if none runs. */
 struct { u64 number, unused[7]; } taking[MOST_CPUS];

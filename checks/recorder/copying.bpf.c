@@ -94,6 +94,20 @@ SEC("raw_tp/played") int play_look(void *unused)
 	return look_at_command(&looked_at);
 }
 
+/* ---- openings of the caller, of files that are not there */
+
+u64 played_file = 0;
+
+SEC("raw_tp/played") int play_open(void *unused)
+{
+	return begin_opening((void *)played_file);
+}
+
+SEC("raw_tp/played") int play_release(void *unused)
+{
+	return end_opening(played_file);
+}
+
 /* ---- the longest runs */
 
 /* The stack of the call that runs this is taken. */

@@ -11,6 +11,7 @@
 #include <string.h>
 #include <sys/mman.h>
 #include <sys/syscall.h>
+#include <sys/wait.h>
 #include <unistd.h>
 #include "ring.h"
 #include "copying.skel.h"
@@ -278,6 +279,61 @@ static void measure_stack(u32 rounds)
 	tell_times("the stack of a call of as many functions as are taken", took, rounds);
 }
 
+/* ---- openings */
+
+static void play_file(const struct bpf_program *played, u64 file)
+{
+	LIBBPF_OPTS(bpf_test_run_opts, run);
+	program->bss->played_file = file;
+	int error = bpf_prog_test_run_opts(bpf_program__fd(played), &run);
+	if (error)
+		fail("openings: error %d", error);
+}
+
+static void should_have(const char *what, u32 ours, u32 all)
+{
+	u32 came = program->bss->shares[(u32)getpid() % SHARES].openings;
+	if (came != ours || program->bss->opening_count != all)
+		fail("openings %s: %u of the process and %u in all, expected %u and %u", what, came,
+		     program->bss->opening_count, ours, all);
+}
+
+/* A child of a process that has its whole share has one of its own. */
+static void play_child(u64 file)
+{
+	int status;
+	pid_t child = fork();
+	if (child == 0) {
+		play_file(program->progs.play_open, file);
+		should_have("of a child", 1, SHARE_OF_OPENINGS + 1);
+		exit(0);
+	}
+	if (child < 0 || waitpid(child, &status, 0) != child || status)
+		fail("openings of a child");
+}
+
+/* A process gets its share, and no more; what it closes it may open again, and what its child had is given back too when
+ * the child is gone. */
+static void play_openings(void)
+{
+	const struct bpf_program *opens = program->progs.play_open, *closes = program->progs.play_release;
+	u64 file = 8;
+	for (u32 i = 0; i < SHARE_OF_OPENINGS + 10; i++)
+		play_file(opens, file + 8 * i);
+	should_have("beyond the share", SHARE_OF_OPENINGS, SHARE_OF_OPENINGS);
+	play_file(closes, file);
+	play_file(closes, file);
+	should_have("after one is closed", SHARE_OF_OPENINGS - 1, SHARE_OF_OPENINGS - 1);
+	play_file(opens, file);
+	play_file(opens, file);
+	should_have("after one is opened again", SHARE_OF_OPENINGS, SHARE_OF_OPENINGS);
+	play_child(4);
+	play_file(closes, 4);
+	for (u32 i = 0; i < SHARE_OF_OPENINGS + 10; i++)
+		play_file(closes, file + 8 * i);
+	should_have("after all are closed", 0, 0);
+}
+
 int main(int words, char **word)
 {
 	u32 rounds = words > 1 ? (u32)atoi(word[1]) : 400;
@@ -295,6 +351,7 @@ int main(int words, char **word)
 	u8 *data = memory(MOST_ATTACHED), *commands = memory(MOST_COMMANDS + 4096), *returns = memory(MOST_RETURNS);
 	program->bss->commands_from = (u64)commands;
 	program->bss->first_word = BC_TRANSACTION;
+	play_openings();
 	play(commands);
 	play_full_ring(data, returns);
 	pthread_t thread;

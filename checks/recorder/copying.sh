@@ -7,9 +7,9 @@
 # It loads them into the kernel of this machine, which needs no Binder driver, and runs those parts that copy, on memory
 # that it made. A write is played whose data is partly not there, or too much for one run: all of it must come. Reads
 # with large attachments fill the ring: their own bytes must come. A command line that is away for some time must come
-# only if it is another one afterwards. The stack of a call must have its functions. Then it prints microseconds: the
-# least, the median and what nine of ten rounds keep. It needs root, what the build of the recorder needs, and Linux
-# 5.17. Its table is in docs/MEASURED.md.
+# only if it is another one afterwards. A process that opens very much must have its share of the openings, and no more.
+# The stack of a call must have its functions. Then it prints microseconds: the least, the median and what nine of ten
+# rounds keep. It needs root, what the build of the recorder needs, and Linux 5.17. Its table is in docs/MEASURED.md.
 set -euo pipefail
 
 here=$(readlink -f -- "${BASH_SOURCE[0]}")

@@ -179,10 +179,21 @@ u64 kernel_last_number(void) { return is_stopped ? end_number : last; }
 u64 kernel_bound(void) { return kernel_last_number(); }
 u64 kernel_runs_missed(void) { return missed; }
 u64 kernel_calls_32_bit(void) { return 0; }
-u64 kernel_calls_without_number(void) { return 0; }
+u64 kernel_calls_without_number(void) { return getenv("CROWDED") && looks >= 3 ? 5 : 0; }
 u64 kernel_stacks_without_room(void) { return 0; }
 u64 kernel_stacks_failed(void) { return 0; }
 u64 kernel_stacks_empty(void) { return 0; }
+
+/* With CROWDED in the environment calls are missed, since this process has its share of openings, one that is gone has
+ * many, and others have few. */
+u32 kernel_holders(struct share *holders, u32 most)
+{
+	static const u32 openings[] = { SHARE_OF_OPENINGS, 500, 3 };
+	u32 processes[] = { (u32)getpid(), 4194303, 1 }, count = 0;
+	for (; count < 3 && count < most; count++)
+		holders[count] = (struct share){ processes[count], openings[count] };
+	return count;
+}
 
 u64 kernel_stop(void)
 {

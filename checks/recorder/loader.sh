@@ -7,7 +7,8 @@
 # a recording ends at one moment: what has its number by then is written later, and what comes later is in no line. And
 # that the side list says what the clocks show after a sleep, at once and in each later list, and at the end. And that
 # no process can take the files of a flight recorder for what it names and opens: each file has its frames, be the first
-# lines of its side list ever so many. And that names which somebody else makes in the same folder end no recording.
+# lines of its side list ever so many. If there is no room for more openings, the side lists say who has them. And that
+# names which somebody else makes in the same folder end no recording.
 #
 #     checks/run loader
 #
@@ -81,6 +82,18 @@ told=$(for list in "${lists[@]}"; do sed -n '/ file [0-9]*$/,$d; / missed /p' "$
 if [[ ! $told =~ ^\ *2\ [0-9]+\ missed\ 3\ what=events\ from=2\ after=103$ ]]; then
   printf 'checks/loader: before their files two side lists say that this was missed: %s\n' "$told" && failed=1
 fi
+
+# When there is no room for openings, the list says who has the most, after what was missed, and so does each later list.
+CROWDED=1 "$room/flight" -o "$room/crowd" --size 65536 2>/dev/null
+CROWDED=1 "$room/flight" -o "$room/crowds" --size 65536 --files 2 2>/dev/null
+due='missed 5 what=calls-without-number,holder openings=1024 name=flight,holder openings=500 name='
+for list in "$room/crowd.side" "$room"/crowds-*.side; do
+  told=$(sed -nE 's/^[0-9]+ (missed 5 what=calls-without-number) .*/\1/p; s/^[0-9]+ (holder) pid=[0-9]+/\1/p' "$list" |
+    head -n 3 | paste -sd ,)
+  if [[ $told != "$due" ]]; then
+    printf 'checks/loader: %s: who has the most openings: %s\n' "${list##*/}" "$told" && failed=1
+  fi
+done
 
 # The names that somebody makes meanwhile are OUT-2.cap, OUT-3.side and OUT.end.state. The last one has its name from
 # the beginning on.
