@@ -8,20 +8,36 @@ import pathlib
 import signal
 import subprocess
 import time
-from typing import Iterator
+from typing import Iterator, NamedTuple
 
 from lab import result
+from viewer.database import side_belongs
 from viewer.defects.seen import kept_database
-from viewer.files import Stopped
+from viewer.files import Stopped, shown_name, unchanged
 from viewer.program_names import PACKED
 from viewer.scratch import folder_in
 
 # The option of prctl by which the system ends a process when its parent ends.
 PR_SET_PDEATHSIG = 1
 
-# Statuses of `./view` that say something of the machine: memory, a file that can't be read or written. The capture may
-# do better next time. After the others it would not.
-OF_THE_MACHINE = (3, 4, 64)
+# The statuses of `./view` after which there is a database, and those that mean the same here.
+VIEWED, SAME = (0, 2), (3, 4, 64)
+
+
+class Inputs(NamedTuple):
+    """The files of a capture, its side lists, and the tables of methods."""
+    files: list[str]
+    sides: list[str]
+    methods: list[str]
+
+    def refuse_empty(self) -> None:
+        """Refuses a side list without a byte, which is all that is left of one if the disk was full."""
+        for side in self.sides:
+            if os.stat(side).st_size == 0:
+                raise Stopped(4, f"{side} is empty: put the side list there, or remove it to do without")
+
+    def options(self) -> list[str]:
+        return [f"--side={side}" for side in self.sides] + [f"--methods={table}" for table in self.methods]
 
 
 def digest_of(files: list[str]) -> str:
@@ -43,8 +59,11 @@ def version(root: pathlib.Path) -> str | None:
         with contextlib.suppress(OSError):
             return (root / "version").read_text("utf-8").split("\n")[0]
         return None
-    asked = subprocess.run(["git", "-C", root, "describe", "--always", "--dirty", "--abbrev=12"], capture_output=True,
-                           encoding="utf-8")
+    try:
+        asked = subprocess.run(["git", "-C", root, "describe", "--always", "--dirty", "--abbrev=12"],
+                               capture_output=True, encoding="utf-8", errors="replace")
+    except OSError:
+        return None
     return asked.stdout.strip() or None
 
 
@@ -55,8 +74,9 @@ def ends_with_parent() -> None:
 
 @contextlib.contextmanager
 def ended_group(words: list[str], room: pathlib.Path, **streams: object) -> Iterator[subprocess.Popen]:
-    """A program in a group of its own, of which nothing is left afterwards."""
-    program = subprocess.Popen(words, stdin=subprocess.DEVNULL, start_new_session=True, preexec_fn=ends_with_parent,
+    """A program in a group of its own, of which nothing is left afterwards. It has the standard input of this one,
+    which a capture may be."""
+    program = subprocess.Popen(words, start_new_session=True, preexec_fn=ends_with_parent,
                                env={**os.environ, "TMPDIR": str(room)}, **streams)  # type: ignore[call-overload]
     try:
         yield program
@@ -66,31 +86,39 @@ def ended_group(words: list[str], room: pathlib.Path, **streams: object) -> Iter
         program.wait()
 
 
-def viewed(words: list[str], room: pathlib.Path, seconds: float) -> tuple[int | None, str]:
-    """The status of `./view`, and what it says; None if it took too long."""
-    told = room / "told"
-    with open(told, "wb") as out, ended_group(words, room, stdout=subprocess.DEVNULL, stderr=out) as program:
-        try:
-            status = program.wait(seconds)
-        except subprocess.TimeoutExpired:
-            status = None
-    return status, told.read_text("utf-8", errors="replace").strip()
+def viewed(words: list[str], room: pathlib.Path, seconds: float) -> tuple[int | None, list[str]]:
+    """The status of `./view`, and the lines that it says; None if it took too long. The lines are kept in memory,
+    because the disk may be full."""
+    with open(os.memfd_create("told"), "w+b") as told:
+        with ended_group(words, room, stdout=subprocess.DEVNULL, stderr=told) as program:
+            try:
+                status = program.wait(seconds)
+            except subprocess.TimeoutExpired:
+                status = None
+        told.seek(0)
+        return status, told.read().decode("utf-8", "replace").splitlines()
 
 
-def result_of(root: pathlib.Path, files: list[str], options: list[str], seconds: float) -> dict:
-    """The result of a capture, without what only the caller knows."""
+def why_no_answer(status: int, told: list[str]) -> str:
+    """Why `./view` has not answered: its words, and those of the programs that it calls, or the last line of others."""
+    if status < 0:
+        return f"killed by signal {-status}"
+    return "; ".join([line for line in told if line.startswith(("view: ", "fault "))] or told[-1:]) or f"status {status}"
+
+
+def result_of(root: pathlib.Path, inputs: Inputs, seconds: float) -> dict:
+    """The result of a capture, without what only the caller knows. There is one only if another run would say the same.
+    What else ends `./view`, such as a full disk, has none, and the next run tries again."""
     with folder_in(None, "fleet") as room:
         made = room / "capture.db"
-        words = [str(root / "view"), *files, "--groups", "--database", str(made), *options]
+        words = [str(root / "view"), "--groups", "--database", str(made), *inputs.options(), "--", *inputs.files]
         status, told = viewed(words, room, seconds)
-        if status in OF_THE_MACHINE:
-            raise Stopped(status, told)
         if status is None:
             return result.failed(f"it took longer than {seconds:g} s")
-        if status < 0:
-            return result.failed(f"killed by signal {-status}")
-        if status not in (0, 2):
-            return result.failed(told.rpartition("\n")[2] or f"status {status}")
+        if status == 1 and told and side_belongs.OTHER in told[-1]:
+            return result.failed(told[-1])
+        if status not in VIEWED:
+            raise Stopped(status if status in SAME else 1, f"{inputs.files[0]}: {why_no_answer(status, told)}")
         database = kept_database(str(made))
         try:
             return result.summary(database)
@@ -98,14 +126,17 @@ def result_of(root: pathlib.Path, files: list[str], options: list[str], seconds:
             database.close()
 
 
-def one(root: pathlib.Path, files: list[str], options: list[str], build: str, device: str, to: pathlib.Path,
-        seconds: float) -> str | None:
+def one(root: pathlib.Path, inputs: Inputs, build: str, device: str, to: pathlib.Path, seconds: float) -> str | None:
     """Writes the result of a capture, by the programs in this folder. Returns why it does not have all defects, if it
     is malformed or can't be viewed."""
-    digest = digest_of(files)
-    made = result_of(root, files, options, seconds)
-    shown = os.fsencode(" ".join(map(os.path.basename, files))).decode(errors="replace")
-    made["capture"] = {"digest": digest, "build": build, "device": device, "file": shown, **made["capture"],
-                       "made": time.time(), "version": version(root)}
+    with unchanged([*inputs.files, *inputs.sides, *inputs.methods]):
+        inputs.refuse_empty()
+        digest = digest_of(inputs.files)
+        made = result_of(root, inputs, seconds)
+        # Not by time.time(), which can't say the time of a clock that is wrong by centuries.
+        made["capture"] = {"digest": digest, "build": build, "device": device,
+                           "file": result.short(shown_name(inputs.files)), **made["capture"],
+                           "made": time.clock_gettime(time.CLOCK_REALTIME), "version": version(root)}
     result.write(made, to)
-    return made["capture"].get("malformed") or made["capture"].get("failed")
+    why = made["capture"].get("malformed") or made["capture"].get("failed")
+    return why and f"{inputs.files[0]}: {why}"

@@ -7,6 +7,7 @@ import sqlite3
 import tempfile
 
 from viewer.defects.seen import defects_of, facts_of, seconds_of
+from viewer.files import Stopped, errors_of
 
 # The most bytes that a file of a result has. The most that its parts have together; and the most characters of a text
 # in it, since names may be long.
@@ -79,15 +80,19 @@ def failed(why: str) -> dict:
 
 
 def write(result: dict, path: pathlib.Path) -> None:
-    """Writes a result whole or not at all, so that a job that is killed leaves no half of one."""
-    path.parent.mkdir(parents=True, exist_ok=True)
-    made, name = tempfile.mkstemp(prefix=f".{path.name}.", dir=path.parent)
-    try:
-        with open(made, "w", encoding="utf-8") as file:
-            file.write(text_of(result))
-            file.flush()
-            os.fsync(file.fileno())
-        os.replace(name, path)
-    except BaseException:
-        os.unlink(name)
-        raise
+    """Writes a result whole or not at all, so that a job that is killed leaves no half of one. It takes the place of an
+    earlier one only: a link, as /dev/stdout is, stays."""
+    if path.is_symlink() or path.exists() and not path.is_file():
+        raise Stopped(4, f"{path} is there, and is no file")
+    with errors_of(path):
+        path.parent.mkdir(parents=True, exist_ok=True)
+        made, name = tempfile.mkstemp(prefix=f".{path.name}.", dir=path.parent)
+        try:
+            with open(made, "w", encoding="utf-8") as file:
+                file.write(text_of(result))
+                file.flush()
+                os.fsync(file.fileno())
+            os.replace(name, path)
+        except BaseException:
+            os.unlink(name)
+            raise

@@ -13,8 +13,8 @@
 
 What must hold:
 
-- A capture has a result. A malformed one, one that can't be viewed, one that takes too long and one whose viewer is
-  killed have a result that says so. None is longer than 64 KB.
+- A capture has a result. A malformed one, one with the side list of another and one that takes too long have a result
+  that says so. None is longer than 64 KB. There is none, and a line says why, if another run may do better.
 - A lab of results, which are made of stored captures put together in many ways, with a fault put into one build:
   however many loaders there are, killed or not, in whatever order, each capture counts once. What the lab has does
   not depend on the order.
@@ -47,12 +47,13 @@ import time
 from typing import Iterator
 
 from checks.kit.checking import FLAG, Fail, check, compare
-from checks.kit.programs import DRIVER, ROOT, built_programs
+from checks.kit.programs import DRIVER, built_programs
 from checks.kit.runs import answer
 from checks.lab.keys import CUT, check_keys_of_cut, print_keys_of_two
 from checks.lab.mutated import check_mutated, check_wrong
-from checks.lab.names import check_names
+from checks.lab.names import check_names, made_up
 from checks.lab.nodes import check_by_make, check_by_slurm
+from checks.lab.tried_again import check_tried_again
 from checks.lab.words import check_words
 from lab import result
 from lab.store import open_lab
@@ -109,15 +110,10 @@ def check_results(folder: pathlib.Path, room: pathlib.Path, fail: Fail) -> None:
 
 
 def check_killed(folder: pathlib.Path, room: pathlib.Path, fail: Fail) -> None:
-    """A viewer that is killed by another has a result; a job that is killed has none, and leaves nothing for long."""
-    fake, scratch = room / "fake", room / "scratch"
+    """A job that is killed has no result, and leaves nothing for long."""
+    fake = made_up(room / "fake", "#!/bin/sh\ntouch \"$TMPDIR/big\"\n[ -e go ] || sleep 60\nkill -9 $$\n")
+    scratch = room / "scratch"
     scratch.mkdir()
-    fake.mkdir()
-    for name in ("viewer", "lab"):
-        (fake / name).symlink_to(ROOT / name)
-    shutil.copy(ROOT / "fleet", fake)
-    (fake / "view").write_text("#!/bin/sh\ntouch \"$TMPDIR/big\"\n[ -e go ] || sleep 60\nkill -9 $$\n", "utf-8")
-    (fake / "view").chmod(0o755)
     words = [fake / "fleet", "one", *stored("leaks"), "--build", "b", "--device", "d", "-o", room / "killed.json"]
     options = {"cwd": room, "env": {**os.environ, "TMPDIR": str(scratch)}, "stderr": subprocess.DEVNULL}
     job = subprocess.Popen(list(map(str, words)), **options)
@@ -130,8 +126,6 @@ def check_killed(folder: pathlib.Path, room: pathlib.Path, fail: Fail) -> None:
     compare("a killed job: scratch, result", left, (1, False), fail)
     (room / "go").touch()
     subprocess.run(list(map(str, words)), **options)
-    why = json.loads((room / "killed.json").read_text("utf-8"))["capture"]["failed"]
-    compare("a killed viewer", why, "killed by signal 9", fail)
     compare("after a killed job: scratch", list(scratch.iterdir()), [], fail)
 
 
@@ -438,6 +432,7 @@ def judge(given: argparse.Namespace, room: pathlib.Path, fail: Fail) -> None:
             check_each(folder, room, fail)
             check_made(folder, room, fail)
             check_names(room / "names", fail)
+            check_tried_again(folder, room / "tried-again", fail)
             check_keys_of_cut(folder, room, CUT, fail)
         check_lab(folder, room, given.results or 200, bool(given.results), fail)
 

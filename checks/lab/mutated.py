@@ -10,7 +10,7 @@ import sqlite3
 from typing import Iterator
 
 from checks.kit.checking import Fail, compare
-from checks.kit.runs import answer
+from checks.lab.played import played
 from lab import result
 from viewer.terminal import is_sign
 
@@ -109,7 +109,7 @@ def wrong_results(good: dict) -> Iterator[tuple[bytes, str]]:
 
 def check_wrong(folder: pathlib.Path, room: pathlib.Path, good: dict, fail: Fail) -> None:
     """Each has a line that says what is wrong, and the good one beside them is loaded. So is no pipe waited for."""
-    results = room / "wrong"
+    results = room / "wrong-results"
     results.mkdir()
     due = {}
     for number, (text, says) in enumerate(wrong_results(good)):
@@ -118,7 +118,7 @@ def check_wrong(folder: pathlib.Path, room: pathlib.Path, good: dict, fail: Fail
     os.mkfifo(results / "pipe.json")
     due["pipe.json"] = "it is no file"
     (results / "z.json").write_text(result.text_of(good), "utf-8")
-    status, out, err = answer([folder / "fleet", "load", room / "wrong.db", results], timeout=60, encoding="utf-8")
+    status, out, err = played(folder / "fleet", "load", room / "wrong.db", results)
     compare("wrong results: status, output", (status, out), (4, "1 added, 0 there already\n"), fail)
     lines = err.splitlines()
     compare("wrong results: lines", len(lines), len(due), fail)
@@ -130,13 +130,12 @@ def check_wrong(folder: pathlib.Path, room: pathlib.Path, good: dict, fail: Fail
 # ---- mutated ones
 
 
-def check_said(what: str, ended: tuple[int, bytes, bytes], statuses: set[int], fail: Fail) -> list[str]:
+def check_said(what: str, ended: tuple[int, str, str], statuses: set[int], fail: Fail) -> list[str]:
     """A documented status, no words of Python, and no sign that a terminal obeys. Returns the lines that were told."""
     status, out, err = ended
     compare(f"{what}: status {status} is one of {sorted(statuses)}", status in statuses, True, fail)
-    said = (out + err).decode("utf-8", "backslashreplace")
-    compare(f"{what}: signs", {one for one in said if is_sign(one) and one not in "\t\n"}, set(), fail)
-    told = err.decode("utf-8", "backslashreplace").splitlines()
+    compare(f"{what}: signs", {one for one in out + err if is_sign(one) and one not in "\t\n"}, set(), fail)
+    told = err.splitlines()
     compare(f"{what}: lines of others", [line for line in told if not line.startswith("fleet: ")][:3], [], fail)
     return told
 
@@ -151,12 +150,12 @@ def check_mutated(folder: pathlib.Path, room: pathlib.Path, good: dict, count: i
     one = {**good, "capture": {**good["capture"], "digest": digest}}
     (results / "good.json").write_text(result.text_of(one), "utf-8")
 
-    def fleet(*words: object) -> tuple[int, bytes, bytes]:
-        return answer([folder / "fleet", *map(str, words)], timeout=600)
+    def fleet(*words: object) -> tuple[int, str, str]:
+        return played(folder / "fleet", *words)
 
     ended = fleet("load", lab, results)
     told = check_said("load", ended, {4}, fail)
-    added, there = map(int, ended[1].decode().split()[0::2][:2]) if ended[1] else (0, 0)
+    added, there = map(int, ended[1].split()[0::2][:2]) if ended[1] else (0, 0)
     left_out = len([line for line in told if ".json: " in line])
     compare("each result is in the lab, or has a line", added + there + left_out, count + 1, fail)
     database = sqlite3.connect(lab)

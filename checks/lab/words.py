@@ -5,11 +5,11 @@ import contextlib
 import os
 import pathlib
 import sqlite3
-import subprocess
 from typing import Callable
 
 from checks.kit.checking import Fail, compare
 from checks.kit.runs import answer
+from checks.lab.played import played
 from lab import result
 from lab.ask import ask
 from lab.store import open_lab
@@ -59,7 +59,7 @@ def check_questions(folder: pathlib.Path, lab: pathlib.Path, fail: Fail) -> None
         with contextlib.closing(open_lab(str(lab))) as opened:
             check_stopped(f"ask {question} {values}", lambda: list(ask(opened, question, values)), 64, says, fail)
     for question, says in (("new", "new takes old="), ("SELECT '\udcff'", "is not UTF-8")):
-        came = answer([folder / "fleet", "ask", lab, question], encoding="utf-8")
+        came = played(folder / "fleet", "ask", lab, question)
         check_line(f"ask {question!a}", came, 64, f"fleet: {says}" if question == "new" else says, fail)
 
 
@@ -81,7 +81,7 @@ def check_labs(folder: pathlib.Path, room: pathlib.Path, lab: pathlib.Path, good
             check_stopped(f"a {name} as a lab", lambda: open_lab(str(room / name), may_make), 4, f"{room / name}: ",
                           fail)
     for words in (["load", "other", "good.json"], ["compare", "changed", "b1", "b2"]):
-        came = answer([folder / "fleet", *words], cwd=room, encoding="utf-8", timeout=60)
+        came = played(folder / "fleet", *words, cwd=room)
         check_line(" ".join(words), came, 4, f"fleet: {words[1]}: ", fail)
     compare("another program's database", other.read_bytes() == before, True, fail)
 
@@ -99,22 +99,22 @@ def check_strangers(folder: pathlib.Path, room: pathlib.Path, good: dict, fail: 
                           (["compare", "stranger.db", "b1", name, "--all", "--least", "1"], 0),
                           (["compare", "stranger.db", "b1", f"no {name}"], 1), (["ask", "stranger.db", "since"], 0),
                           (["ask", "stranger.db", f"SELECT '{name}' AS \"{name}\""], 0), (["ask", name, "since"], 4)):
-        # In a locale of ASCII other words are no UTF-8.
-        for locale in ({}, ASCII) if " ".join(words).isascii() else ({},):
-            came = answer([folder / "fleet", *words], cwd=room, env={**os.environ, **locale}, timeout=60)
-            said = (came[1] + came[2]).decode("utf-8", "backslashreplace").replace("\n", "").replace("\t", "")
-            compare(f"{words!a} {locale}: status, signs", (came[0], said.isprintable()), (status, True), fail)
+        came = played(folder / "fleet", *words, cwd=room)
+        said = (came[1] + came[2]).replace("\n", "").replace("\t", "")
+        compare(f"{words!a}: status, signs", (came[0], said.isprintable()), (status, True), fail)
+    came = answer([folder / "fleet", "ask", room / "stranger.db", "since"], env={**os.environ, **ASCII}, encoding="utf-8")
+    compare("in a locale of ASCII", (came[0], "клиент" in came[1], came[2]), (0, True, ""), fail)
 
 
 def check_words(folder: pathlib.Path, room: pathlib.Path, lab: pathlib.Path, good: dict, fail: Fail) -> None:
     room.mkdir()
     check_questions(folder, lab, fail)
     for words in WORDS:
-        check_line(f"{words!a}", answer([folder / "fleet", *words], cwd=room, encoding="utf-8"), 64, "fleet: ", fail)
-    for how, says in ((">&-", "standard output is closed"), (">/dev/full", "standard output: No space left on device")):
-        for words in (["load", str(lab), str(room)], ["ask", str(lab), "since"]):
-            shell = ["sh", "-c", f'"$@" {how}', "sh", str(folder / "fleet"), *words]
-            ended = subprocess.run(shell, stderr=subprocess.PIPE, encoding="utf-8")
-            check_line(f"{words[0]} {how}", (ended.returncode, "", ended.stderr), 4, says, fail)
+        check_line(f"{words!a}", played(folder / "fleet", *words, cwd=room), 64, "fleet: ", fail)
+    for question in (["load", lab, room], ["ask", lab, "since"]):
+        check_line(f"{question[0]} >&-", played(folder / "fleet", *question, is_closed=True), 4,
+                   "standard output is closed", fail)
+        check_line(f"{question[0]} >/dev/full", played(folder / "fleet", *question, stdout="/dev/full"), 4,
+                   "standard output: No space left on device", fail)
     check_labs(folder, room, lab, good, fail)
     check_strangers(folder, room, good, fail)
