@@ -14,6 +14,7 @@ from lab import result
 from viewer.database import side_belongs
 from viewer.defects.seen import kept_database
 from viewer.files import Stopped, shown_name, unchanged
+from viewer.malformed import fault_of
 from viewer.program_names import PACKED
 from viewer.scratch import folder_in
 
@@ -103,7 +104,8 @@ def why_no_answer(status: int, told: list[str]) -> str:
     """Why `./view` has not answered: its words, and those of the programs that it calls, or the last line of others."""
     if status < 0:
         return f"killed by signal {-status}"
-    return "; ".join([line for line in told if line.startswith(("view: ", "fault "))] or told[-1:]) or f"status {status}"
+    known = [line for line in told if line.startswith(("view: ", "fault "))]
+    return "; ".join(known or told[-1:]) or f"status {status}"
 
 
 def result_of(root: pathlib.Path, inputs: Inputs, seconds: float) -> dict:
@@ -138,5 +140,6 @@ def one(root: pathlib.Path, inputs: Inputs, build: str, device: str, to: pathlib
                            "file": result.short(shown_name(inputs.files)), **made["capture"],
                            "made": time.clock_gettime(time.CLOCK_REALTIME), "version": version(root)}
     result.write(made, to)
-    why = made["capture"].get("malformed") or made["capture"].get("failed")
-    return why and f"{inputs.files[0]}: {why}"
+    if malformed := made["capture"].get("malformed"):
+        return str(fault_of(malformed, inputs.files))
+    return (why := made["capture"].get("failed")) and f"{inputs.files[0]}: {why}"

@@ -64,8 +64,8 @@ def others(room: pathlib.Path) -> Iterator[tuple[str, list[object], int, str]]:
         (room / name).write_bytes(data)
     os.mkfifo(room / "pipe")
     (room / "folder").mkdir()
-    yield "empty", [], 0, "malformed HeaderShort at 0"
-    yield "text", [], 0, "malformed HeaderMagic at 0"
+    yield "empty", [], 0, "malformed HeaderShort at 0: empty is no capture"
+    yield "text", [], 0, "malformed HeaderMagic at 0: text is no capture"
     yield "cut", [], 0, "malformed FrameLength at "
     yield "pipe", [], 4, "pipe is a pipe or a device"
     yield "folder", [], 4, "folder is a folder"

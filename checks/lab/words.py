@@ -102,7 +102,8 @@ def check_strangers(folder: pathlib.Path, room: pathlib.Path, good: dict, fail: 
         came = played(folder / "fleet", *words, cwd=room)
         said = (came[1] + came[2]).replace("\n", "").replace("\t", "")
         compare(f"{words!a}: status, signs", (came[0], said.isprintable()), (status, True), fail)
-    came = answer([folder / "fleet", "ask", room / "stranger.db", "since"], env={**os.environ, **ASCII}, encoding="utf-8")
+    environment = {**os.environ, **ASCII}
+    came = answer([folder / "fleet", "ask", room / "stranger.db", "since"], env=environment, encoding="utf-8")
     compare("in a locale of ASCII", (came[0], "клиент" in came[1], came[2]), (0, True, ""), fail)
 
 
