@@ -3,7 +3,8 @@ is about. Whole captures are in crates/audit_cases.
 
     checks/run program [-- PROGRAM..]
 
-It takes 2 GB of memory and 200 MB of disk.
+And the scripts `audit` and `listing`: what they say before their programs do (`script_lines.py`). It takes 2 GB of
+memory and 200 MB of disk.
 """
 
 import itertools
@@ -11,7 +12,7 @@ import os
 import shutil
 import subprocess
 
-from checks.auditor import many_things
+from checks.auditor import many_things, script_lines
 from checks.kit.checking import check
 from checks.kit.programs import CASES, ROOT
 from checks.kit.runs import MEMORY, at_once, report_by
@@ -184,6 +185,7 @@ def judge(given, room, fail):
     rows = [in_turn, *([command] for command in (*words_and_files(), *many(room)))]
     for program in given.programs:
         at_once(4, lambda commands: [judge_command(program, room, fail, *command) for command in commands], rows)
+    script_lines.check_scripts(room / "scripts", given.programs[0], fail)
 
 
 if __name__ == "__main__":
