@@ -48,7 +48,8 @@ _binder_listing() { # COMMAND WORD BEFORE
     --handle | --cookie | --node | --address | --flag | --larger | --interface | --table) ;;
     *)
       _binder_audit_options "$2" '--at --frame --call --process --thread --device --direction --from --to --code
-        --handle --cookie --node --address --flag --larger --interface --objects --form --side --tables --table --help'
+        --handle --cookie --node --address --flag --larger --interface --objects --form --side --tables --table --help
+        --version'
       ;;
   esac
 }

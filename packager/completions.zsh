@@ -62,6 +62,7 @@ case $service in
       '--tables[write all raw tables]:folder:_files -/' \
       '--table[write one raw table]:name:' \
       '(- *)--help[say what the options do]' \
+      '(- *)--version[say what the programs are made of]' \
       $parts
     ;;
   binder-methods)

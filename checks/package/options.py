@@ -1,4 +1,4 @@
-"""Checks that completions and manual name the options that the programs name in `--help`.
+"""Checks that completions and manual name the options that the programs name in `--help`, and what `--version` says.
 
     checks/run options
 
@@ -8,6 +8,7 @@ What must hold for each of the six commands of the package:
   the one of argparse.
 - The completions are there for it, for bash and for zsh, and offer these options and no others.
 - The page of the manual names them, its command line no others.
+- If `--version` is one of them, it says what viewer/version.sh does: all programs alike.
 
 Of the recorder it builds only the file with the command line, with cc. It takes some two seconds.
 """
@@ -15,7 +16,7 @@ Of the recorder it builds only the file with the command line, with cc. It takes
 import pathlib
 import re
 
-from checks.kit.checking import Fail, check
+from checks.kit.checking import Fail, check, compare
 from checks.kit.programs import PACKAGED, ROOT, linked
 from checks.kit.runs import output_of
 from packager import manual
@@ -102,6 +103,14 @@ def check_manual(page: manual.Page, folder: pathlib.Path, due: set[str], fail: F
     compare_options(f"{page.name}({page.section})", options_in(whole.replace(line, "")) & due | {"--help"}, due, fail)
 
 
+# ---- --version
+
+
+def check_version(program: pathlib.Path, fail: Fail) -> None:
+    due = output_of([ROOT / "viewer/version.sh"])
+    compare(f"{program.name} --version", output_of([program, "--version"]), due, fail)
+
+
 # ---- all of it
 
 
@@ -112,6 +121,8 @@ def check_options(room: pathlib.Path, fail: Fail) -> None:
             due = check_help(folder / page.name, fail)
             check_completions(page.name, due, fail)
             check_manual(page, folder, due, fail)
+            if "--version" in due:
+                check_version(PACKAGED[page.name], fail)
 
 
 if __name__ == "__main__":
