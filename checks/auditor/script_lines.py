@@ -23,7 +23,7 @@ from checks.kit.programs import LISTING, ROOT, linked
 from checks.kit.runs import answer, at_once
 
 # So many command lines of random words are tried with each script.
-RANDOM = 80
+RANDOM = 50
 
 # A name that a terminal would take for a title and a colour.
 HOSTILE = "\x1b]0;owned\x07\x1b[31mred.cap"
@@ -180,6 +180,8 @@ class Scripts:
             compare(f"{shell} {words}", came, (0, due, b""), self.fail)
             if b"?]0;owned?" not in came[1]:
                 self.fail(f"{shell} {words}: the names are not there")
+        full = answer(["bash", "-c", '"$@" >/dev/full', "bash", self.folder / "listing", *words], cwd=self.room)
+        compare(f"{words} on a full disk", full, (4, b"", b"fault Write\n"), self.fail)
 
     def check_options(self) -> None:
         """The options that the script `listing` knows are those that the program names."""
