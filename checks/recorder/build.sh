@@ -5,7 +5,8 @@
 #     build.sh [--sanitize] PROGRAM FOLDER [OPTION]..
 #
 # PROGRAM is the name of its source here, without `.c`. The OPTIONs are for the compiler. With --sanitize the program
-# runs under the address and undefined-behaviour sanitizers, which end it at a fault.
+# runs under the address and undefined-behaviour sanitizers, which end it at a fault. What several programs in a FOLDER
+# need of the loader is built once, so all of them are with --sanitize, or none.
 set -euo pipefail
 
 here=$(dirname -- "$(readlink -f -- "${BASH_SOURCE[0]}")")
@@ -15,7 +16,7 @@ if [[ $1 == --sanitize ]]; then
   flags+=(-g -fsanitize=address,undefined -fno-sanitize-recover=all)
   shift
 fi
-program=$1 folder=$2
+program=$1 folder=$(readlink -f -- "$2")
 flags+=("${@:3}")
 
 # Only these are about the programs in the kernel, which are not built here.
@@ -23,6 +24,8 @@ sources=("$here/kit.c")
 for source in "$recorder"/*.c; do
   if [[ $source != *.bpf.c && $source != */kernel.c ]]; then sources+=("$source"); fi
 done
-objects=$(mktemp -d -- "$folder/objects.XXXXXX")
-(cd -- "$objects" && cc "${flags[@]}" -c "${sources[@]}" && ar rc loader.a ./*.o)
-cc "${flags[@]}" "$here/$program.c" "$objects/loader.a" -o "$folder/$program" -lb2
+if [[ ! -e $folder/loader.a ]]; then
+  objects=$(mktemp -d -- "$folder/objects.XXXXXX")
+  (cd -- "$objects" && cc "${flags[@]}" -c "${sources[@]}" && ar rc "$folder/loader.a" ./*.o)
+fi
+cc "${flags[@]}" "$here/$program.c" "$folder/loader.a" -o "$folder/$program" -lb2
