@@ -68,8 +68,8 @@ def document(capture: Capture, shown: Shown) -> Iterator[str]:
         report=capture.report, heads=heads)
 
 
-# How a page begins: by its title it is known what it is a page of.
-BEGINNING = re.compile(r'<!doctype html>\n<html lang="en">[^\0]*?<title>([^<]*): Binder capture</title>')
+# How a page begins: by its title it is known what it is a page of. It is matched, and made in the template alone.
+BEGINNING = re.compile(r"<!doctype html>[^\0]*?[<]title>([^<]*): Binder capture[<]/title>")
 
 
 def is_page_of(files: list[str], path: pathlib.Path) -> bool:

@@ -255,8 +255,7 @@ def check_sample(folder: pathlib.Path, room: pathlib.Path, files: list[pathlib.P
     proved = shown_of(text).proved
     compare(f"{name}, rows that are not on its page", sorted(proved_due(report) - set(proved)), [], fail)
     compare(f"{name}, what has the mark of a proved row, and no text", proved.count(""), 0, fail)
-    compare(f"{name}, names that begin with a space, which a browser leaves out", re.findall("<bdi> [^<]*", text), [],
-            fail)
+    compare(f"{name}, names without a space between", re.findall("</bdi><bdi>[^<]+", text), [], fail)
     if side is not None:
         compare(f"{name}, groups", groups_of(database), groups_due(files[0].parent.name), fail)
     database.close()
