@@ -1,5 +1,6 @@
 """A lab: one file of SQLite, which results are loaded into."""
 
+import contextlib
 import json
 import os
 import pathlib
@@ -91,13 +92,16 @@ def open_lab(path: str, may_make: bool = False) -> sqlite3.Connection:
         raise Stopped(4, f"{path}: it is no file")
     mode = "rwc" if may_make else "rw"
     try:
-        lab = sqlite3.connect(f"{pathlib.Path(path).absolute().as_uri()}?mode={mode}", uri=True, isolation_level=None,
-                              timeout=PATIENCE)
-        lab.text_factory = lambda text: text.decode("utf-8", "replace")
-        if not (may_make and is_new(lab)):
-            refuse_other(lab, path)
-        if may_make:
-            make(lab)
+        with contextlib.ExitStack() as closed_if_refused:
+            lab = sqlite3.connect(f"{pathlib.Path(path).absolute().as_uri()}?mode={mode}", uri=True,
+                                  isolation_level=None, timeout=PATIENCE)
+            closed_if_refused.callback(lab.close)
+            lab.text_factory = lambda text: text.decode("utf-8", "replace")
+            if not (may_make and is_new(lab)):
+                refuse_other(lab, path)
+            if may_make:
+                make(lab)
+            closed_if_refused.pop_all()
     except (sqlite3.Error, UnicodeError) as error:
         raise Stopped(4, f"{path}: {error}") from error
     return lab

@@ -70,10 +70,10 @@ def check_labs(folder: pathlib.Path, room: pathlib.Path, lab: pathlib.Path, good
     os.mkfifo(room / "pipe")
     (room / "text").write_bytes(b"no database, but a text\n" * 99)
     other, changed = room / "other", room / "changed"
-    with sqlite3.connect(other) as database:
+    with contextlib.closing(sqlite3.connect(other)) as database:
         database.executescript("PRAGMA user_version = 1; CREATE TABLE capture(build); INSERT INTO capture VALUES (1)")
     changed.write_bytes(lab.read_bytes())
-    with sqlite3.connect(changed) as database:
+    with contextlib.closing(sqlite3.connect(changed, isolation_level=None)) as database:
         database.execute("UPDATE defect SET kind = x'ff00' WHERE rowid % 2")
     before = other.read_bytes()
     for name in ("folder", "pipe", "text", "other", "changed"):
@@ -84,6 +84,7 @@ def check_labs(folder: pathlib.Path, room: pathlib.Path, lab: pathlib.Path, good
         came = played(folder / "fleet", *words, cwd=room)
         check_line(" ".join(words), came, 4, f"fleet: {words[1]}: ", fail)
     compare("another program's database", other.read_bytes() == before, True, fail)
+    compare("what is left beside labs", [*room.glob("*-wal"), *room.glob("*-shm")], [], fail)
 
 
 def check_strangers(folder: pathlib.Path, room: pathlib.Path, good: dict, fail: Fail) -> None:
