@@ -108,7 +108,7 @@ def make_files(room: pathlib.Path) -> None:
     for name in ("reply.cap", "-"):
         shutil.copy(ROOT / "samples/reply.cap", room / name)
     (room / "good side.side").write_text(SIDE_LIST.format("client", "its thread"), "utf-8")
-    (room / "hostile.side").write_text(SIDE_LIST.format("\x1b]0;owned\x07", "\u009b31m\u202egpj\x7f"), "utf-8")
+    (room / "hostile.side").write_text(SIDE_LIST.format("\x1b]0;owned\x07", "\u009b31m\u202egpj\x7f\0"), "utf-8")
     os.mkfifo(room / "one.fifo")
 
 
@@ -176,7 +176,7 @@ class Scripts:
             words = ["reply.cap", "--side", "hostile.side"]
             alone, came = (answer(["bash", "-c", shell, "bash", path, *words], cwd=self.room)
                            for path in (LISTING, self.folder / "listing"))
-            due = re.sub("[\x01-\x08\x0b-\x1f\x7f-\x9f\u202e]", "?", alone[1].decode()).encode()
+            due = re.sub("[\x00-\x08\x0b-\x1f\x7f-\x9f\u202e]", "?", alone[1].decode()).encode()
             compare(f"{shell} {words}", came, (0, due, b""), self.fail)
             if b"?]0;owned?" not in came[1]:
                 self.fail(f"{shell} {words}: the names are not there")
