@@ -56,7 +56,7 @@ class Copy(NamedTuple):
 
 
 # The most characters of a line. Those of the recorder have some ten thousand at most.
-MOST_OF_LINE = 2**20
+MOST_OF_LINE = 2**22
 
 # The longest name that is kept. Those of the system have at most 15 bytes, and command lines at most 256.
 LONGEST_NAME = 256
