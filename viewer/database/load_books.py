@@ -9,6 +9,7 @@ from typing import Iterator, NamedTuple
 
 from viewer.database.books import Counts, Opening, Transaction, state, stats
 from viewer.database.side_list import Copy
+from viewer.files import shown_name
 from viewer.units import signed
 
 
@@ -39,9 +40,9 @@ def text_of(copy: Copy, sides: list[str]) -> tuple[str | None, str | None]:
             except OSError:
                 continue
             if len(data) != copy.size:
-                return None, f"{path.name} has {len(data):,} bytes, and the side list names {copy.size:,}"
+                return None, f"{shown_name([str(path)])} has {len(data):,} bytes, and the side list names {copy.size:,}"
             return data.decode(errors="replace"), None
-    return None, f"{next(places_of(copy, sides[0])).name} is not beside the side list"
+    return None, f"{shown_name([str(next(places_of(copy, sides[0])))])} is not beside the side list"
 
 
 # ---- which opening is which
