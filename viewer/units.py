@@ -59,17 +59,23 @@ def code_name(code: int | None) -> str | None:
 OBJECT = r"(?: (?!of )[\w$.:@/-]*[\w$.@/-](?: or others)?)?(?: \([\w$.:@]+(?: or others)?\))?"
 
 
+NODE = re.compile(rf"(?<!^) node 0x[0-9a-f]+{OBJECT}")
+OWN_OBJECT = re.compile(rf"^(handle|node|cookie) (0x)?[0-9a-f]+{OBJECT}")
+ADDRESS = re.compile(r"^address 0x[0-9a-f]+")
+HANDLE = re.compile(rf"\bhandle [0-9]+{OBJECT}")
+
+
 def likeness(path: str, *processes: str | None) -> str:
     """A path without what differs if one cause is seen in several processes: the processes' numbers, nodes with their
     services and interfaces, handles, cookies and addresses. `processes` are what a process is called in the path, and
     its name, in turns."""
     for who, name in zip(processes[::2], processes[1::2]):
-        if who:
+        if who and who in path:  # To compile an expression for each process takes longer.
             path = re.sub(rf"(?<!\S){re.escape(who)}(?!\w)", lambda _: name or "a process", path)
-    path = re.sub(rf"(?<!^) node 0x[0-9a-f]+{OBJECT}", "", path)
-    path = re.sub(rf"^(handle|node|cookie) (0x)?[0-9a-f]+{OBJECT}", r"\1s", path)
-    path = re.sub(r"^address 0x[0-9a-f]+", "addresses", path)
-    return re.sub(rf"\bhandle [0-9]+{OBJECT}", "a handle", path)
+    path = NODE.sub("", path)
+    path = OWN_OBJECT.sub(r"\1s", path)
+    path = ADDRESS.sub("addresses", path)
+    return HANDLE.sub("a handle", path)
 
 
 def defect_key(kind: str, who: str, path: str) -> str:

@@ -1,4 +1,5 @@
-"""docs/RULES.md: its thresholds have their values, and the sessions that it names get their rules."""
+"""docs/RULES.md: its thresholds have their values, the sessions that it names get their rules, and it says what missing
+frames make of a rule."""
 
 import re
 from typing import Iterable, Iterator
@@ -8,6 +9,9 @@ from checks.viewer.sessions.cases import Case
 from viewer.rules.thresholds import THRESHOLDS
 
 PAGE = ROOT / "docs/RULES.md"
+RULES = ROOT / "viewer/rules/rule.sql"
+# Real whatever is missing: one record shows it.
+SHOWN_BY_ONE = {"O1"}
 VERDICTS = CHECKS / "recorder/driver/verdicts.txt"
 NAMED = re.compile(r"`([^`]+)`")
 # Thresholds in seconds.
@@ -38,6 +42,20 @@ def wrong_thresholds(text: str) -> Iterator[str]:
         yield from (f"{rule}: no threshold {name}" for name in NAMED.findall(names) if name not in THRESHOLDS)
 
 
+def wrong_missing(text: str) -> Iterator[str]:
+    """Rules of which the page says something else than the table in rule.sql: what missing frames make of them. Each
+    rule that is real must be in that table, but those that one record shows."""
+    rules, _, table = RULES.read_text("utf-8").partition("INSERT INTO if_missing VALUES")
+    due = dict(re.findall(r"\('(\w+)', '(\w+)'\)", table))
+    told = {rule: becomes for becomes, named in re.findall(r"^  - (\w+) in place of (.*)$", text, re.MULTILINE)
+            for rule in re.findall(r"[A-Z]\d+", named.partition(", and where")[0].partition(". ")[0])}
+    yield from (f"{rule}: missing frames make it {due.get(rule, rule)}, not {told.get(rule, rule)}"
+                for rule in sorted(due.keys() | told.keys()) if due.get(rule) != told.get(rule))
+    real = set(re.findall(r"\('(\w+)', 'real',", rules))
+    yield from (f"{rule}: real, and rule.sql does not say what missing frames make of it"
+                for rule in sorted(real - due.keys() - SHOWN_BY_ONE))
+
+
 def stored_rules() -> set[tuple[str, str]]:
     """The scenarios of samples/driver, each with its rules of verdict real or maybe."""
     lines = [line.split("\t") for line in VERDICTS.read_text("utf-8").splitlines() if not line.startswith("#")]
@@ -59,5 +77,5 @@ def wrong_sessions(text: str, cases: Iterable[Case]) -> Iterator[str]:
 def faults_of_page(cases: Iterable[Case]) -> Iterator[str]:
     """What is wrong with the page."""
     text = PAGE.read_text("utf-8")
-    for what in (*wrong_thresholds(text), *wrong_sessions(text, cases)):
+    for what in (*wrong_thresholds(text), *wrong_missing(text), *wrong_sessions(text, cases)):
         yield f"docs/RULES.md: {what}"

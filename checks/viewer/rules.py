@@ -8,8 +8,6 @@ docs/RULES.md has the thresholds and, for each rule, a session that gets it.
                                         line says what tells it. EDIT is a part of the names of some, or several with
                                         commas
     checks/run rules -- --show CASE     prints the findings of the sessions whose name has this text
-
-The report of a session is that of the second reading, its tables are those of `./listing`.
 """
 
 import argparse
@@ -24,50 +22,23 @@ from typing import Iterator
 
 from checks.kit.checking import Fail, check
 from checks.kit.programs import CHECKS, DRIVER, LISTING, ROOT
-from checks.kit.second_reading import reading
 from checks.viewer.edits import Edit, edited, edits_of
-from checks.viewer.heads import faults_of_heads, keep_raw
+from checks.viewer.heads import faults_of_heads
 from checks.viewer.rule_page import faults_of_page
-from checks.viewer.sessions import (  # noqa: F401
-    behind_cases, book_cases, crash_cases, death_cases, defect_cases, freeze_cases, kept_cases, late_cases, limit_cases,
-    name_cases, pool_cases, stack_cases, state_cases)
-from checks.viewer.sessions.cases import CASES, Case
-from checks.viewer.sessions.session import Session
+from checks.viewer.sessions.every import CASES, Case
+from checks.viewer.sessions.played import base_of, judged
 from viewer.database import loading, raw_tables
 from viewer.database.programs import build_programs
 from viewer.database.sqlite import open_database
 from viewer.rules import judging
 
-def made(room: pathlib.Path, number: int, one: Case) -> bytes:
+
+def made(room: pathlib.Path, one: Case) -> bytes:
     """The database of a case before it is judged."""
-    session = Session(one.has_side)
-    one.play(session)
-    capture, side, rows, report = (room / f"{number}.{what}" for what in ("cap", "side", "rows", "report"))
-    capture.write_bytes(session.capture())
-    side.write_text(session.side(), "utf-8")
-    for name, text in session.copies.items():
-        (room / f"{number}.{name}").write_text(text, "utf-8")
-    rows.mkdir()
-    subprocess.run([LISTING, "--tables", rows, capture], check=True, stdout=subprocess.DEVNULL)
-    status, lines = reading(session.capture())
-    if status:
-        raise SystemExit(f"checks/rules: {one.name}: {lines[0]}")
-    report.write_text("".join(f"{line}\n" for line in lines), "utf-8")
-    base = room / f"{number}.db"
-    raw_tables.load_rows(base, rows, str(side) if one.has_side else None)
-    database = open_database(base)
-    database.set_authorizer(keep_raw)
-    loading.fill(database, [str(capture)], str(side) if one.has_side else None, report, None)
-    database.close()
-    return base.read_bytes()
-
-
-def judged(base: bytes, folder: pathlib.Path = judging.FOLDER) -> sqlite3.Connection:
-    """A copy of the database, judged by the rules of a folder."""
-    database = sqlite3.connect(":memory:", isolation_level=None)
-    database.deserialize(base)
-    judging.judge(database, folder)
-    return database
+    try:
+        return base_of(room, one.played())
+    except ValueError as error:
+        raise SystemExit(f"checks/rules: {one.name}: {error}") from error
 
 
 def rules_of(database: sqlite3.Connection) -> Counter:
@@ -196,7 +167,7 @@ def judge(given: argparse.Namespace, room: pathlib.Path, fail: Fail) -> None:
     for fault in (*faults_of_heads(), *faults_of_page(CASES)):
         fail(fault)
     with ThreadPoolExecutor(os.cpu_count()) as pool:
-        bases = list(pool.map(made, repeat(room), range(len(CASES)), CASES))
+        bases = list(pool.map(made, repeat(room), CASES))
     if given.show is not None:
         show(bases, given.show)
     for one, base in zip(CASES, bases):

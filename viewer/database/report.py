@@ -1,5 +1,6 @@
 """The rows of the proved report: their columns by section, and the findings that they become."""
 
+import functools
 import pathlib
 import sqlite3
 from typing import Iterable, Iterator
@@ -30,8 +31,10 @@ def columns_of(section: str) -> str:
     return " ".join("low" if name.endswith("_low") else name for name in COLUMNS[section])
 
 
+@functools.lru_cache(1)
 def fields_of(section: str, text: str) -> dict[str, str]:
-    """The fields of a row by name. A row of `oneway` has no handle if it is of what a process received."""
+    """The fields of a row by name: several are asked for, one after another. A row of `oneway` has no handle if it is of
+    what a process received."""
     return dict(zip(COLUMNS[section], text.split()))
 
 

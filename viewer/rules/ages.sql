@@ -2,8 +2,8 @@
 -- Times are used if the side list has them, and frames otherwise.
 -- needs: database/schema.sql: book, book_opening, capture, finding, raw_call, raw_capture, raw_delivery, raw_frame,
 --   raw_record, raw_thread, side_time; database/views.sql: process, thread; late.sql: late
--- makes: temporary tables: last, process_life, begun, life, usual, old, ended, leaving; indexes: life_of_process,
---   begun_process, life_of_thread, old_finding, ended_finding, leaving_finding
+-- makes: temporary tables: last, process_life, begun, life, written, usual, old, ended, leaving; indexes:
+--   life_of_process, begun_process, life_of_thread, old_finding, ended_finding, leaving_finding
 
 -- ---- how long: to the end of its thread, its process or the capture
 
@@ -56,9 +56,12 @@ UPDATE finding SET later = (SELECT count(*) FROM (SELECT 1 FROM (SELECT depth FR
     (SELECT o.depth + (o.closer IS NULL OR o.closer > finding.place) FROM raw_call o WHERE o.utid = finding.utid
       AND o.place < finding.place ORDER BY o.place DESC LIMIT 1), 1) LIMIT :MOST_LATER))
 WHERE section IN ('calls', 'served', 'buffers');
+CREATE TEMP TABLE written(utid INTEGER, seq INTEGER, PRIMARY KEY(utid, seq)) WITHOUT ROWID;
+INSERT INTO written
+SELECT utid, seq FROM raw_frame WHERE direction = :WRITE AND records > 0 AND utid IN (SELECT utid FROM finding);
 UPDATE finding SET later = max(coalesce(later, 0), iif(t.last_write > finding.place, max(1, (SELECT count(*) FROM (
-    SELECT 1 FROM raw_frame f WHERE f.seq > finding.seq AND f.seq <= finding.seq + :FRAMES_AHEAD
-      AND f.utid = finding.utid AND f.direction = :WRITE AND f.records > 0 LIMIT :MOST_LATER))), 0))
+    SELECT 1 FROM written w WHERE w.utid = finding.utid AND w.seq > finding.seq AND w.seq <= finding.seq + :FRAMES_AHEAD
+    LIMIT :MOST_LATER))), 0))
 FROM raw_thread t
 WHERE t.utid = finding.utid AND section NOT IN ('calls', 'served')
   AND (later IS NULL OR EXISTS (SELECT 1 FROM raw_record r

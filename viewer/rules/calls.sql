@@ -1,8 +1,8 @@
 -- A, C, T, U: calls and served calls that are open.
 -- needs: database/schema.sql: finding, raw_call, raw_delivery, raw_thread, side_time; nodes.sql: who; facts.sql:
---   from_before; ages.sql: ended, last, life, old; waits.sql: full_pool, lock_ring, pool, reach, ring, waited, waits,
+--   from_before; ages.sql: ended, last, life, old; waits.sql: full_pool, lock_ring, pool, ring, step, waited, waits,
 --   waits_for; rule.sql: lossy; pools.sql: full_wait; judging.py: counted, duration
--- makes: nothing
+-- makes: temporary tables: keeps_busy
 
 -- A: one finding with an open call.
 UPDATE finding SET rule = 'A1', lead = w.id FROM waits w
@@ -25,10 +25,9 @@ UPDATE finding SET rule = CASE WHEN l.ended_after < c.seq + c.dur_seq THEN 'T1'
   note = 'replied at ' || c.closer
 FROM waits w JOIN raw_call c ON c.place = w.delivery JOIN life l ON l.utid = w.utid, last
 WHERE rule IS NULL AND w.id = finding.id AND w.replied = 2;
-UPDATE finding SET rule = iif(upid IN (SELECT upid FROM lossy), 'M2', 'C3')
+UPDATE finding SET rule = 'C3'
 WHERE rule IS NULL AND id IN (SELECT id FROM ring) AND finding.id IN (SELECT id FROM old);
-UPDATE finding SET rule = iif(upid IN (SELECT upid FROM lossy) OR coalesce(target, 0) IN (SELECT upid FROM lossy), 'M2',
-  'C8')
+UPDATE finding SET rule = 'C8'
 WHERE rule IS NULL AND id IN (SELECT id FROM lock_ring) AND n_good >= :ENOUGH;
 -- What waits for another call, and the call that a full pool waits for. If frames are missing, a delivery may be too.
 UPDATE finding SET waiting = w.n FROM waited w WHERE w.id = finding.id;
@@ -45,14 +44,15 @@ WHERE rule IS NULL AND section = 'calls' AND what = 'open' AND l.place = finding
   AND age - (l.until - l.since) <= max(:LONG, :OLD * coalesce(longest, 0));
 UPDATE finding SET rule = 'U1' WHERE rule IS NULL AND section IN ('calls', 'served', 'books') AND what = 'open'
   AND n_good >= :ENOUGH AND coalesce(age <= :USUAL * longest, age_seq <= :USUAL * longest_seq);
-UPDATE finding SET rule = iif(upid IN (SELECT upid FROM lossy), 'M2', 'C6')
-WHERE rule IS NULL AND finding.id IN (SELECT id FROM old)
-  AND EXISTS (SELECT 1 FROM reach r JOIN waits x ON x.server_upid = -r.begin AND x.delivery IS NULL
-    JOIN finding q ON q.id = x.id JOIN old o ON o.id = q.id
-    WHERE r.at = finding.id AND r.begin < 0 AND q.rule = 'C7' AND q.age > :VERY_LONG);
--- If frames of its target are missing, it may wait for another call there.
-UPDATE finding SET rule = iif(upid IN (SELECT upid FROM lossy) OR coalesce(target, 0) IN (SELECT upid FROM lossy), 'M2',
-  'U2')
+-- What the pools lead to in which an old call waits for long.
+CREATE TEMP TABLE keeps_busy AS
+WITH RECURSIVE way(at) AS (SELECT -w.server_upid FROM waits w JOIN finding q USING (id) JOIN old USING (id)
+    WHERE w.delivery IS NULL AND q.rule = 'C7' AND q.age > :VERY_LONG
+  UNION SELECT s.next FROM way w JOIN step s ON s.id = w.at)
+SELECT at AS id FROM way;
+UPDATE finding SET rule = 'C6'
+WHERE rule IS NULL AND finding.id IN (SELECT id FROM old) AND finding.id IN (SELECT id FROM keeps_busy);
+UPDATE finding SET rule = 'U2'
 WHERE rule IS NULL AND section IN ('calls', 'served') AND what = 'open' AND n_good >= :ENOUGH
   AND coalesce(age > max(:LONG, :OLD * longest), age_seq > :OLD * longest_seq);
 -- Several calls of one path that all wait longer than any that came to a good end are no chance.
@@ -82,5 +82,5 @@ UPDATE finding SET note = iif(waiting > 0, counted(waiting, 'waits', 'wait') || 
   || coalesce((SELECT '; in a ring with ' || n.called || ' of ' || o.who || ', ' || q.path
     FROM lock_ring l JOIN waits n ON n.id = l.next JOIN finding q ON q.id = l.next JOIN who o ON o.upid = n.upid
     WHERE l.id = finding.id), '')
-FROM waits w WHERE w.id = finding.id AND rule IN ('B1', 'C3', 'C4', 'C5', 'C6', 'C8', 'C9', 'U2', 'M2');
+FROM waits w WHERE w.id = finding.id AND rule IN ('B1', 'C3', 'C4', 'C5', 'C6', 'C8', 'C9', 'U2');
 UPDATE finding SET rule = 'C4' WHERE rule IS NULL AND section = 'served' AND what = 'open';

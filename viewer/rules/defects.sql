@@ -11,7 +11,7 @@
 -- If any of that changes, the last number in this file, `prints`, rises: keys with another one are not compared.
 -- needs: database/schema.sql: call_interface, capture, finding, method, object_interface; database/views.sql: call,
 --   delivery, device, handle, interface, process, record, send, status; nodes.sql: node_of; rule.sql: rule; groups.sql:
---   title, traffic; judging.py: defect_key, status_name
+--   titled, traffic; judging.py: defect_key, status_name
 -- makes: tables: program, call_text, defect, finding_defect; temporary tables: came_by, matter, told; indexes:
 --   finding_of_defect
 
@@ -109,8 +109,7 @@ SELECT id, kind || coalesce(' (' || answer || ')', '') AS kind, who, own_call AS
     WHEN 'handle' THEN handle || object WHEN 'node' THEN 'node' || object ELSE how END AS path
 FROM (SELECT m.id, m.how, c.program || ' on ' || c.device AS who, p.program AS own, t.call,
     iif(m.causes IN (m.own, m.other), t.call, NULL) AS own_call,
-    coalesce(r.fault, (SELECT t.title FROM title t WHERE t.rule IS NULL AND t.section = m.section
-      AND coalesce(t.what = m.what, 1) ORDER BY t.what IS NULL LIMIT 1)) AS kind,
+    coalesce(r.fault, k.of_section) AS kind,
     CASE WHEN m.section = 'calls' AND m.what = 'failed' THEN (SELECT e.kind FROM call c
         JOIN record e ON e.place = c.closer WHERE c.place = m.place)
       WHEN m.section = 'refused' THEN m.what END AS answer,
@@ -119,7 +118,8 @@ FROM (SELECT m.id, m.how, c.program || ' on ' || c.device AS who, p.program AS o
     iif(m.handle = 0, 'handle 0', 'handle') AS handle,
     coalesce(o.program, iif(m.handle = 0, 'handle 0', 'handle')) AS other,
     coalesce(', ' || o.program, '') || coalesce(' (' || i.name || ')', '') AS object
-  FROM matter m JOIN rule r ON r.id = m.rule JOIN program p ON p.upid = m.own JOIN program c ON c.upid = m.causes
+  FROM matter m JOIN rule r ON r.id = m.rule JOIN titled k USING (rule, section, what)
+    JOIN program p ON p.upid = m.own JOIN program c ON c.upid = m.causes
     LEFT JOIN program o ON o.upid = m.other LEFT JOIN call_text t ON (t.code, t.upid, t.ptr) = (m.code, m.upid, m.ptr)
     LEFT JOIN object_interface j ON (j.upid, j.ptr) = (m.upid, m.ptr) LEFT JOIN interface i ON i.id = j.interface);
 

@@ -9,7 +9,7 @@ SELECT t.upid, r.address, d.place, d.freed_by FROM raw_delivery d JOIN raw_recor
 WHERE EXISTS (SELECT 1 FROM finding WHERE section = 'frees') AND d.freed_by IS NOT NULL
   AND r.address IN (SELECT x.address FROM finding f JOIN raw_record x USING (place) WHERE f.section = 'frees');
 CREATE INDEX temp.freed_address ON freed(upid, address, place);
-UPDATE finding SET rule = iif(finding.upid IN (SELECT upid FROM lossy), 'M1', 'F1'), note = 'at ' || d.freed_by,
+UPDATE finding SET rule = 'F1', note = 'at ' || d.freed_by,
   path = iif(d.kind = 'BR_REPLY', 'reply to ', '') || coalesce(
     (SELECT call_name(v.code, v.upid, v.ptr) FROM came_to v WHERE v.place = d.place),
     (SELECT call_name(v.code, v.upid, v.ptr) FROM sent_to v WHERE v.place = d.call), call_name(d.code, NULL, NULL),

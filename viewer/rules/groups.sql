@@ -2,8 +2,8 @@
 -- needs: database/schema.sql: finding, raw_call, raw_delivery, raw_generation, raw_record, raw_send, side_time;
 --   database/views.sql: process; nodes.sql: node_of, who; facts.sql: given; rule.sql: rule; causes.sql: led_by;
 --   judging.py: counted, likeness, without_methods
--- makes: tables: title, finding_head, finding_group, traffic; temporary tables: named, ranked, common, paths; indexes:
---   head_of_group, ranked_group, common_of, paths_of
+-- makes: tables: title, finding_head, finding_group, traffic; temporary tables: titled, named, ranked, common, paths;
+--   indexes: titled_kind, head_of_group, ranked_group, common_of, paths_of
 
 -- The title of a finding: by its rule, or by its section and what it is in that section.
 CREATE TABLE title(rule TEXT, section TEXT, what TEXT, title TEXT NOT NULL) STRICT;
@@ -40,16 +40,26 @@ INSERT INTO title VALUES
   ('E10', NULL, NULL, 'calls in which the server ended'),
   (NULL, 'queues', NULL, 'oneway sends that wait longer and longer');
 
+-- The same for each kind of finding that there is; and its title without what its rule says.
+CREATE TEMP TABLE titled AS
+SELECT k.rule, k.section, k.what,
+  (SELECT t.title FROM title t WHERE (t.rule IS NULL OR t.rule = k.rule)
+    AND (t.section IS NULL OR t.section = k.section) AND (t.what IS NULL OR t.what = k.what)
+    ORDER BY t.rule IS NULL, t.what IS NULL LIMIT 1) AS title,
+  (SELECT t.title FROM title t WHERE t.rule IS NULL AND t.section = k.section AND coalesce(t.what = k.what, 1)
+    ORDER BY t.what IS NULL LIMIT 1) AS of_section
+FROM (SELECT DISTINCT rule, section, what FROM finding WHERE rule NOTNULL AND lead IS NULL) k;
+CREATE UNIQUE INDEX temp.titled_kind ON titled(rule, section, what);
+
 -- The group of each finding, named by its leading finding: an open call leads its served end and its buffer.
 CREATE TABLE finding_head(id INTEGER PRIMARY KEY, grp INTEGER NOT NULL) STRICT;
 CREATE TEMP TABLE named AS
 SELECT f.id, f.path, likeness(f.path, t.who, p.name, o.who, q.name, s.who, x.name) AS likeness, f.rule,
   v.sender AS giver,
   CASE r.verdict WHEN 'real' THEN 1 WHEN 'maybe' THEN 2 WHEN 'explained' THEN 3 ELSE 4 END AS rank,
-  (SELECT t.title FROM title t WHERE (t.rule IS NULL OR t.rule = f.rule)
-    AND (t.section IS NULL OR t.section = f.section) AND (t.what IS NULL OR t.what = f.what)
-    ORDER BY t.rule IS NULL, t.what IS NULL LIMIT 1) AS title
-FROM finding f JOIN rule r ON r.id = f.rule LEFT JOIN who t ON t.upid = f.target
+  k.title
+FROM finding f JOIN rule r ON r.id = f.rule JOIN titled k USING (rule, section, what)
+  LEFT JOIN who t ON t.upid = f.target
   LEFT JOIN process p ON p.upid = f.target LEFT JOIN who o ON o.upid = f.upid LEFT JOIN process q ON q.upid = f.upid
   LEFT JOIN given v ON v.generation = f.generation AND f.rule IN ('H5', 'H6', 'H8', 'H9', 'H10')
   LEFT JOIN who s ON s.upid = v.sender LEFT JOIN process x ON x.upid = v.sender

@@ -1,7 +1,7 @@
 -- H1, H2: handles that nobody gave, and references let go of more often than taken; H6, H7: what the driver's books of
 -- the beginning have of these.
 -- needs: database/schema.sql: book_handle, book_node, finding, raw_delivery, raw_generation, raw_record, raw_thread,
---   report; facts.sql: given, given_way; ages.sql: begun, process_life; rule.sql: lossy; judging.py: counted, number_in
+--   report; facts.sql: given, given_way; ages.sql: begun, process_life; judging.py: counted, number_in
 -- makes: temporary tables: unseen, handle_row, held_before, let_go_again, again_way, too_often; indexes:
 --   let_go_again_of
 
@@ -46,19 +46,18 @@ FROM handle_row h JOIN finding f USING (id) JOIN report r ON r.id = f.report
     iif(f.section = 'handles', 0, f.cookie))
 WHERE NOT h.known AND (h.least < 0 OR f.section = 'handles' AND NOT h.given AND f.handle <> 0);
 UPDATE finding SET rule = CASE WHEN h.least >= 0 THEN iif(h.strong > 0 OR h.weak > 0, 'H6', 'H7')
-    WHEN NOT h.begun THEN 'P1' ELSE iif(finding.upid IN (SELECT upid FROM lossy), 'M1', 'H2') END,
+    WHEN NOT h.begun THEN 'P1' ELSE 'H2' END,
   what = CASE WHEN h.least < 0 THEN what WHEN h.strong > 0 OR h.weak > 0 THEN 'held' ELSE 'balanced' END,
   note = 'before the recording: strong ' || h.had_strong || ', weak ' || h.had_weak
 FROM held_before h WHERE rule IS NULL AND h.id = finding.id;
 UPDATE handle_row SET known = begun WHERE NOT known;
 UPDATE finding SET rule = CASE WHEN NOT h.known OR EXISTS (SELECT 1 FROM unseen u WHERE u.upid = finding.upid
-    AND u.place < finding.place) THEN 'P1'
-  WHEN finding.upid IN (SELECT upid FROM lossy) THEN 'M1' ELSE 'H1' END
+    AND u.place < finding.place) THEN 'P1' ELSE 'H1' END
 FROM handle_row h
 WHERE rule IS NULL AND section = 'handles' AND h.id = finding.id AND NOT h.given AND finding.handle <> 0
   AND EXISTS (SELECT 1 FROM raw_generation g WHERE g.upid = h.upid AND g.handle = h.handle
     AND g.acquired + g.released + g.increfs + g.decrefs > 0);
-UPDATE finding SET rule = iif(h.known, iif(finding.upid IN (SELECT upid FROM lossy), 'M1', 'H2'), 'P1')
+UPDATE finding SET rule = iif(h.known, 'H2', 'P1')
 FROM handle_row h
 WHERE rule IS NULL AND h.id = finding.id AND h.least < 0;
 -- How often a handle was let go of too often, in all that the capture has of it: its number may have meant one object

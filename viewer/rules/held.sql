@@ -58,7 +58,7 @@ FROM (SELECT generation, sum(n * (left >= :LATELY)) AS half, sum(n * (left >= :L
       LEFT JOIN side_time x ON x.seq = c.seq) GROUP BY 1)
 WHERE held - half >= max(:TOO_MANY, :GROWTH * held) AND half < later AND later < held;
 CREATE UNIQUE INDEX temp.more_references_of ON more_references(generation);
-UPDATE finding SET rule = iif(o.told NOTNULL AND finding.upid NOT IN (SELECT upid FROM lossy), 'H11', 'H4'),
+UPDATE finding SET rule = iif(o.told NOTNULL, 'H11', 'H4'),
   note = iif(m.strong > 1 AND g.strong > 0,
     counted(g.acquired, 'time') || ', and let go of ' || counted(g.released, 'time'),
     counted(g.increfs, 'time') || ', weakly, and let go of ' || counted(g.decrefs, 'time'))
@@ -117,9 +117,8 @@ SELECT w.id AS way, (SELECT group_concat(who || ' keeps ' || kept || ' of ' || n
   FROM (SELECT x.who, o.kept, o.n FROM given_way o JOIN who x USING (upid)
     WHERE o.way = w.way AND o.sender = w.sender AND o.upid <> w.upid ORDER BY o.n DESC, o.upid LIMIT :NAMED)) AS told
 FROM kept_way w;
--- What is said of a whole way. Where only some are kept, the missing frames may have let go of these.
-UPDATE finding SET code = g.code, rule = CASE WHEN finding.upid NOT IN (SELECT upid FROM lossy) THEN rule
-    WHEN rule = 'H10' THEN 'M2' WHEN rule = 'H5' THEN rule ELSE 'M1' END,
+-- What is said of a whole way.
+UPDATE finding SET code = g.code,
   path = g.way || iif(g.reply, '', ' from ' || (SELECT who FROM who WHERE who.upid = g.sender)),
   note = nullif(ltrim(coalesce(note, '') || coalesce('; ' || w.told, '') || coalesce('; ' || e.told, ''), '; '), '')
 FROM kept_handle k JOIN given g USING (generation) LEFT JOIN growing w ON w.way = k.way

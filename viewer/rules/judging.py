@@ -1,10 +1,12 @@
 """The rules, file after file, and the words by which their statements make texts."""
 
+import functools
 import pathlib
 import sqlite3
 
 from viewer.database.report import number_of
 from viewer.database.sqlite import named_numbers, statements_of
+from viewer.rules import waiting
 from viewer.rules.names import Names
 from viewer.rules.thresholds import THRESHOLDS
 from viewer.units import counted, defect_key, duration_of, likeness, status_name
@@ -15,8 +17,8 @@ FOLDER = pathlib.Path(__file__).resolve().parent
 JUDGING = ("nodes.sql", "names.sql", "freeze_facts.sql", "facts.sql", "late.sql", "ages.sql", "waits.sql", "rule.sql",
            "pools.sql", "calls.sql", "used_up.sql", "failures.sql", "crashes.sql", "limits.sql", "answers.sql",
            "strays.sql", "buffers.sql", "handles.sql", "ways.sql", "held.sql", "requests.sql", "deaths.sql",
-           "freezes.sql", "frees.sql", "objects.sql", "oneway.sql", "behind.sql", "culprits.sql", "causes.sql",
-           "groups.sql", "defects.sql", "stacks.sql")
+           "freezes.sql", "frees.sql", "objects.sql", "oneway.sql", "behind.sql", "missing.sql", "culprits.sql",
+           "causes.sql", "groups.sql", "defects.sql", "stacks.sql")
 
 
 def judge(database: sqlite3.Connection, folder: pathlib.Path = FOLDER) -> None:
@@ -31,12 +33,14 @@ def judge(database: sqlite3.Connection, folder: pathlib.Path = FOLDER) -> None:
     database.create_function("likeness", -1, likeness, deterministic=True)
     database.create_function("number_in", 3, number_of, deterministic=True)
     database.create_function("status_name", 1, status_name, deterministic=True)
-    database.create_function("defect_key", 3, defect_key, deterministic=True)
+    database.create_function("defect_key", 3, functools.lru_cache(4096)(defect_key), deterministic=True)
     numbers = {**named_numbers(database), **THRESHOLDS}
     for name in JUDGING:
         database.execute("BEGIN")
         for statement in statements_of(folder / name):
             database.execute(statement, numbers)
+        if name == "waits.sql":
+            waiting.count(database, THRESHOLDS["POOLS"])
         database.execute("COMMIT")
         if name == "names.sql":
             names_of = Names(database)

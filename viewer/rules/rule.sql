@@ -1,7 +1,8 @@
--- The rules, of which the first one that fits a finding decides, and the processes of which frames are missing.
+-- The rules, of which the first one that fits a finding decides; and the processes of which frames are missing, with
+-- what that makes of a rule.
 -- docs/RULES.md has the rules in words.
 -- needs: database/schema.sql: raw_capture, raw_process, side_lost, side_missed; ages.sql: last, process_life
--- makes: tables: rule; temporary tables: lossy
+-- makes: tables: rule; temporary tables: lossy, if_missing
 
 -- Processes with missing frames. If the side list does not say whose a missing frame was, it may be of any process.
 CREATE TEMP TABLE lossy AS
@@ -89,3 +90,15 @@ INSERT INTO rule(id, verdict, text) VALUES
   ('W2', 'explained', 'It waits for the oneway delivery before it to be freed.'),
   ('W3', 'maybe', 'Sent and confirmed, and never seen to come.'),
   ('W4', 'maybe', 'Its receiver falls behind: sends to one object wait longer and longer, at last over 1 s.');
+
+-- ---- rules that rest on what no frame shows
+
+-- What missing frames make of a finding, by its rule. What it lacks may be in one of them (M1, M2), or the error reply
+-- that it rests on may have ended another send (M3). All rules that are real are here but O1, which one record shows;
+-- and of others those of which nothing is left without what is missing.
+CREATE TEMP TABLE if_missing(rule TEXT PRIMARY KEY, becomes TEXT NOT NULL) STRICT;
+INSERT INTO if_missing VALUES
+  ('C3', 'M2'), ('C6', 'M2'), ('C8', 'M2'), ('Q1', 'M2'), ('U2', 'M2'), ('U3', 'M2'), ('H10', 'M2'),
+  ('E1', 'M3'), ('E5', 'M3'), ('E6', 'M3'), ('E10', 'M3'), ('E11', 'M3'), ('E12', 'M3'), ('S1', 'M3'), ('S2', 'M3'),
+  ('S4', 'M1'), ('F1', 'M1'), ('F2', 'M1'), ('H1', 'M1'), ('H2', 'M1'), ('H8', 'M1'), ('H9', 'M1'), ('H11', 'H4'),
+  ('D7', 'M1'), ('D8', 'M1');

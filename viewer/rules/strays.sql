@@ -1,4 +1,4 @@
--- S: strays, and calls that are crossed. M3: sends that an error reply may have ended.
+-- S: strays, and calls that are crossed.
 -- needs: database/schema.sql: book_call, finding, raw_call, raw_frame, raw_record, raw_send, raw_thread; ages.sql:
 --   begun, process_life; rule.sql: lossy
 -- makes: temporary tables: first_crossed, begun_call; indexes: first_crossed_of
@@ -32,7 +32,3 @@ UPDATE finding SET rule = CASE
   WHEN (SELECT known FROM process_life p WHERE p.upid = finding.upid)
     OR EXISTS (SELECT 1 FROM begun_call b WHERE b.id = finding.id AND b.known) THEN 'S4' ELSE 'P1' END
 WHERE rule IS NULL AND (section = 'strays' OR what = 'crossed');
-
--- M: if frames are missing, an error reply may belong to another send, but not if the send has bad objects.
-UPDATE finding SET rule = 'M3' WHERE rule IN ('E1', 'E5', 'E6', 'S1', 'S2') AND upid IN (SELECT upid FROM lossy)
-  AND place NOT IN (SELECT place FROM finding WHERE section = 'objects');

@@ -46,6 +46,10 @@ THRESHOLDS = {
     # A process that has no more open calls than these may wait, with each of them, for each of another such process;
     # and what others wait for there may wait for each of these calls (C8, C9).
     "FEW": 16,
+    # So many steps are taken in all to look for rings (C3, C8, C9), or if there are very many open calls, up to twice
+    # STEPS from each, the shortest ways first. Of the full pools that a call keeps busy, so many count for what waits
+    # for it.
+    "MOST_STEPS": 100_000, "POOLS": 64,
     # So many refused sends have a note of what was in the way, and so many others are named that keep handles, too.
     "NOTED": 16, "NAMED": 4,
 }

@@ -18,10 +18,10 @@ WHERE nth = (n + 1) / 2;
 -- If a call keeps the pool busy to the end, or is in a ring, that call is the finding, also where the loopers wait for
 -- it by other calls.
 CREATE TEMP TABLE told_by_call AS
-WITH RECURSIVE kept(server, at) AS (SELECT upid, id FROM holder WHERE upid IN (SELECT server FROM full_wait)
-  UNION SELECT k.server, s.next FROM kept k JOIN step s ON s.id = k.at LEFT JOIN finding f ON f.id = k.at
-    WHERE k.at < 0 OR f.rule = 'C7')
-SELECT DISTINCT k.server FROM kept k JOIN finding f ON f.id = k.at WHERE f.rule IN ('C3', 'C6', 'C8');
+WITH RECURSIVE told(at) AS (SELECT id FROM finding WHERE rule IN ('C3', 'C6', 'C8') AND EXISTS (SELECT 1 FROM full_wait)
+  UNION SELECT s.id FROM told t JOIN step s ON s.next = t.at LEFT JOIN finding f ON f.id = s.id
+    WHERE s.id < 0 OR f.rule = 'C7')
+SELECT DISTINCT upid AS server FROM holder WHERE id IN (SELECT at FROM told);
 CREATE TEMP TABLE used_up AS
 SELECT w.server, count(*) AS n, max(w.until - w.since) AS longest, u.dur AS usual,
   coalesce(sum(w.until - w.since > :OLD * u.dur) >= :OFTEN, 0) AS is_real

@@ -3,9 +3,9 @@
 --   raw_thread, side_calls, side_thread, side_time; database/views.sql: came_to, process, sent_to, thread; facts.sql:
 --   from_before; ages.sql: last, life, old, process_life; judging.py: call_name, duration
 -- makes: temporary tables: waits, few, waits_for, main_thread, ring_step, ring, lock_step, lock_way, lock_ring,
---   serves_on, queued, loop, taker, taken, holder, pool, full_pool, step, reach, waited; indexes: waits_thread,
---   waits_server, waits_delivery, next_wait, ring_step_from, lock_step_from, lock_way_from, lock_ring_of, queued_at,
---   pool_of, full_pool_of, step_from, reach_at, waited_for
+--   serves_on, queued, loop, taker, taken, holder, pool, full_pool, step, waited; indexes: waits_thread, waits_server,
+--   waits_delivery, next_wait, ring_step_from, lock_step_from, lock_way_from, lock_ring_of, queued_at, pool_of,
+--   full_pool_of, step_from, step_to
 
 -- Open calls, and what they wait for: the innermost call that the thread that got the call has made since; or, for a
 -- call that nobody got, the calls of the process that should get it. A call back to a process that waits for this very
@@ -50,7 +50,8 @@ WHERE id NOT IN (SELECT id FROM from_before) AND next NOT IN (SELECT id FROM fro
 CREATE INDEX temp.ring_step_from ON ring_step(id);
 CREATE TEMP TABLE ring AS
 WITH RECURSIVE chain(id, at, length) AS (SELECT id, id, 0 FROM waits
-  UNION SELECT c.id, n.next, c.length + 1 FROM chain c JOIN ring_step n ON n.id = c.at WHERE c.length < :STEPS)
+  UNION SELECT c.id, n.next, c.length + 1 FROM chain c JOIN ring_step n ON n.id = c.at WHERE c.length < :STEPS
+  LIMIT max(:MOST_STEPS, 2 * :STEPS * (SELECT count(*) FROM waits)))
 SELECT DISTINCT w.id FROM chain c JOIN waits w ON w.id = c.id JOIN waits e ON e.id = c.at
 WHERE c.length > 0 AND e.server_upid = w.upid AND (e.delivery IS NULL OR e.server <> w.utid
   AND e.replied = 0 AND w.utid IN (SELECT utid FROM main_thread));
@@ -75,7 +76,8 @@ CREATE INDEX temp.lock_step_from ON lock_step(id);
 CREATE TEMP TABLE lock_way AS
 WITH RECURSIVE way(id, at, length, by_lock) AS (SELECT id, next, 1, by_lock FROM lock_step
   UNION SELECT w.id, s.next, w.length + 1, max(w.by_lock, s.by_lock) FROM way w JOIN lock_step s ON s.id = w.at
-    WHERE w.length < :STEPS AND w.at <> w.id)
+    WHERE w.length < :STEPS AND w.at <> w.id
+  LIMIT max(:MOST_STEPS, 2 * :STEPS * (SELECT count(*) FROM waits)))
 SELECT DISTINCT id, at, by_lock FROM way;
 CREATE INDEX temp.lock_way_from ON lock_way(id, at);
 -- The calls of such a ring, each with the first call that it may wait for there.
@@ -168,21 +170,14 @@ SELECT upid, n, doing || '; ' || iif(n = 1, '1 send waits', n || ' sends wait') 
 WHERE threads = busy AND upid IN (SELECT upid FROM holder);
 CREATE UNIQUE INDEX temp.full_pool_of ON full_pool(upid);
 
--- What waits for a call, directly or not, and how many that are. The steps go from a full pool to what its threads are
--- in, from a call that nobody got to the pool, and from a call to the one that it waits for. A pool is a step for all
--- that wait there; in a ring, a call that is one of these does not wait for itself.
+-- What waits for what. The steps go from a full pool to what its threads are in, from a call that nobody got to the
+-- pool, and from a call to the one that it waits for: a pool is its process below 0.
 CREATE TEMP TABLE step AS
 SELECT -h.upid AS id, h.id AS next FROM holder h JOIN full_pool USING (upid)
 UNION SELECT w.id, -w.server_upid FROM waits w JOIN full_pool p ON p.upid = w.server_upid WHERE w.delivery IS NULL
 UNION SELECT n.id, n.next FROM waits_for n JOIN waits w USING (id) WHERE w.delivery NOTNULL;
 CREATE INDEX temp.step_from ON step(id);
-CREATE TEMP TABLE reach AS
-WITH RECURSIVE way(begin, at) AS (SELECT -upid, -upid FROM full_pool
-    UNION SELECT id, id FROM waits WHERE delivery NOTNULL
-  UNION SELECT w.begin, s.next FROM way w JOIN step s ON s.id = w.at)
-SELECT begin, at FROM way WHERE at > 0 AND at <> begin;
-CREATE INDEX temp.reach_at ON reach(at);
-CREATE TEMP TABLE waited AS
-SELECT r.at AS id, sum(coalesce(p.n, 1) - (r.begin IN (SELECT -q.upid FROM queued q WHERE q.id = r.at))) AS n
-FROM reach r LEFT JOIN full_pool p ON p.upid = -r.begin GROUP BY 1;
-CREATE UNIQUE INDEX temp.waited_for ON waited(id);
+CREATE INDEX temp.step_to ON step(next);
+-- How many wait for each call, directly or not, and at its pools. waiting.py counts them: the pairs of calls of which
+-- one waits for the other may be the square of the calls.
+CREATE TEMP TABLE waited(id INTEGER PRIMARY KEY, n INTEGER NOT NULL) STRICT;

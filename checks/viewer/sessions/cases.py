@@ -17,6 +17,11 @@ class Case(NamedTuple):
     words: tuple[str, ...]
     has_side: bool
 
+    def played(self) -> Session:
+        session = Session(self.has_side)
+        self.play(session)
+        return session
+
 
 CASES: list[Case] = []
 

@@ -4,6 +4,7 @@ Times are milliseconds. Each read or write takes one, unless a case waits longer
 needs nothing more to call it: `serve` makes a process the context manager, whose node is 0.
 """
 
+import re
 
 from checks.kit.captures import *
 
@@ -171,6 +172,17 @@ class Session:
         whose = f" device=0 process={process.number} thread={process.number}" if process else ""
         self.tell(f"lost {self.sequence}{whose} why=ring-full")
         self.missing += 1
+
+    def drops(self, sequence):
+        """A frame that is there was lost; the side list says whose it was. Returns the bytes of the frame."""
+        at = next(at for at, bytes in enumerate(self.frames[1:], 1) if bytes.startswith(u64(sequence)))
+        lost = self.frames.pop(at)
+        process, thread = (int.from_bytes(lost[at:at + 4], "little") for at in (8, 12))
+        whose = f"device=0 process={process} thread={thread} why=ring-full"
+        self.lines = [re.sub(rf" frame {sequence}\n", f" lost {sequence} {whose}\n", line) for line in self.lines
+                      if f" call {sequence} " not in line]
+        self.missing += 1
+        return lost
 
     def books(self, moment, in_rust="", **openings):
         """The driver's book `state`, copied now: of each process, as `of_100`, the lines; then what the driver in Rust

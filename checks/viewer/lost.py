@@ -1,0 +1,76 @@
+"""Checks that no finding of `view` is `real` because of a lost frame: of each small session of sessions/*cases.py
+frames are lost in turn, as the side list says. What is `real` then must be `real` in the whole session, too.
+
+    checks/run lost                    loses some frames of each session
+    checks/run lost -- --all           loses each frame of each session: some minutes
+    checks/run lost -- --all CASE      of the sessions whose name has this text
+"""
+
+import argparse
+import os
+import pathlib
+import sqlite3
+from concurrent.futures import ProcessPoolExecutor
+from itertools import repeat
+
+from checks.kit.checking import Fail, check
+from checks.kit.programs import ROOT
+from checks.viewer.sessions.every import CASES
+from checks.viewer.sessions.played import base_of, judged
+from checks.viewer.sessions.session import Session
+from viewer.database import raw_tables
+from viewer.database.programs import build_programs
+
+# So many frames of a session lie between those that `.ci/run` loses.
+STEP = 16
+
+# What a finding is, in a session and in the same session with a frame less: a handle, a node, or the place of a record.
+Known = tuple[object, ...]
+
+
+def real_ones(database: sqlite3.Connection, lost_at: int, length: int) -> dict[Known, str]:
+    """The real findings with their rules. Places are those of the session in which these bytes were not lost."""
+    return {tuple(known): rule for rule, *known in database.execute(
+        "SELECT f.rule, f.section, p.process, iif(f.section IN ('handles', 'nodes', 'pools', 'queues'), NULL,"
+        " f.place + iif(f.place >= ?, ?, 0)), iif(f.section = 'handles', f.handle, NULL),"
+        " iif(f.section = 'nodes', f.ptr, NULL)"
+        " FROM finding f JOIN rule r ON r.id = f.rule JOIN process p USING (upid) WHERE r.verdict = 'real'",
+        (lost_at, length))}
+
+
+def without(session: Session, sequence: int) -> tuple[int, int]:
+    """Loses a frame of a session. Returns where it was, and its length."""
+    before = len(session.capture())
+    whole = session.frames.copy()
+    lost = session.drops(sequence)
+    at = whole.index(lost)
+    return sum(map(len, whole[:at])), before - len(session.capture())
+
+
+def faults_of(number: int, every: int, room: pathlib.Path) -> list[str]:
+    """What is wrong with a case, if frames of it are lost: each of so many."""
+    one, found = CASES[number], []
+    whole = one.played()
+    due = real_ones(judged(base_of(room, whole)), 0, 0)
+    there = [int.from_bytes(frame[:8], "little") for frame in whole.frames[1:]]
+    for sequence in there[number % every::every]:
+        session = one.played()
+        at, length = without(session, sequence)
+        came = real_ones(judged(base_of(room, session)), at, length)
+        found += [f"{one.name}: without frame {sequence} real by {rule}, which it was not: {known}"
+                  for known, rule in came.items() if known not in due]
+    return found
+
+
+def judge(given: argparse.Namespace, room: pathlib.Path, fail: Fail) -> None:
+    build_programs(ROOT)
+    raw_tables.loader()
+    numbers = [number for number, one in enumerate(CASES) if (given.all or "") in one.name and one.has_side]
+    with ProcessPoolExecutor(os.cpu_count()) as pool:
+        for faults in pool.map(faults_of, numbers, repeat(STEP if given.all is None else 1), repeat(room)):
+            for fault in faults:
+                fail(fault)
+
+
+if __name__ == "__main__":
+    check(judge, all={"nargs": "?", "const": ""})
