@@ -1,6 +1,7 @@
 """Checks the rules of `view` on small sessions, one on either side of each threshold and order; that the head of
-each SQL file of `view` says what its statements need and make; that nothing changes what is in a raw table; and that
-docs/RULES.md has the thresholds and, for each rule, a session that gets it.
+each SQL file of `view` says what its statements need and make; that nothing changes what is in a raw table; that
+docs/RULES.md has the thresholds and, for each rule, a session that gets it; and that all that wait for a call are
+counted, on made-up waits.
 
     checks/run rules                    plays the sessions of sessions/*cases.py, and compares the rules that they get
     checks/run rules -- --edits [EDIT]  also tries wrong rules: each edit of sessions/edits.txt must change what a
@@ -27,6 +28,7 @@ from checks.viewer.heads import faults_of_heads
 from checks.viewer.rule_page import faults_of_page
 from checks.viewer.sessions.every import CASES, Case
 from checks.viewer.sessions.played import base_of, judged
+from checks.viewer.waits import faults_of_waits
 from viewer.database import loading, raw_tables
 from viewer.database.programs import build_programs
 from viewer.database.sqlite import open_database
@@ -164,7 +166,7 @@ def show(bases: list[bytes], text: str) -> None:
 def judge(given: argparse.Namespace, room: pathlib.Path, fail: Fail) -> None:
     build_programs(ROOT)
     raw_tables.loader()
-    for fault in (*faults_of_heads(), *faults_of_page(CASES)):
+    for fault in (*faults_of_heads(), *faults_of_page(CASES), *faults_of_waits()):
         fail(fault)
     with ThreadPoolExecutor(os.cpu_count()) as pool:
         bases = list(pool.map(made, repeat(room), CASES))
