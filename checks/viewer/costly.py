@@ -148,9 +148,9 @@ def frees_of_one(_: int) -> Iterator[Frame]:
 
 @costly
 def unknown_codes(_: int) -> Iterator[Frame]:
-    """Codes without a name, with and without a payload."""
-    return repeat(wrote(1, 1, *(record(size << 16 | 0x40006300 | number) for number in range(40, 56)
-                                for size in range(0, 64, 4))))
+    """Codes without a name, with payloads of many sizes."""
+    return repeat(wrote(1, 1, *(record(0x40006300 | size << 16 | number) for number in range(40, 56)
+                                for size in range(4, 64, 4))))
 
 
 # ---- calls

@@ -29,13 +29,14 @@ Known = tuple[object, ...]
 
 
 def real_ones(database: sqlite3.Connection, lost_at: int, length: int) -> dict[Known, str]:
-    """The real findings with their rules. Places are those of the session in which these bytes were not lost."""
+    """The real findings, and those that are one with them, with their rules. Places are those of the session in which
+    these bytes were not lost."""
     return {tuple(known): rule for rule, *known in database.execute(
-        "SELECT f.rule, f.section, p.process, iif(f.section IN ('handles', 'nodes', 'pools', 'queues'), NULL,"
+        "SELECT l.rule, f.section, p.process, iif(f.section IN ('handles', 'nodes', 'pools', 'queues'), NULL,"
         " f.place + iif(f.place >= ?, ?, 0)), iif(f.section = 'handles', f.handle, NULL),"
         " iif(f.section = 'nodes', f.ptr, NULL)"
-        " FROM finding f JOIN rule r ON r.id = f.rule JOIN process p USING (upid) WHERE r.verdict = 'real'",
-        (lost_at, length))}
+        " FROM finding f JOIN finding l ON l.id = coalesce(f.lead, f.id) JOIN rule r ON r.id = l.rule"
+        " JOIN process p ON p.upid = f.upid WHERE r.verdict = 'real'", (lost_at, length))}
 
 
 def without(session: Session, sequence: int) -> tuple[int, int]:

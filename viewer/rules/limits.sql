@@ -29,6 +29,6 @@ CREATE TEMP TABLE no_looper AS
 SELECT p.upid, ': none of its threads has said that it takes calls, and the driver in Rust hands none to others' AS why
 FROM process p JOIN device d USING (device) JOIN process_life l USING (upid)
 WHERE p.upid IN (SELECT upid FROM queued) AND d.driver = 'Rust' AND l.known AND p.upid NOT IN (SELECT upid FROM lossy)
-  AND NOT EXISTS (SELECT 1 FROM loop o JOIN raw_thread t ON t.utid = o.utid WHERE t.upid = p.upid);
+  AND p.upid NOT IN (SELECT t.upid FROM loop o JOIN raw_thread t ON t.utid = o.utid);
 UPDATE finding SET note = note || n.why FROM waits w JOIN no_looper n ON n.upid = w.server_upid
 WHERE finding.rule = 'C5' AND w.id = finding.id AND w.delivery IS NULL;

@@ -3,9 +3,9 @@
 --   raw_thread, side_calls, side_thread, side_time; database/views.sql: came_to, process, sent_to, thread; facts.sql:
 --   from_before; ages.sql: last, life, old, process_life; judging.py: call_name, duration
 -- makes: temporary tables: waits, few, waits_for, main_thread, ring_step, ring, lock_step, lock_way, lock_ring,
---   serves_on, queued, loop, taker, taken, holder, pool, full_pool, step, waited; indexes: waits_thread, waits_server,
---   waits_delivery, next_wait, ring_step_from, lock_step_from, lock_way_from, lock_ring_of, queued_at, pool_of,
---   full_pool_of, step_from, step_to
+--   serves_on, queued, loop, taker, taken, came, holder, pool, full_pool, step, waited; indexes: waits_id,
+--   waits_process, waits_place, waits_thread, waits_server, waits_delivery, next_wait, ring_step_from, lock_step_from,
+--   lock_way_from, lock_ring_of, queued_at, came_place, pool_of, full_pool_of, step_from, step_to
 
 -- Open calls, and what they wait for: the innermost call that the thread that got the call has made since; or, for a
 -- call that nobody got, the calls of the process that should get it. A call back to a process that waits for this very
@@ -20,6 +20,9 @@ WHERE f.section = 'calls' AND f.what = 'open'
 UNION ALL SELECT b.id, b.place, b.upid, coalesce(b.utid, -b.tid), b.delivery, coalesce(b.server_utid, -b.server_tid),
   iif(b.delivery NOTNULL, 0, NULL), b.server, 'the call from before by thread ' || b.tid
 FROM from_before b;
+CREATE UNIQUE INDEX temp.waits_id ON waits(id);
+CREATE INDEX temp.waits_process ON waits(upid);
+CREATE INDEX temp.waits_place ON waits(place);
 CREATE INDEX temp.waits_thread ON waits(utid, place);
 CREATE INDEX temp.waits_server ON waits(server, upid);
 CREATE INDEX temp.waits_delivery ON waits(delivery);
@@ -106,7 +109,8 @@ WHERE coalesce(l.ended_after = last.seq, 1) AND coalesce(s.ended_after >= last.s
     WHERE f.section = 'strays' AND f.utid = t.utid AND r.kind IN (:BC_REPLY, :BC_REPLY_SG));
 
 -- What was sent to a process and waits there: calls and oneway sends that nobody got.
-CREATE TEMP TABLE queued AS
+CREATE TEMP TABLE queued(id INTEGER, place INTEGER, upid INTEGER);
+INSERT INTO queued
 SELECT w.id, w.place, w.server_upid AS upid FROM waits w
 WHERE w.delivery IS NULL AND w.server_upid NOTNULL
   AND NOT EXISTS (SELECT 1 FROM waits x WHERE x.server = w.utid AND x.upid = w.server_upid)
@@ -144,9 +148,12 @@ FROM last, taker k LEFT JOIN life l ON l.utid = k.utid
     AND o.flags & :TF_ONE_WAY AND c.place IS NULL
   LEFT JOIN raw_record r ON r.place = coalesce(c.place, o.place) LEFT JOIN side_time x ON x.seq = r.seq;
 -- The finding of what a thread is in: the open call that it makes or serves, also one from before, or the buffer.
+CREATE TEMP TABLE came AS
+SELECT id, place, section FROM finding WHERE section IN ('served', 'buffers') AND EXISTS (SELECT 1 FROM taken);
+CREATE INDEX temp.came_place ON came(place, section);
 CREATE TEMP TABLE holder AS
 SELECT t.upid, coalesce((SELECT w.id FROM waits w WHERE w.delivery = t.place OR w.place = t.place),
-  (SELECT f.id FROM finding f WHERE f.place = t.place AND f.section IN ('served', 'buffers') ORDER BY section DESC),
+  (SELECT c.id FROM came c WHERE c.place = t.place ORDER BY c.section DESC),
   (SELECT w.id FROM waits w WHERE w.server = t.utid AND w.place < 0 AND t.place IS NULL ORDER BY w.delivery DESC))
   AS id
 FROM taken t WHERE t.place NOTNULL OR t.earlier;
