@@ -1,15 +1,19 @@
 -- The rules, of which the first one that fits a finding decides; and the processes of which frames are missing, with
 -- what that makes of a rule.
 -- docs/RULES.md has the rules in words.
--- needs: database/schema.sql: raw_capture, raw_process, side_lost, side_missed; ages.sql: last, process_life
+-- needs: database/schema.sql: raw_capture, raw_process, side_lost, side_missed, side_time; ages.sql: last, process_life
 -- makes: tables: rule; temporary tables: lossy, if_missing
 
--- Processes with missing frames. If the side list does not say whose a missing frame was, it may be of any process.
+-- Processes with missing frames. If the side list does not say whose a missing frame was, it may be of any process. A
+-- side list that goes on after a capture that was cut says nothing of the capture there, but else the last frames may be
+-- lost, as the first ones.
 CREATE TEMP TABLE lossy AS
-WITH lost AS (SELECT l.* FROM side_lost l, raw_capture c WHERE l.seq BETWEEN c.first_seq AND c.last_seq)
+WITH lost AS (SELECT l.*, l.seq BETWEEN c.first_seq AND c.last_seq AS within FROM side_lost l, raw_capture c
+  WHERE l.seq <= c.last_seq OR NOT EXISTS (SELECT 1 FROM side_time x WHERE x.seq > c.last_seq))
 SELECT upid FROM raw_process p, last
-WHERE last.missing <> 0 AND (last.missing <> (SELECT count(*) FROM lost WHERE process IS NOT NULL)
-  OR EXISTS (SELECT 1 FROM lost l WHERE (l.device, l.process) = (p.device, p.process)));
+WHERE last.missing <> (SELECT count(*) FROM lost WHERE within AND process IS NOT NULL)
+  OR EXISTS (SELECT 1 FROM lost WHERE process IS NULL)
+  OR EXISTS (SELECT 1 FROM lost l WHERE (l.device, l.process) = (p.device, p.process));
 -- What was missed without a number may be of any process that had not ended before, also right before the first frame.
 INSERT INTO lossy SELECT upid FROM process_life p WHERE EXISTS (SELECT 1 FROM side_missed m, raw_capture c
   WHERE m.after >= c.first_seq - 1 AND m.from_seq <= c.last_seq AND coalesce(p.ended_after >= m.from_seq, 1));

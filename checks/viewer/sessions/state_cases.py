@@ -362,3 +362,29 @@ def oneway_never_came(s, flags, wait=200, good=0, took=0, lost=False, ends=False
     if ends:
         service.ends()
         s.wait(300)
+
+
+# ---- frames that are lost at the ends
+
+
+@case("M1:1", lost=True)
+@case("H1:1", lost=False)
+def first_frame_lost(s, lost):
+    """The first frame of a process may have got the handle that its second one lets go of."""
+    client = s.process(200, "client")
+    if lost:
+        s.loses(client)
+    client.main.writes(*each(BC_RELEASE, 7))
+
+
+@case("M2:3", lost=True)
+@case("U3:3", lost=False)
+def last_frame_lost(s, lost):
+    """The last frame may have freed three replies."""
+    service, client = s.two()
+    for _ in range(3):
+        client.main.asks(service.main, 2, free=False)
+    client.main.asks(service.main, 3)
+    s.wait(200)
+    if lost:
+        s.loses(client)
