@@ -1,10 +1,18 @@
 -- M: what is no longer real, or not told at all, where frames are missing.
--- needs: database/schema.sql: finding; rule.sql: if_missing, lossy
--- makes: nothing
+-- needs: database/schema.sql: finding, raw_record, raw_thread; nodes.sql: node_of; rule.sql: if_missing, lossy
+-- makes: temporary tables: half_known
 
--- Of its own process; and of a call also those of the process that it calls, where the call may wait for another one. A
--- send with bad objects was refused for these.
+-- The paths that a process takes of which frames are missing: how long calls took there, and how many replies were
+-- freed, is not known of all.
+CREATE TEMP TABLE half_known AS
+SELECT DISTINCT r.code, n.upid, n.ptr FROM (SELECT 1 FROM lossy LIMIT 1) CROSS JOIN raw_send s
+  JOIN raw_thread t USING (utid) JOIN raw_record r USING (place) JOIN node_of n USING (generation)
+WHERE t.upid IN (SELECT upid FROM lossy);
+-- Of its own process; of a call also those of the process that it calls, where the call may wait for another one; and of
+-- a call or a reply those of others on its path. A send with bad objects was refused for these.
 UPDATE finding SET rule = m.becomes FROM if_missing m
 WHERE m.rule = finding.rule AND (upid IN (SELECT upid FROM lossy)
-    OR section IN ('calls', 'books') AND coalesce(target, 0) IN (SELECT upid FROM lossy) AND m.becomes = 'M2')
+    OR section IN ('calls', 'books') AND target IN (SELECT upid FROM lossy) AND m.becomes = 'M2'
+    OR section IN ('calls', 'books', 'buffers') AND m.becomes = 'M2'
+      AND (finding.code, target, ptr) IN (SELECT code, upid, ptr FROM half_known))
   AND NOT (m.becomes = 'M3' AND place IN (SELECT place FROM finding WHERE section = 'objects'));
