@@ -80,7 +80,7 @@ from checks.viewer.page.losses import CUTS, FAULTLESS, check_cuts, check_gaps
 from checks.viewer.page.methods import check_methods, check_unnamed
 from checks.viewer.page.reports import check_sample
 from checks.viewer.page.services import CAPTURES, check_libgbinder, check_services
-from checks.viewer.page.sides import (check_cut_meanwhile, check_files, check_forms, check_last_names, check_late,
+from checks.viewer.page.sides import (check_files, check_forms, check_last_names, check_late, check_list_of_loader,
                                       check_loader, check_no_lists, check_renames, check_side, check_times)
 from checks.viewer.page.stacks import check_stacks
 from checks.viewer.page.words import (check_hostile, check_no_engine, check_python, check_secrets, check_stopped,
@@ -107,7 +107,7 @@ def check_all(folder: pathlib.Path, room: pathlib.Path, fail: Fail) -> None:
             check_malformed, check_pipes, check_names, check_changing, check_again, check_whole, check_terminal)]
         check_templates(fail)
         run_parts((check_words, check_stopped, check_no_engine, check_python, check_version), folder, room, fail)
-        run_parts((check_side, check_forms, check_no_lists, check_cut_meanwhile, check_renames, check_last_names,
+        run_parts((check_side, check_forms, check_no_lists, check_list_of_loader, check_renames, check_last_names,
                    check_files, check_secrets, check_told, check_late, check_hostile, check_methods, check_unnamed,
                    check_services, check_times, check_loader, check_agreement, check_copies, check_bad_books,
                    check_long_books, check_commands, check_stacks, check_growth, check_against), built, room, fail)

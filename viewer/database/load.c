@@ -23,7 +23,7 @@
 #include <sys/stat.h>
 #include <unistd.h>
 
-enum { MOST_COLUMNS = 63, LONGEST_NAME = 256, KEPT = 1 << 26, MOST_DIGITS = 18 };
+enum { MOST_COLUMNS = 63, LONGEST_NAME = 256, KEPT = 1 << 26, MOST_DIGITS = 18, LONGEST_LINE = 1 << 22 };
 
 static void stop(const char *format, ...) __attribute__((noreturn, format(printf, 1, 2)));
 
@@ -299,7 +299,8 @@ static void load_line(sqlite3 *database, sqlite3_stmt *to, const char *line, siz
 
 /*
  * The side list is read and not mapped, since it may not be ours: where a mapped file was cut, a read of it would end
- * this program. Of a line only as much is kept as one of a frame has.
+ * this program. Of a line only as much is kept as one of a frame has; and who reads the list next may keep whole lines,
+ * since none is longer than LONGEST_LINE.
  */
 static void load_times(sqlite3 *database, const char *path)
 {
@@ -314,9 +315,12 @@ static void load_times(sqlite3 *database, const char *path)
 			if (length <= sizeof line)
 				load_line(database, next, line, length);
 			length = 0;
-		} else if (length++ < sizeof line) {
-			line[length - 1] = (char)sign;
+			continue;
 		}
+		if (length < sizeof line)
+			line[length] = (char)sign;
+		if (++length > LONGEST_LINE)
+			stop("%s has a line of more than %d bytes", path, LONGEST_LINE);
 	}
 	if (ferror(list))
 		stop("%s: %s", path, strerror(errno));

@@ -4,7 +4,7 @@ import pathlib
 import re
 import shutil
 import sqlite3
-from typing import NamedTuple, TextIO
+from typing import Iterable, NamedTuple
 
 from viewer.database import side_belongs
 from viewer.database.last_names import LastNames
@@ -55,8 +55,8 @@ class Copy(NamedTuple):
     size: int
 
 
-# The most characters of a line. Those of the recorder have some ten thousand at most.
-MOST_OF_LINE = 2**22
+# How much of a line is looked at before the loader has seen that no line is too long.
+PIECE = 2**16
 
 # The longest name that is kept. Those of the system have at most 15 bytes, and command lines at most 256.
 LONGEST_NAME = 256
@@ -110,7 +110,7 @@ def refuse_others(paths: list[str]) -> None:
     for path in paths:
         try:
             with open(path, encoding="utf-8", errors="replace", newline="\n") as lines:
-                version_of(lines.readline(MOST_OF_LINE), path)
+                version_of(lines.readline(PIECE), path)
         except OSError as error:
             raise Stopped(4, f"{path}: {error.strerror}") from error
 
@@ -124,7 +124,7 @@ def joined_sides(paths: list[str], to: pathlib.Path) -> str:
     with open(to, "wb", opener=for_owner) as out:
         for at, path in enumerate(paths):
             with open(path, "rb") as lines:
-                while at and (line := lines.readline(MOST_OF_LINE)):
+                while at and (line := lines.readline(PIECE)):
                     if line.split(b" ", 2)[1:2] == [b"file"]:
                         break
                 shutil.copyfileobj(lines, out)
@@ -169,7 +169,7 @@ class SideList:
         """Takes all lines of a side list. A last line that was cut is left out."""
         try:
             with open(path, encoding="utf-8", errors="replace", newline="\n") as lines:
-                self.version = version_of(lines.readline(MOST_OF_LINE), path)
+                self.version = version_of(next(lines, ""), path)
                 self.facts["side_list"] = self.version
                 self.read_lines(lines, path)
         except OSError as error:
@@ -193,8 +193,8 @@ class SideList:
             raise Stopped(1, why)
         self.facts["side_doubt"] = side_belongs.doubt(self.database, self.last())
 
-    def read_lines(self, lines: TextIO, path: str) -> None:
-        while line := lines.readline(MOST_OF_LINE):
+    def read_lines(self, lines: Iterable[str], path: str) -> None:
+        for line in lines:
             # Nearly all lines are those of frames and of their stacks, so they are not split like the others.
             if frame := FRAME_LINE.match(line):
                 self.frame = frame
@@ -202,8 +202,6 @@ class SideList:
                 self.add_call(call[1], call[2])
             elif line.endswith("\n"):
                 self.take(line_of(line[:-1], path), path)
-            elif len(line) == MOST_OF_LINE:
-                raise Stopped(4, f"{path} has a line of more than {MOST_OF_LINE:,} characters")
 
     def take(self, line: tuple[int, str, list[str], dict[str, str]], path: str) -> None:
         time, word, positional, keyed = line

@@ -290,8 +290,7 @@ BAD_LINES = (
     ("6 books begin\0 state from=0 after=0 bytes=0", "the line 'books' at 6 is not valid"),
     ("6 books begin\x1b]0;a\x07 state from=0 after=0 bytes=0", "the line 'books' at 6 is not valid"),
     ("6 books begin ../state from=0 after=0 bytes=0", "the line 'books' at 6 is not valid"),
-    ("6 books begin state from=0 after=0 bytes=0", ""),
-    ("6 " + "a" * side_list.MOST_OF_LINE, f"has a line of more than {side_list.MOST_OF_LINE:,} characters"))
+    ("6 books begin state from=0 after=0 bytes=0", ""))
 
 
 def refusal(do: Callable[[], object]) -> str:
@@ -362,19 +361,25 @@ def is_reading(process: int, path: pathlib.Path) -> bool:
     return False
 
 
-def check_cut_meanwhile(_: pathlib.Path, room: pathlib.Path, fail: Fail) -> None:
-    """The loader does not crash if a side list is cut while it reads it."""
+def check_list_of_loader(_: pathlib.Path, room: pathlib.Path, fail: Fail) -> None:
+    """The loader does not crash if a side list is cut while it reads it, and refuses a line that would take all memory
+    of who reads it next."""
     rows, list_ = room / "rows", room / "long.side"
     rows.mkdir()
     for table in columns_of_tables():
         (rows / f"{table}.rows").touch()
     (rows / "schema.sql").write_text(raw_tables.schema(), "utf-8")
     list_.write_text("binder side list 2\n" + "".join(f"{5 + at} frame {at}\n" for at in range(1, 300_000)), "utf-8")
-    loading = subprocess.Popen([raw_tables.loader(), room / "made.db", rows, rows / "schema.sql", list_])
+    words = rows, rows / "schema.sql", list_
+    loading = subprocess.Popen([raw_tables.loader(), room / "cut.db", *words])
     while loading.poll() is None and not is_reading(loading.pid, list_):
         time.sleep(0.001)
     os.truncate(list_, 0)
     compare("the loader, of a list that is cut meanwhile", loading.wait(60), 0, fail)
+    for longer, due in (0, (0, b"")), (1, (1, f"load: {list_} has a line of more than 4194304 bytes\n".encode())):
+        list_.write_text("binder side list 2\n6 " + "a" * (2**22 - 2 + longer), "utf-8")
+        ended = subprocess.run([raw_tables.loader(), room / f"long-{longer}.db", *words], capture_output=True)
+        compare(f"the loader, of a long line, {longer}", (ended.returncode, ended.stderr), due, fail)
 
 
 def loaded_rows(database: sqlite3.Connection, table: str) -> list[dict[str, object]]:
