@@ -293,7 +293,7 @@ def sessions_of_lab(chance: random.Random, stock: Stock, room: pathlib.Path) -> 
     done = room / "lab/results/b1/d1/good.json"
     done.parent.mkdir(parents=True)
     done.write_bytes(json.dumps(stock.results[0]).encode())
-    yield Play("lab/sessions.sh", ("lab",))
+    yield Play("lab/sessions.py", ("lab",))
     yield Play("make", ("-s", "-k", "-f", str(ROOT / "lab/Makefile"), "LAB=lab"))
 
 

@@ -26,10 +26,10 @@ SIGNS = re.compile("[\0-\x08\x0b-\x1f\x7f-\x9f\u061c\u200e\u200f\u2028-\u202e\u2
 EXCEPTION = re.compile(r"Traceback \(most recent|\b(?:[A-Z][a-z]+)+(?:Error|Exception|Exit): ")
 
 # Statuses of what has no `--help`.
-STATUSES = {"make": {0, 2}, "lab/sessions.sh": {0, 4}}
+STATUSES = {"make": {0, 2}, "lab/sessions.py": {0, 4}}
 
 # How the lines on standard error begin, if not with the name of the program.
-BEGINS = {"make": r"fleet: |make(\[\d+\])?: ", "lab/sessions.sh": "fleet: "}
+BEGINS = {"make": r"fleet: |make(\[\d+\])?: ", "lab/sessions.py": "fleet: "}
 
 # The lines of the proved programs, which name no program, and those of a usage.
 PROVED = re.compile(r"fault \w+|malformed \w+ at \d+( in part \d+)?|usage: .*| {5,}.*")
