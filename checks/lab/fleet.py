@@ -33,6 +33,7 @@ What must hold:
 """
 
 import argparse
+import contextlib
 import copy
 import hashlib
 import json
@@ -350,6 +351,13 @@ def check_each(folder: pathlib.Path, room: pathlib.Path, fail: Fail) -> None:
     came = fleet(folder, "each", "SELECT value FROM capture WHERE key = 'frames'", *kept)
     compare("each", (came[0], [line.split("\t")[0] for line in came[1].splitlines()]), (0, list(map(str, kept))), fail)
     compare("each, of no database", fleet(folder, "each", "SELECT 1", room / "known")[0], 4, fail)
+    with contextlib.closing(sqlite3.connect(kept[0], isolation_level=None)) as database:
+        database.execute("UPDATE capture SET value = CAST(x'ff' AS TEXT) WHERE key = 'file'")
+        database.execute("DELETE FROM capture WHERE key IN ('prints', 'methods')")
+    came = fleet(folder, "each", "SELECT value FROM capture WHERE key IN ('file', 'prints')", kept[0])
+    compare("each, of a changed database", came, (0, f"{kept[0]}\t\ufffd\n", ""), fail)
+    came = fleet(folder, "each", "SELECT none FROM capture", kept[0])
+    compare("each, of no column", (came[0], came[1], came[2].count("\n")), (64, "", 1), fail)
 
 
 def check_lab(folder: pathlib.Path, room: pathlib.Path, count: int, tell: bool, fail: Fail) -> None:

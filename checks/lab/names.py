@@ -110,4 +110,6 @@ def check_names(room: pathlib.Path, fail: Fail) -> None:
     compare("a lab of any name: status, output", (ended.returncode, ended.stdout), (0, b"1 added, 0 there already\n"),
             fail)
     check_made("a lab of any name", room, lab, {"b1/d1/good"}, ended.stdout, ended.stderr, fail)
+    ended = subprocess.run([*map(str, make), f"LAB={lab.name}", "again"], cwd=lab.parent, capture_output=True)
+    check_made("a result that is forgotten", room, lab, set(), ended.stdout, ended.stderr, fail)
     check_quoted(folder, room, fail)
