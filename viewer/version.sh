@@ -5,15 +5,13 @@ here=$(readlink -f -- "$0")
 root=${here%/*/*}
 if [ -e "$root/version" ]; then exec cat -- "$root/version"; fi
 
-echo 'binder-audit in a repository, and in no package'
 commit=
 if [ -e "$root/.git" ]; then
   commit=$(TZ=UTC git -C "$root" log -1 --date=format-local:'%Y-%m-%d %H:%M UTC' --format='%H of %cd' 2>/dev/null)
 fi
 if [ -z "$commit" ]; then
-  echo 'commit not known: git does not tell it'
-elif [ -z "$(git -C "$root" status --porcelain)" ]; then
-  echo "commit $commit"
-else
-  echo "commit $commit and changes that are not in it"
+  commit='not known: git does not tell it'
+elif [ -n "$(git -C "$root" status --porcelain)" ]; then
+  commit="$commit and changes that are not in it"
 fi
+printf 'binder-audit in a repository, and in no package\ncommit %s\n' "$commit"
