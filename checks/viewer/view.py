@@ -84,7 +84,7 @@ from checks.viewer.page.sides import (check_files, check_forms, check_last_names
                                       check_loader, check_no_lists, check_renames, check_side, check_times)
 from checks.viewer.page.stacks import check_stacks
 from checks.viewer.page.words import (check_hostile, check_no_engine, check_python, check_secrets, check_stopped,
-                                      check_templates, check_told, check_version, check_words)
+                                      check_templates, check_told, check_untimed, check_version, check_words)
 from checks.viewer.page.wrong import check_edits
 from viewer.database import raw_tables
 
@@ -108,9 +108,10 @@ def check_all(folder: pathlib.Path, room: pathlib.Path, fail: Fail) -> None:
         check_templates(fail)
         run_parts((check_words, check_stopped, check_no_engine, check_python, check_version), folder, room, fail)
         run_parts((check_side, check_forms, check_no_lists, check_list_of_loader, check_renames, check_last_names,
-                   check_files, check_secrets, check_told, check_late, check_hostile, check_methods, check_unnamed,
-                   check_services, check_times, check_loader, check_agreement, check_copies, check_bad_books,
-                   check_long_books, check_commands, check_stacks, check_growth, check_against), built, room, fail)
+                   check_files, check_secrets, check_told, check_untimed, check_late, check_hostile, check_methods,
+                   check_unnamed, check_services, check_times, check_loader, check_agreement, check_copies,
+                   check_bad_books, check_long_books, check_commands, check_stacks, check_growth, check_against),
+                  built, room, fail)
         for job in jobs:
             for what in job.result():
                 fail(what)

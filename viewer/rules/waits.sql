@@ -167,7 +167,7 @@ SELECT t.upid, count(*) AS threads, sum(t.place NOTNULL OR t.earlier) AS busy,
     || group_concat(DISTINCT iif(t.place IS NULL, iif(t.earlier, 'a call from before the capture', NULL),
       iif(t.served, '', iif(t.served IS NULL, 'oneway ', 'a call of its own, ')) || t.call))
     || iif(max(t.earlier AND t.place IS NULL), '',
-      coalesce(' since ' || duration(max(0, max(t.until) - min(t.ts))), ''))
+      coalesce(' since ' || nullif(duration(max(0, max(t.until) - min(t.ts))), ''), ''))
   AS doing
 FROM taken t JOIN process_life p USING (upid) GROUP BY t.upid;
 CREATE UNIQUE INDEX temp.pool_of ON pool(upid);

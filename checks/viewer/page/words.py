@@ -186,6 +186,12 @@ def check_told(folder: pathlib.Path, room: pathlib.Path, fail: Fail) -> None:
             compare("hung: some of one", wrong, [], fail)
 
 
+def check_untimed(folder: pathlib.Path, room: pathlib.Path, fail: Fail) -> None:
+    """Without a side list nothing says since when it has lasted."""
+    status, said, _ = view(folder, room, DRIVER / "hello-stuck/capture-1.cap", "--groups")
+    compare("hello-stuck without a side list", (status, re.findall(r".*since [;,)\t].*", said)), (0, []), fail)
+
+
 def secrets_in(data: bytes) -> set[int]:
     """The secrets of the scenario of which eight bytes are in the data."""
     return {which for which, secret in SECRETS.items()
