@@ -102,10 +102,7 @@ static void fill_file(void)
 
 static int times(const char *text)
 {
-	int found = 0;
-	for (const char *at = list; (at = strstr(at, text)); at++)
-		found++;
-	return found;
+	return times_in(list, text);
 }
 
 static void open_process(u32 opening, enum met met)

@@ -55,6 +55,19 @@ void *whole_file(const char *path, u64 *bytes)
 	return text;
 }
 
+/* With the sanitizers strstr looks at the whole rest each time. */
+int times_in(const char *list, const char *text)
+{
+	int found = 0;
+	for (const char *at = list; *at; at++) {
+		u32 same = 0;
+		while (text[same] && at[same] == text[same])
+			same++;
+		found += !text[same];
+	}
+	return found;
+}
+
 struct message head_of(u32 type, u32 direction, u64 number, u32 thread)
 {
 	return (struct message){ .type = type, .direction = direction, .number = number, .time = now(),

@@ -12,6 +12,7 @@ double mebibytes(void);			/* the most memory so far */
 
 void *all_of(FILE *, u64 *bytes);	/* what is left of a file, and a NUL behind it */
 void *whole_file(const char *path, u64 *bytes);
+int times_in(const char *list, const char *text);	/* how often the list has the text */
 
 struct message head_of(u32 type, u32 direction, u64 number, u32 thread);
 #endif

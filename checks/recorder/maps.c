@@ -35,17 +35,9 @@ static void read_list(void)
 	list = whole_file(side_path(), &bytes);
 }
 
-/* How often the side list has a text. (With the sanitizers strstr looks at the whole rest each time.) */
 static int times(const char *text)
 {
-	int found = 0;
-	for (const char *at = list; *at; at++) {
-		u32 same = 0;
-		while (text[same] && at[same] == text[same])
-			same++;
-		found += !text[same];
-	}
-	return found;
+	return times_in(list, text);
 }
 
 /* ---- files */
