@@ -94,7 +94,8 @@ case $service in
       '--detach[go on without the connection]' \
       '--fetch[end and fetch a recording]' \
       '--no-names[do not ask for the names of services]' \
-      '(- *)--help[say what the options do]'
+      '(- *)--help[say what the options do]' \
+      '(- *)--version[say what the programs are made of]'
     ;;
   binder-view)
     _arguments \

@@ -14,7 +14,7 @@
 
 static const char usage[] =
 	"record [-o OUT] [--size BYTES] [--files N] [--pid PID].. [--device NAME].. [--redact]"
-	" [--no-attachments] [--ring BYTES] [--stacks] [--check | -- PROGRAM ARGUMENT...]";
+	" [--no-attachments] [--ring BYTES] [--stacks] [--check | --version | -- PROGRAM ARGUMENT...]";
 
 static const char usage_of_adb[] =
 	"record --adb [SERIAL] [--detach | --fetch] [--no-names] [OPTION].. [-- PROGRAM ARGUMENT...]";
@@ -36,6 +36,7 @@ static const char help[] =
 	"--ring BYTES       the size of the buffer between kernel and recorder, a power of two; by default 67108864\n"
 	"--check            records nothing: says in a line each what a recording with these options lacks, or that the\n"
 	"                   system is ready for it, and with which kernel, driver and devices\n"
+	"--version          writes of which commit the programs are, if it is the only word\n"
 	"\n"
 	"--adb [SERIAL]     does all this on a device that adb reaches; SERIAL can be left out if it is the only one. It\n"
 	"                   puts the recorder there, becomes root, says what the device lacks, records until PROGRAM ends\n"
