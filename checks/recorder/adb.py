@@ -6,20 +6,25 @@
 What must hold:
 
 - A recording is fetched as it was on the device, into files of the owner alone, and removed there. PROGRAM has its
-  output and its status; without one SIGINT ends the recording.
+  output and its status; without one SIGINT ends the recording, and a line says so. Lines before say what is done.
 - If the connection is lost, if bytes come wrong, or if a file is in the way, a line says so, the recording stays on the
   device, and --fetch fetches it. So it does what --detach began.
-- All that the device lacks is said, by a recording and by --check, and nothing is left there.
+- One command at a time has the folder on the device. Another one says who has it, and takes nothing from it, but what
+  a killed command left. Of two that fetch, one says that the other one did.
+- No file is fetched under a name that no recording makes, and no control character of the device comes through.
+- All that the device lacks is said, by a recording and by --check, and nothing is left there: also that it runs no
+  program in the folder. So is what this system lacks of Python.
 - No device, two of them, one that does not trust this computer, one without root, with an old adbd or of another
   machine, and a server of adb of another version: a line for each.
 
 adb and its device are made up (made_up_adb.py), and so is the driver (flight.c); checks/phone has real ones. It takes
-some ten seconds. If all is well it prints nothing. Otherwise it prints what was expected and what came, and ends with
+some 20 seconds. If all is well it prints nothing. Otherwise it prints what was expected and what came, and ends with
 status 1.
 """
 
 import argparse
 import contextlib
+import hashlib
 import os
 import pathlib
 import re
@@ -27,19 +32,29 @@ import shutil
 import signal
 import socket
 import subprocess
+import sys
 import threading
 import time
-from typing import Iterator
+from typing import Callable, Iterator
 
 from checks.kit.checking import Fail, check
 from checks.kit.programs import CHECKS, ROOT
 
 LIMIT = 300  # seconds, for a machine with much other work
 
+PUTTING = r"record: putting the recorder \(\d\.\d MB\) on one"
+PREPARED = PUTTING, "record: loading it into the kernel of one"
 READY = r"record: one: ready: kernel \S+, driver in C, devices.*"
+BEGUN = r"record: one: recording; Ctrl-C ends it, and fetches the files"
 COUNTS = r"record: \d+ frames, \d lost.*; \d files?, \d+ bytes"
 FETCHED = r"record: \d+ files, \d+ bytes fetched from one; next: \S+view {0}-1\.cap --side {0}\S*\.side.*"
 KEPT = r"; what was recorded stays in \S+/binder-record of one; to fetch it: \S+record --adb one --fetch -o {0}"
+NONE = r"record: one has no recording in \S+/binder-record"
+WHOSE = r" \(process \d+ of \S+, begun \d+ s ago\)"
+PREPARES = (rf"record: another command prepares a recording in \S+/binder-record of one{WHOSE}: wait until that has"
+            r" ended, or end it; what a killed command left is removed after 10 minutes")
+GONE = (r"record: \S+/binder-record of one is this command's no longer: another one has fetched what was recorded"
+        " there, or removed it")
 
 # Commands of the device that are others than here. What is recorded is root's there.
 COMMANDS = {
@@ -66,9 +81,14 @@ class Device:
         self.write("machine", "x86_64\n")
         for name, script in COMMANDS.items():
             self.write(f"bin/{name}", f"#!/bin/sh\n{script}\n", 0o755)
-        shutil.copy(CHECKS / "recorder/made_up_adb.py", room / "adb/adb")
+        # Each of the many starts of Python is as short as it can be.
+        (room / "adb/python3").symlink_to(sys.executable)
+        made_up = (CHECKS / "recorder/made_up_adb.py").read_text("utf-8")
+        self.write("adb/adb", made_up.replace("#!/usr/bin/env python3", f"#!{sys.executable} -IS", 1), 0o755)
         shutil.copy(ROOT / "record", room)
         shutil.copytree(ROOT / "recorder/adb", room / "recorder/adb")
+        shutil.copytree(ROOT / "viewer", room / "viewer", ignore=lambda _, names: [
+            name for name in names if not name.endswith(".py")])
         self.write("recorder/program.sh", f"#!/bin/sh\necho {self.recorder()}\n", 0o755)
 
     def write(self, name: str, text: str, mode: int = 0o644) -> None:
@@ -81,14 +101,29 @@ class Device:
         return self.room / "flight"
 
     @contextlib.contextmanager
-    def with_file(self, name: str, text: str) -> Iterator[None]:
+    def with_file(self, name: str, text: str, mode: int = 0o644) -> Iterator[None]:
         path = self.room / name
         before = path.read_text("utf-8") if path.exists() else None
-        path.write_text(text, "utf-8")
+        self.write(name, text, mode)
         try:
             yield
         finally:
             path.unlink() if before is None else path.write_text(before, "utf-8")
+
+    def with_command(self, name: str, script: str) -> contextlib.AbstractContextManager[None]:
+        """While it is entered, a command of the device is another one."""
+        return self.with_file(f"bin/{name}", f"#!/bin/sh\n{script}\n", 0o755)
+
+    @contextlib.contextmanager
+    def held(self, name: str) -> Iterator[None]:
+        """While it is entered, a command of the device does not come to its end, for who has HELD."""
+        with self.with_file("held", ""), self.with_command(name, f"""
+                while [ "$HELD" ] && [ -e "$ADB_ROOM/held" ]; do sleep 0.1; done
+                exec $(PATH=/usr/bin:/bin command -v {name}) "$@" """):
+            yield
+
+    def folder(self) -> pathlib.Path:
+        return self.room / "device/binder-record"
 
     def start(self, *words: str, **variables: str) -> subprocess.Popen[str]:
         return subprocess.Popen([self.room / "record", "--adb", *words], cwd=self.room / "out", encoding="utf-8",
@@ -107,14 +142,23 @@ class Device:
     def says(self, words: list[str], status: int, *lines: str, said: str | None = None, **variables: str) -> None:
         self.ends(self.start(*words, **variables), status, *lines, said=said)
 
-    def wait_until_recording(self) -> None:
-        side = self.room / "device/binder-record/capture.side"
+    def wait_until(self, what: str, holds: Callable[[], bool]) -> None:
         end = time.monotonic() + LIMIT
-        while not (side.exists() and " begin realtime=" in side.read_text("utf-8")):
+        while not holds():
             if time.monotonic() > end:
-                self.report(f"{self.what}: no recording has begun")
+                self.report(f"{self.what}: {what} has not come")
                 return
             time.sleep(0.1)
+
+    def wait_until_prepared(self) -> None:
+        """The recorder is in the folder, in which nothing is recorded yet."""
+        self.wait_until("the recorder", (self.folder() / "record").exists)
+
+    def wait_until_recording(self) -> None:
+        """The recording has begun, and the command has had the time to say so."""
+        side = self.folder() / "capture.side"
+        self.wait_until("a recording", lambda: side.exists() and " begin realtime=" in side.read_text("utf-8"))
+        time.sleep(1.5)
 
     def fetched(self, name: str) -> None:
         """All files are here, for their owner, and none is on the device."""
@@ -124,7 +168,7 @@ class Device:
         self.left_nothing()
 
     def left_nothing(self) -> None:
-        if (self.room / "device/binder-record").exists():
+        if self.folder().exists():
             self.report(f"{self.what}: the device has its folder still")
 
 
@@ -133,30 +177,87 @@ class Device:
 
 def check_sessions(device: Device) -> None:
     device.what = "with PROGRAM"
-    device.says(["-o", "some", "--", "sh", "-c", "echo 'a  word'; exit 7"], 7, READY, COUNTS, FETCHED.format("some"),
-                said="a  word")
+    device.says(["-o", "some", "--", "sh", "-c", r"echo 'a  word'; printf '\033[31mred\007\n' >&2; exit 7"], 7,
+                *PREPARED, READY, r"\\x1b\[31mred\\x07", COUNTS, FETCHED.format("some"), said="a  word")
     device.fetched("some")
     device.what = "SIGINT"
     program = device.start("one", "-o", "until")
     device.wait_until_recording()
     program.send_signal(signal.SIGINT)
-    device.ends(program, 0, READY, COUNTS, FETCHED.format("until"))
+    device.ends(program, 0, *PREPARED, READY, BEGUN, COUNTS, FETCHED.format("until"))
     device.fetched("until")
     device.what = "--check"
-    device.says(["--check"], 0, READY)
+    device.says(["--check"], 0, *PREPARED, READY)
 
 
 def check_detached(device: Device) -> None:
     device.what = "--detach"
-    device.says(["--detach", "-o", "later"], 0, READY, r"record: one records, also without the connection; to end that,"
-                r" and fetch it: \S+record --adb one --fetch -o later")
+    device.says(["--detach", "-o", "later"], 0, *PREPARED, READY, r"record: one records, also without the connection;"
+                r" to end that, and fetch it: \S+record --adb one --fetch -o later")
     device.what = "a second recording"
-    device.says(["-o", "more"], 1, r"record: one has a recording in \S+ already; to fetch it: \S+ --adb one --fetch"
-                " -o more")
+    device.says(["-o", "more"], 1, rf"record: one records already, into \S+/binder-record{WHOSE}; to end that, and"
+                r" fetch it: \S+ --adb one --fetch -o more")
     device.what = "--fetch"
     device.says(["--fetch", "-o", "later"], 0, COUNTS, FETCHED.format("later"))
     device.fetched("later")
-    device.says(["--fetch", "-o", "again"], 1, r"record: one has no recording in \S+")
+    device.says(["--fetch", "-o", "again"], 1, NONE)
+
+
+# ---- whose the folder is
+
+
+def check_two(device: Device) -> None:
+    """A second command does not touch what the first one prepares."""
+    device.what = "two commands"
+    with device.held("chmod"):
+        first = device.start("-o", "first", "--", "true", HELD="1")
+        device.wait_until_prepared()
+        for words in ["-o", "second"], ["--check"], ["--fetch", "-o", "second"]:
+            device.says(words, 1, PREPARES)
+    device.ends(first, 0, *PREPARED, READY, COUNTS, FETCHED.format("first"))
+    device.fetched("first")
+
+
+def check_left(device: Device) -> None:
+    """What a command left is removed when that is known to have ended, or after some minutes."""
+    device.what = "a killed command"
+    with device.held("chmod"):
+        first = device.start(HELD="1")
+        device.wait_until_prepared()
+        first.kill()
+        first.communicate()
+    device.says(["--check"], 0, *PREPARED, READY)
+    boot = pathlib.Path("/proc/sys/kernel/random/boot_id").read_text("ascii").strip()
+    now = int(time.clock_gettime(time.CLOCK_BOOTTIME))
+    owner = "another.1 1 somebody@elsewhere {} {}\n"
+    for what, line, taken in (("young", owner.format(boot, now - 400), False),
+                              ("old", owner.format(boot, now - 610), True),
+                              ("of another start", owner.format("another", now), True), ("nobody's", "", True)):
+        device.what = f"a folder that is {what}"
+        device.folder().mkdir(mode=0o700)
+        (device.folder() / "owner").write_text(line, "ascii")
+        device.says(["--check"], *((0, *PREPARED, READY) if taken else (1, PREPARES)))
+        shutil.rmtree(device.folder(), ignore_errors=True)
+
+
+def check_interrupted(device: Device) -> None:
+    device.what = "SIGINT before the recording"
+    with device.held("chmod"):
+        program = device.start(HELD="1")
+        device.wait_until_prepared()
+        program.send_signal(signal.SIGINT)
+        device.ends(program, 130, PUTTING, "record: interrupted; nothing was recorded")
+    device.left_nothing()
+
+
+def check_fetched_twice(device: Device) -> None:
+    device.what = "two that fetch"
+    with device.held("sha256sum"):
+        first = device.start("-o", "never", HELD="1")
+        device.wait_until_recording()
+        device.says(["--fetch", "-o", "taken"], 0, COUNTS, FETCHED.format("taken"))
+        device.fetched("taken")
+    device.ends(first, 1, *PREPARED, READY, BEGUN, COUNTS, GONE)
 
 
 # ---- what fails
@@ -164,11 +265,29 @@ def check_detached(device: Device) -> None:
 
 def check_lacking(device: Device) -> None:
     device.what = "a device that lacks something"
-    lacking = "record: one thing is missing", "record: another one is missing"
+    lacking = *PREPARED, "record: one thing is missing", "record: another one is missing"
     device.says(["--", "echo", "begun"], 1, *lacking, "record: nothing was recorded on one", LACKING="1")
     device.says(["--detach"], 1, *lacking, "record: nothing is recorded on one", LACKING="1")
     device.says(["--check"], 1, *lacking, "record: one can't be recorded", LACKING="1")
+    device.what = "a folder without programs"
+    with device.with_command("chmod", 'exec /bin/chmod 600 "$2"'):
+        device.says([], 1, PUTTING, r"record: one runs no program in \S+/binder-record: its file system may be mounted"
+                    r" noexec, which adb -s one shell mount -o remount,exec /\S* lifts, or a policy forbids it")
     device.left_nothing()
+
+
+def check_lacking_here(device: Device) -> None:
+    """bash alone has what the script itself calls."""
+    device.what = "a system that lacks something"
+    few = device.room / "few"
+    few.mkdir()
+    for name in "bash", "readlink", "dirname":
+        (few / name).symlink_to(shutil.which(name) or name)
+    device.says([], 1, "record: --adb takes python3, which is missing; to install it: apt-get install python3",
+                PATH=str(few))
+    device.write("few/shlex.py", "raise ModuleNotFoundError(name='shlex')\n")
+    device.says([], 1, r"record: the module shlex is missing in \S+; on Debian this installs it: apt-get install"
+                " python3", PYTHONPATH=str(few))
 
 
 def check_lost(device: Device) -> None:
@@ -176,8 +295,9 @@ def check_lost(device: Device) -> None:
     program = device.start("-o", "lost")
     device.wait_until_recording()
     with device.with_file("cut", ""):
-        device.ends(program, 1, READY,
-                    r"record: the connection is lost \(error: device offline\)" + KEPT.format("lost"))
+        device.ends(program, 1, *PREPARED, READY, BEGUN,
+                    r"record: the connection to one is lost \(error: device offline\); when one is back, this fetches"
+                    r" what was recorded there: \S+record --adb one --fetch -o lost")
     device.what = "bytes come wrong"
     with device.with_file("wrong", ""):
         device.says(["--fetch", "-o", "lost"], 1, COUNTS, r"record: capture\S+ of one did not come as it is there"
@@ -188,6 +308,48 @@ def check_lost(device: Device) -> None:
     device.what = "after all that"
     device.says(["--fetch", "-o", "lost"], 0, COUNTS, FETCHED.format("lost"))
     device.fetched("lost")
+
+
+def check_lost_early(device: Device) -> None:
+    device.what = "the connection is lost in the check"
+    lost = r"record: the connection to one is lost \(adb says nothing\); "
+    with device.with_file("cut", "./record --check"):
+        device.says(["--check"], 1, *PREPARED, lost + r"nothing was recorded, and what is left in \S+/binder-record"
+                    r" there is removed by the next \S+record --adb")
+    device.what = "the folder that is left"
+    device.says(["--check"], 0, *PREPARED, READY)
+    device.left_nothing()
+    device.what = "the connection is lost at the end"
+    with device.with_file("cut", "cd / && rm -rf"):
+        device.says(["-o", "whole", "--", "true"], 0, *PREPARED, READY, COUNTS, lost + r"\S+/binder-record may still be"
+                    r" there, with what was fetched; to remove it: adb -s one shell rm -r \S+/binder-record",
+                    FETCHED.format("whole"))
+    shutil.rmtree(device.folder())
+
+
+# Names that no recording makes, in the order in which they are said.
+STRANGE = ("../capture-1.cap", "capture\x1b[31m", "capture-1.capx", "capture-x.side", "capture../../stranger",
+           "capture.cap", "capture1")
+
+
+def check_strange(device: Device) -> None:
+    """A device that means harm lists files that are none."""
+    device.what = "names that no recording makes"
+    digest = hashlib.sha256(b"strange\n").hexdigest()
+    (device.room / "out/strange").mkdir()
+    with device.with_file("names", "".join(f"8 {name}\n" for name in STRANGE)), \
+            device.with_command("stat", '[ "$2" != "%s %n" ] || cat "$ADB_ROOM/names"\n' + COMMANDS["stat"]), \
+            device.with_command("sha256sum", f"""sed -n "s/^8 capture/{digest}  capture/p" "$ADB_ROOM/names"
+                                exec /usr/bin/sha256sum "$@" """), \
+            device.with_command("cat", """case $1 in capture*) [ -e "$1" ] || { echo strange; exit; } ;; esac
+                                exec /bin/cat "$@" """):
+        device.says(["-o", "strange/", "--", "touch", "capture-mine", "mine"], 0, *PREPARED, READY, COUNTS,
+                    r"record: one has files that no recording makes, and they are not fetched: '\.\./capture-1\.cap',"
+                    r" 'capture\\x1b\[31m', 'capture-1\.capx', 'capture-mine', 'capture-x\.side' and 3 more",
+                    FETCHED.format("strange/"))
+    device.fetched("strange/")
+    if (device.room / "stranger").exists():
+        device.report(f"{device.what}: a file was made outside of the folder")
 
 
 def check_devices(device: Device) -> None:
@@ -221,7 +383,9 @@ def check_server(device: Device) -> None:
 
 def judge(_: argparse.Namespace, room: pathlib.Path, fail: Fail) -> None:
     device = Device(room, fail)
-    for part in (check_sessions, check_detached, check_lacking, check_lost, check_devices, check_server):
+    for part in (check_sessions, check_detached, check_two, check_left, check_interrupted, check_fetched_twice,
+                 check_lacking, check_lacking_here, check_lost, check_lost_early, check_strange, check_devices,
+                 check_server):
         part(device)
 
 

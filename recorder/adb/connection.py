@@ -21,10 +21,11 @@ class Nothing(Stopped):
 
 
 class Lost(Exception):
-    """The connection is lost: adb does not reach the device any more. It has what adb said."""
+    """The connection is lost: adb does not reach the device any more. Its line names the device, and has what adb
+    said."""
 
 
-ANSWERED = re.compile(rb"(.*)\n?answered (\d+)\n\Z", re.DOTALL)
+ANSWERED = re.compile(rb"(.*)\n?answered (\d{1,3})\n\Z", re.DOTALL)
 PORT = int(os.environ.get("ANDROID_ADB_SERVER_PORT", "5037"))
 
 
@@ -108,9 +109,15 @@ def need_status(serial: str) -> None:
 
 
 class Answer(NamedTuple):
+    """What a script on the device wrote to standard output and to standard error, and its status."""
+
     text: str
     status: int
-    said: str
+    errors: bytes
+
+    @property
+    def said(self) -> str:
+        return last_line(self.errors)
 
 
 class Connection:
@@ -129,5 +136,6 @@ class Connection:
         ended = subprocess.run(self.words(f"({script}\n); echo answered $?"), input=data, capture_output=True)
         answered = ANSWERED.fullmatch(ended.stdout)
         if not answered:
-            raise Lost(last_line(ended.stderr) or last_line(ended.stdout) or "adb says nothing")
-        return Answer(answered[1].decode(errors="replace"), int(answered[2]), last_line(ended.stderr))
+            why = last_line(ended.stderr) or last_line(ended.stdout) or "adb says nothing"
+            raise Lost(f"the connection to {self.serial} is lost ({why})")
+        return Answer(answered[1].decode(errors="replace"), int(answered[2]), ended.stderr)

@@ -8,10 +8,14 @@ import subprocess
 from typing import Iterator, NamedTuple
 
 from connection import Stopped
-from device import Folder
+from folder import Folder
 
 PIECE = 1 << 20
 BEGIN = "capture"  # of the names on the device
+# What the recorder adds to the begin of its files' names.
+ENDING = re.compile(r"(-[0-9]{1,10}\.(cap|side)|\.side|\.(begin|end)\.(state|transactions|stats))")
+# Lines of `stat` and of `sha256sum`.
+SIZE, SUM = re.compile(r"([0-9]{1,18}) (.*)", re.DOTALL), re.compile(r"([0-9a-f]{64}) [ *](.*)", re.DOTALL)
 
 
 class File(NamedTuple):
@@ -20,15 +24,28 @@ class File(NamedTuple):
     digest: str
 
 
-def listed(folder: Folder) -> list[File]:
-    """The files of the recording on the device."""
-    answer = folder.ask(f"stat -c '%s %n' {BEGIN}* && sha256sum {BEGIN}*")
-    lines = answer.text.splitlines()
-    sizes = {name: int(size) for size, name in (line.split(" ", 1) for line in lines if re.match(r"\d+ capture", line))}
-    sums = dict(re.split(r" [ *]", line, 1)[::-1] for line in lines if re.match(r"[0-9a-f]{64} ", line))
-    if answer.status or sizes.keys() != sums.keys():
-        raise Stopped(f"the files in {folder.path} of {folder.connection.serial} can't be read: {answer.said}")
-    return [File(name, sizes[name], sums[name]) for name in sorted(sizes)]
+class Listed(NamedTuple):
+    """The files of the recording on the device, and the names of others, which no recording makes: they would be made
+    anywhere on this system."""
+
+    files: list[File]
+    others: list[str]
+
+
+def is_made(name: str) -> bool:
+    """Whether the recorder gives this name to a file."""
+    return name.startswith(BEGIN) and ENDING.fullmatch(name, len(BEGIN)) is not None
+
+
+def listed(folder: Folder) -> Listed:
+    answer = folder.ask(f"stat -c '%s %n' {BEGIN}*; sha256sum {BEGIN}*")
+    lines = answer.text.split("\n")
+    sizes = {found[2]: int(found[1]) for line in lines if (found := SIZE.fullmatch(line))}
+    sums = {found[2]: found[1] for line in lines if (found := SUM.fullmatch(line))}
+    names = sorted(filter(is_made, sizes))
+    if not names or not sums.keys() >= set(names):
+        raise Stopped(f"the files in {folder.path} of {folder.serial} can't be read: {answer.said}")
+    return Listed([File(name, sizes[name], sums[name]) for name in names], sorted(sizes.keys() - set(names)))
 
 
 def path_of(out: str, name: str) -> str:
@@ -41,13 +58,14 @@ def for_owner(path: str, flags: int) -> int:
 
 
 def copied(folder: Folder, file: File, path: str) -> tuple[int, str]:
-    """Writes the bytes that come. Returns how many there were, and their digest."""
+    """Writes the bytes that come, and at most a piece more than there are. Returns how many there were, and their
+    digest."""
     count, digest = 0, hashlib.sha256()
     with open(path, "xb", opener=for_owner) as to, subprocess.Popen(
             folder.words(f"cat {file.name}"), stdin=subprocess.DEVNULL, stdout=subprocess.PIPE,
             stderr=subprocess.DEVNULL) as program:
         assert program.stdout
-        while piece := program.stdout.read(PIECE):
+        while count <= file.size and (piece := program.stdout.read(PIECE)):
             to.write(piece)
             digest.update(piece)
             count += len(piece)
@@ -59,7 +77,7 @@ def copied(folder: Folder, file: File, path: str) -> tuple[int, str]:
 def fetch_one(folder: Folder, file: File, path: str) -> None:
     if copied(folder, file, path) != (file.size, file.digest):
         folder.ask(":")  # if the connection is lost, that is why
-        raise Stopped(f"{file.name} of {folder.connection.serial} did not come as it is there")
+        raise Stopped(f"{file.name} of {folder.serial} did not come as it is there")
 
 
 @contextlib.contextmanager
@@ -79,9 +97,8 @@ def refuse(paths: list[str]) -> None:
             raise Stopped(f"{path} exists already, and is not overwritten")
 
 
-def fetch(folder: Folder, out: str) -> list[str]:
-    """Fetches all files, under names that begin with `out`. Returns their paths."""
-    files = listed(folder)
+def fetch(folder: Folder, files: list[File], out: str) -> list[str]:
+    """Fetches these files, under names that begin with `out`. Returns their paths."""
     paths = [path_of(out, file.name) for file in files]
     parts = [f"{path}.part" for path in paths]
     refuse(paths + parts)

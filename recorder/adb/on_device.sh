@@ -2,8 +2,8 @@
 #
 #     sh on_device.sh record NAMES [OPTION..] [-- PROGRAM ARGUMENT..]
 #         records, and passes on what the recorder says, first what the device lacks or that it is ready, until PROGRAM
-#         ends. Each line of standard input, and its end, is passed on as SIGINT. If NAMES is `ask`, the managers are
-#         asked for the names of all services.
+#         ends. Without PROGRAM it says when the recording has begun. Each line of standard input, and its end, is
+#         passed on as SIGINT. If NAMES is `ask`, the managers are asked for the names of all services.
 #     sh on_device.sh detach NAMES [OPTION..] [-- PROGRAM ARGUMENT..]
 #         begins the same, and returns when the recording has begun, or has failed.
 #     sh on_device.sh end
@@ -14,6 +14,7 @@
 # does not write to the connection itself, which may stall, but for the line that it is ready, before PROGRAM begins.
 # It uses what toybox, mksh and busybox have.
 umask 077
+exec 4>&2 2>/dev/null	# what the commands say, when for example another one removes the folder, is for nobody
 
 is_recording() {
 	[ "$(cat state)" = recording ] && [ "/proc/$(cat pid)/exe" -ef record ]
@@ -26,7 +27,7 @@ interrupt() {
 }
 
 has_begun() {
-	cat capture.side capture-1.side 2>/dev/null | grep -q ' begin realtime='
+	cat capture.side capture-1.side | grep -q ' begin realtime='
 }
 
 # Android ends all processes of the service adbd when it stops it, for example when the cable comes off: those in its
@@ -34,7 +35,7 @@ has_begun() {
 leave_adbd() {
 	for group in /sys/fs/cgroup /acct; do
 		[ -w $group/cgroup.procs ] && echo 0 >$group/cgroup.procs
-	done 2>/dev/null
+	done
 }
 
 # Each manager answers for its device, if the system has it: so the names of all services are in the capture.
@@ -43,7 +44,7 @@ ask_names() {
 	for command in 'service list' 'vndservice list' lshal; do
 		command -v "${command%% *}" && timeout 20 sh -c "$command"
 	done
-} </dev/null >/dev/null 2>&1
+} </dev/null >/dev/null 4>&-
 
 prepare() {
 	trap '' HUP
@@ -56,7 +57,7 @@ prepare() {
 run() { # NAMES [OPTION..]
 	names=$1
 	shift
-	RECORD_READY=3 setsid ./record -o capture "$@" </dev/null 3>&2 2>>messages & recorder=$!
+	RECORD_READY=3 setsid ./record -o capture "$@" </dev/null 3>&4 2>>messages 4>&- & recorder=$!
 	# Until setsid has become the recorder, or that has ended.
 	while [ -e /proc/$recorder/exe ] && ! [ /proc/$recorder/exe -ef record ]; do sleep 0.1; done
 	echo $recorder >pid
@@ -68,8 +69,17 @@ run() { # NAMES [OPTION..]
 # Passes on what was said since the last time.
 tell() {
 	size=$(stat -c %s messages)
-	if [ "$size" -gt "${told:-0}" ]; then tail -c +$((${told:-0} + 1)) messages | head -c $((size - ${told:-0})) >&2; fi
+	if [ "$size" -gt "${told:-0}" ]; then tail -c +$((${told:-0} + 1)) messages | head -c $((size - ${told:-0})) >&4; fi
 	told=$size
+}
+
+# Says once that the recording has begun, which ends by Ctrl-C: that of a PROGRAM shows itself.
+tell_begun() { # [OPTION..] [-- PROGRAM ARGUMENT..]
+	for word; do [ "$word" != -- ] || return; done
+	if [ -z "$begun" ] && has_begun; then
+		echo 'record: recording; Ctrl-C ends it, and fetches the files' >&4
+		begun=1
+	fi
 }
 
 listen() {
@@ -83,11 +93,12 @@ record)
 	shift
 	run "$@" & runner=$!
 	exec 3<&0
-	(exec <&3 >/dev/null 2>&1; listen) & listener=$!
+	(exec <&3 >/dev/null 4>&-; listen) & listener=$!
 	exec 3<&- </dev/null
-	while kill -0 $runner 2>/dev/null && [ ! -e pid ]; do sleep 0.1; done
+	while kill -0 $runner && [ ! -e pid ]; do sleep 0.1; done
 	while is_recording; do
 		sleep 0.5
+		tell_begun "$@"
 		tell
 	done
 	wait $runner
@@ -98,14 +109,14 @@ detach)
 	prepare
 	shift
 	# By exec: adb waits for all that hold the connection, and a shell keeps what it redirects for one command.
-	(exec </dev/null >/dev/null 2>>messages; run "$@") & runner=$!
-	while kill -0 $runner 2>/dev/null && [ ! -e pid ]; do sleep 0.1; done
+	(exec </dev/null >/dev/null 4>>messages; run "$@") & runner=$!
+	while kill -0 $runner && [ ! -e pid ]; do sleep 0.1; done
 	while is_recording && ! has_begun; do sleep 0.2; done
 	tell
 	echo $told >told
 	;;
 end)
-	told=$(cat told 2>/dev/null)
+	told=$(cat told)
 	while is_recording; do		# a second signal ends the wait for a program that does not end
 		interrupt
 		for _ in 1 2 3 4 5 6 7 8 9 10; do is_recording && sleep 1; done

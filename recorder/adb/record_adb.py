@@ -1,15 +1,13 @@
-#!/usr/bin/env python3
 """Records on a device that adb reaches: `record --adb`, whose words `record --help` has.
 
-    recorder/adb/record_adb.py RECORD [SERIAL] [OPTION].. [-- PROGRAM ARGUMENT..]
-
-The script `record` calls it, with its own name as RECORD. The recorder for the device's machine is put into a folder of
-its own there, with on_device.sh, which has it run. What was recorded is fetched and compared; only then it is removed
-from the device. So whatever fails, it is in one of the two places, and a line names the command that fetches it.
+The recorder for the device's machine is put into a folder of its own there, with on_device.sh, which has it run. What
+was recorded is fetched and compared; only then it is removed from the device. So whatever fails, it is in one of the
+two places. A line says what was seen there after a failure, and names the command that fetches it.
 """
 
 import contextlib
 import os
+import re
 import shlex
 import shutil
 import signal
@@ -17,48 +15,19 @@ import subprocess
 import sys
 import threading
 from types import FrameType
-from typing import BinaryIO, Iterator, NamedTuple
+from typing import Iterator, NamedTuple
 
-sys.dont_write_bytecode = True
-sys.path.insert(0, os.path.dirname(os.path.realpath(__file__)))
-import device  # noqa: E402
-import fetch  # noqa: E402
-import words  # noqa: E402
-from connection import Connection, Lost, Nothing, Stopped, need_adb, the_device  # noqa: E402
-from device import Folder  # noqa: E402
-from next_command import view_command  # noqa: E402
+import device
+import fetch
+import folder as folders
+import words
+from connection import Connection, Lost, Nothing, Stopped, need_adb, the_device
+from folder import OLDEST, Folder, Found, Gone
+from next_command import view_command
+from told import pass_on, tell, tell_all
 
 LEAST_SPACE = 1 << 20  # bytes; with less, a recording begins nowhere
-
-
-def tell(line: str) -> None:
-    sys.stderr.write(f"record: {line}\n")
-
-
-# ---- what the recorder says
-
-
-def as_told(line: bytes, serial: str) -> bytes:
-    """The line that the system is ready tells of which device that is. The last line names the next command, which
-    would be one of the device."""
-    if line.startswith(b"record: ready: "):
-        line = line.replace(b"record:", f"record: {serial}:".encode(), 1)
-    return line.split(b"; next: ")[0].rstrip(b"\n") + b"\n"
-
-
-def pass_on(said: BinaryIO, serial: str) -> None:
-    """Passes lines on, and what shows the progress, which has no end of a line."""
-    waiting = b""
-    while piece := os.read(said.fileno(), 65536):
-        *lines, waiting = (waiting + piece).split(b"\n")
-        told = b"".join(as_told(line, serial) for line in lines)
-        if waiting.startswith(b"\r"):
-            told, waiting = told + waiting, b""
-        sys.stderr.buffer.write(told)
-        sys.stderr.buffer.flush()
-    if waiting:
-        sys.stderr.buffer.write(as_told(waiting, serial))
-        sys.stderr.buffer.flush()
+MOST_NAMED = 5  # the most names of files in a line
 
 
 # ---- one recording
@@ -73,7 +42,7 @@ class Command(NamedTuple):
 
     @property
     def serial(self) -> str:
-        return self.folder.connection.serial
+        return self.folder.serial
 
     @property
     def to_fetch(self) -> str:
@@ -86,43 +55,80 @@ class Command(NamedTuple):
         return f"{progress}sh on_device.sh {shlex.join([what, self.words.how, *self.words.options])}"
 
 
-def kept(command: Command) -> str:
-    return f"what was recorded stays in {command.folder.path} of {command.serial}; to fetch it: {command.to_fetch}"
+# ---- the folder on the device
 
 
-def prepare(command: Command) -> None:
+def refuse_recording(command: Command, found: Found) -> None:
+    """What is recorded there, or was, stays there."""
+    folder = found.folder
+    if folder.is_recording():
+        raise Stopped(f"{command.serial} records already, into {folder.path}{found.begun}; to end that, and fetch it:"
+                      f" {command.to_fetch}")
+    if folder.has_recording():
+        raise Stopped(f"{command.serial} has a recording in {folder.path} already; to fetch it: {command.to_fetch}")
+
+
+def refuse_preparing(command: Command, found: Found) -> None:
+    """What another command prepares stays there."""
+    if not found.is_left():
+        raise Stopped(f"another command prepares a recording in {found.folder.path} of {command.serial}{found.begun}:"
+                      " wait until that has ended, or end it; what a killed command left is removed after"
+                      f" {OLDEST // 60} minutes")
+
+
+def take(command: Command) -> Command:
+    """Makes the folder, so that it is this command's. What a killed command left there is removed."""
+    said = ""
+    for _ in range(3):
+        connection, path, _ = command.folder
+        made = folders.make(connection, path)
+        if isinstance(made, Folder):
+            return command._replace(folder=made)
+        if found := folders.look(connection, path):
+            with contextlib.suppress(Gone):  # its command has just removed it
+                refuse_recording(command, found)
+                refuse_preparing(command, found)
+                found.folder.remove()
+        said = made
+    raise Stopped(f"{command.folder.path} can't be made on {command.serial}: {said}")
+
+
+def put(command: Command, program: bytes) -> None:
+    tell(f"putting the recorder ({len(program) / 1e6:.1f} MB) on {command.serial}")
+    command.folder.put("record", program)
+    command.folder.put("on_device.sh", (device.HERE / "on_device.sh").read_bytes())
+    command.folder.need_execution()
+    tell(f"loading it into the kernel of {command.serial}")
+
+
+def prepare(command: Command) -> Command:
     """Puts the recorder there. With --check it says what the device lacks; else it does so when it begins to record."""
-    folder = command.folder
-    if device.is_there(folder):
-        if folder.is_recording() or folder.has_recording():
-            raise Stopped(f"{command.serial} has a recording in {folder.path} already; to fetch it: {command.to_fetch}")
-        folder.remove()
-    program = device.recorder_for(folder.connection).read_bytes()
-    device.make(folder)
+    program = device.recorder_for(command.folder.connection).read_bytes()
     try:
-        folder.put("record", program)
-        folder.put("on_device.sh", (device.HERE / "on_device.sh").read_bytes())
-        if command.words.check:
-            check(command)
-    except Lost:
-        raise
-    except BaseException:
-        folder.remove()
-        raise
+        command = take(command)
+        try:
+            put(command, program)
+            if command.words.check:
+                check(command)
+        except (Stopped, OSError):
+            command.folder.remove()
+            raise
+        except KeyboardInterrupt as interrupt:
+            command.folder.remove()
+            raise Stopped("interrupted; nothing was recorded", 130) from interrupt
+    except Lost as lost:
+        raise Stopped(f"{lost}; nothing was recorded, and what is left in {command.folder.path} there is removed by the"
+                      f" next {command.record} --adb") from lost
+    return command
 
 
 def check(command: Command) -> None:
     options, _ = words.split_program(command.words.options)
-    checked = subprocess.run(command.folder.words(
-        f"./record --check -o {fetch.BEGIN} {shlex.join(options)}; echo checked $?"),
-        stdin=subprocess.DEVNULL, stdout=subprocess.PIPE, stderr=subprocess.PIPE)
-    answer, _, status = checked.stdout.decode(errors="replace").rpartition("checked ")
-    if not status.strip().isdigit():
-        raise Lost(checked.stderr.decode(errors="replace").strip())
-    sys.stderr.buffer.write(checked.stderr)
-    for line in answer.splitlines():
+    answer = command.folder.ask(f"./record --check -o {fetch.BEGIN} {shlex.join(options)}")
+    tell_all(answer.errors, command.serial)
+    for line in answer.text.splitlines():
         tell(f"{command.serial}: {line}")
-    if int(status):
+    if answer.status:
         raise Stopped(f"{command.serial} can't be recorded")
 
 
@@ -159,13 +165,13 @@ def record(command: Command) -> None:
                           stderr=subprocess.PIPE, start_new_session=True) as program:
         assert program.stderr
         signals = Signals(program)
-        reader = threading.Thread(target=pass_on, args=(program.stderr, command.serial))
+        reader = threading.Thread(target=pass_on, args=(program.stderr.fileno(), command.serial))
         reader.start()
         program.wait()
         reader.join()
         signals.end()
     if command.folder.is_recording():
-        raise Lost("the recorder is still at work")
+        raise Stopped(f"the connection to {command.serial} has ended")
 
 
 # ---- the end of a recording
@@ -173,8 +179,24 @@ def record(command: Command) -> None:
 
 def status_of(command: Command) -> int:
     """The status of the recorder. It is not there if the device was full or ended meanwhile."""
-    answer = command.folder.ask("cat state").text.strip()
-    return int(answer) if answer.isdigit() else 1
+    found = re.fullmatch("([0-9]{1,3})\n", command.folder.ask("cat state").text)
+    return int(found[1]) if found else 1
+
+
+def tell_others(command: Command, names: list[str]) -> None:
+    """Names files that are not fetched. PROGRAM may have made them, or a device that means harm."""
+    if names:
+        more = f" and {len(names) - MOST_NAMED} more" * (len(names) > MOST_NAMED)
+        tell(f"{command.serial} has files that no recording makes, and they are not fetched:"
+             f" {', '.join(map(repr, names[:MOST_NAMED]))}{more}")
+
+
+def remove_fetched(command: Command) -> None:
+    try:
+        command.folder.remove()
+    except Lost as lost:
+        tell(f"{lost}; {command.folder.path} may still be there, with what was fetched; to remove it: adb -s"
+             f" {command.serial} shell rm -r {command.folder.path}")
 
 
 def finish(command: Command) -> int:
@@ -186,8 +208,10 @@ def finish(command: Command) -> int:
         raise Nothing(f"nothing was recorded on {command.serial}")
     if (space := folder.space()) is not None and space < LEAST_SPACE:
         tell(f"{command.serial} is full, with {space} bytes free in {folder.path}: the recording ends early")
-    paths = fetch.fetch(folder, command.words.out)
-    folder.remove()
+    files, others = fetch.listed(folder)
+    tell_others(command, others)
+    paths = fetch.fetch(folder, files, command.words.out)
+    remove_fetched(command)
     size = sum(os.path.getsize(path) for path in paths)
     tell(f"{len(paths)} files, {size} bytes fetched from {command.serial}; next: {view_command(command.record, paths)}")
     return status
@@ -197,10 +221,7 @@ def do(command: Command, what: str) -> None:
     """Has the script on the device do this, and passes on what the recorder said, without its progress."""
     ended = subprocess.run(command.folder.words(command.on_device(what)), stdin=subprocess.DEVNULL,
                            stderr=subprocess.PIPE)
-    for line in ended.stderr.split(b"\n"):
-        if line:
-            sys.stderr.buffer.write(as_told(line.rpartition(b"\r")[2], command.serial))
-    sys.stderr.flush()
+    tell_all(ended.stderr, command.serial)
 
 
 def begin_detached(command: Command) -> int:
@@ -213,38 +234,62 @@ def begin_detached(command: Command) -> int:
 
 
 def fetch_recording(command: Command) -> int:
-    if not device.is_there(command.folder):
+    found = folders.look(command.folder.connection, command.folder.path)
+    if not found:
         raise Nothing(f"{command.serial} has no recording in {command.folder.path}")
-    do(command, "end")
-    return finish(command)
+    if not found.folder.is_recording() and not found.folder.has_recording():
+        refuse_preparing(command, found)
+        found.folder.remove()
+        raise Nothing(f"{command.serial} has no recording in {command.folder.path}")
+    command = command._replace(folder=found.folder)
+    with keeping(command):
+        do(command, "end")
+        return finish(command)
+
+
+# ---- failures
+
+
+def what_is_there(command: Command) -> str:
+    """What is on the device after a failure, as far as it can be seen, and what to do."""
+    folder = command.folder
+    try:
+        if folder.is_recording():
+            return f"{command.serial} still records; to end that, and fetch it: {command.to_fetch}"
+        if folder.has_recording():
+            return f"what was recorded stays in {folder.path} of {command.serial}; to fetch it: {command.to_fetch}"
+        folder.remove()
+        return f"nothing was recorded on {command.serial}"
+    except Lost:
+        return f"when {command.serial} is back, this fetches what was recorded there: {command.to_fetch}"
 
 
 @contextlib.contextmanager
 def keeping(command: Command) -> Iterator[None]:
-    """Once something is recorded, each failure leaves it where it is, and says so."""
+    """Once something is recorded, each failure leaves it where it is, and says so, after a look."""
     try:
         yield
     except Nothing:
         raise
     except (Stopped, Lost, OSError) as failure:
-        raise Stopped(f"{failure_line(failure)}; {kept(command)}") from failure
+        raise Stopped(f"{failure_line(failure)}; {what_is_there(command)}") from failure
     except KeyboardInterrupt as interrupt:
-        raise Stopped(f"interrupted; {kept(command)}", 130) from interrupt
+        raise Stopped(f"interrupted; {what_is_there(command)}", 130) from interrupt
 
 
 def failure_line(failure: Exception) -> str:
-    if isinstance(failure, Lost):
-        return f"the connection is lost ({failure})"
     if isinstance(failure, OSError):
         return f"{failure.filename or 'adb'}: {failure.strerror}"
     return str(failure)
 
 
+# ---- the command
+
+
 def run(command: Command) -> int:
     if command.words.fetch:
-        with keeping(command):
-            return fetch_recording(command)
-    prepare(command)
+        return fetch_recording(command)
+    command = prepare(command)
     if command.words.check:
         command.folder.remove()
         return 0
@@ -261,7 +306,7 @@ def command_of(name: str, given: list[str]) -> Command:
     need_adb()
     connection = Connection(the_device(asked.serial))
     device.become_root(connection)
-    return Command(name, asked, device.folder_of(connection))
+    return Command(name, asked, Folder(connection, folders.path_on(connection)))
 
 
 def as_typed(record: str) -> str:
@@ -278,9 +323,5 @@ def main(name: str, given: list[str]) -> int:
         tell(failure_line(failure))
         return failure.status if isinstance(failure, Stopped) else 1
     except KeyboardInterrupt:
-        tell("interrupted; nothing was recorded")
+        tell("interrupted")
         return 130
-
-
-if __name__ == "__main__":
-    sys.exit(main(sys.argv[1], sys.argv[2:]))

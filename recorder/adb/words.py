@@ -2,11 +2,10 @@
 
 import glob
 import os
-import re
 from typing import NamedTuple
 
 from connection import Stopped
-from fetch import refuse
+from fetch import ENDING, refuse
 
 USAGE = ("usage: record --adb [SERIAL] [--detach | --fetch] [--no-names] [OPTION].. [-- PROGRAM ARGUMENT..]; record"
          " --help has the options")
@@ -71,9 +70,8 @@ def read(words: list[str]) -> Words:
 
 def refuse_files(out: str) -> None:
     """No file of a recording may be there: those of the recorder, by their endings."""
-    found = [path for path in sorted(glob.glob(glob.escape(out) + "[-.]*")) if re.fullmatch(
-        r"(-\d+\.(cap|side)|\.side|\.(begin|end)\.(state|transactions|stats))(\.part)?", path[len(out):])]
-    refuse(found)
+    refuse([path for path in sorted(glob.glob(glob.escape(out) + "[-.]*"))
+            if ENDING.fullmatch(path.removesuffix(".part"), len(out))])
     folder = os.path.dirname(out) or "."
     if not os.path.isdir(folder) or not os.access(folder, os.W_OK):
         raise Stopped(f"{folder} is not a folder in which files can be made")

@@ -136,12 +136,16 @@ class Stage:
 
 # ---- scenes
 
+PUTTING = r"record: putting the recorder \(\d\.\d MB\) on 127\.\S+"
+PREPARED = PUTTING, r"record: loading it into the kernel of 127\.\S+"
 READY = r"record: 127\.0\.0\.1:\d+: ready: kernel \S+, driver in C, devices binder hwbinder vndbinder"
+BEGUN = r"record: 127\.\S+: recording; Ctrl-C ends it, and fetches the files"
 COUNTS = r"record: \d+ frames, 0 lost; 1 file, \d+ bytes"
 FETCHED = r"record: \d+ files, \d+ bytes fetched from 127\.0\.0\.1:\d+; next: \S+view {0}-1\.cap --side {0}\.side"
 NOTHING = r"record: nothing was recorded on 127\.0\.0\.1:\d+"
-LOST = (r"record: the connection is lost \(.*\); what was recorded stays in /data/local/tmp/binder-record of 127\.\S+;"
-        r" to fetch it: \S+record --adb 127\.\S+ --fetch -o {0}")
+LOST = (r"record: the connection to 127\.\S+ (is lost \(.*\)|has ended); (when 127\.\S+ is back, this fetches what was"
+        r" recorded there|127\.\S+ still records; to end that, and fetch it|what was recorded stays in /data/local/tmp/"
+        r"binder-record of 127\.\S+; to fetch it): \S+record --adb 127\.\S+ --fetch -o {0}")
 
 
 def no_device(stage: Stage) -> None:
@@ -185,7 +189,7 @@ def by_su(stage: Stage) -> None:
     """Another user records by su, and PROGRAM is root's."""
     stage.connect(stage.serials[2])
     came = stage.record(stage.serials[2], "-o", "su", "--", "sh", "-c", "sleep 3; id -u; exit 7")
-    stage.line(came, 7, READY, "0", COUNTS, FETCHED.format("su"))
+    stage.line(came, 7, *PREPARED, READY, "0", COUNTS, FETCHED.format("su"))
     stage.good_capture("su")
 
 
@@ -208,8 +212,8 @@ def mounted(stage: Stage, folder: str, size: str) -> Iterator[None]:
 def no_btf(stage: Stage) -> None:
     """What the device lacks is passed on: here that the kernel has no BTF."""
     with mounted(stage, "/sys/kernel/btf", "4k"):
-        stage.line(stage.record(stage.serials[0]), 1, "record: /sys/kernel/btf/vmlinux is not there: a kernel with"
-                   " CONFIG_DEBUG_INFO_BTF is needed, and sysfs", NOTHING)
+        stage.line(stage.record(stage.serials[0]), 1, *PREPARED, "record: /sys/kernel/btf/vmlinux is not there: a"
+                   " kernel with CONFIG_DEBUG_INFO_BTF is needed, and sysfs", NOTHING)
     stage.nothing_left()
 
 
@@ -219,8 +223,8 @@ def no_bpf(stage: Stage) -> None:
         stage.connect(serial)
         said = stage.shell("id -u; cat /sys/fs/selinux/enforce; echo; cat /proc/self/attr/current", serial).said
         stage.must(f"user, enforcing and domain are {said}", said.strip("\0\n").split() == ["0", "1", domain])
-    stage.line(stage.record(stage.serials[4]), 1, r"record: the kernel does not let this process load the recorder's"
-               r" program.*", NOTHING)
+    stage.line(stage.record(stage.serials[4]), 1, *PREPARED, r"record: the kernel does not let this process load the"
+               r" recorder's program.*", NOTHING)
     denied = re.compile(r"denied +\{ (map_create|prog_load) \}.*u:r:shell")
     stage.must("the log has no denial", denied.search(stage.shell("dmesg").said) is not None)
     stage.nothing_left()
@@ -247,7 +251,7 @@ def interrupted(stage: Stage, name: str, *words: str) -> None:
     stage.wait_until_recording()
     time.sleep(15)
     recording.send_signal(signal.SIGINT)
-    stage.line(stage.end(recording), 0, READY, COUNTS, FETCHED.format(name))
+    stage.line(stage.end(recording), 0, *PREPARED, READY, BEGUN, COUNTS, FETCHED.format(name))
     stage.good_capture(name)
     stage.nothing_left()
 
@@ -288,7 +292,7 @@ def cable(stage: Stage) -> None:
     stage.wait_until_recording()
     time.sleep(5)
     end_adbd(stage)
-    stage.line(stage.end(recording), 1, READY, LOST.format("cable"))
+    stage.line(stage.end(recording), 1, *PREPARED, READY, BEGUN, LOST.format("cable"))
     stage.connect(stage.serials[0])
     again = stage.record(stage.serials[0], "-o", "again")
     stage.line(again, 1, r"record: 127\.\S+ has a recording in /data/local/tmp/binder-record already; to fetch it:"
@@ -300,7 +304,7 @@ def cable(stage: Stage) -> None:
 
 def detached(stage: Stage) -> None:
     """A flight recording goes on when adbd ends, until it is fetched."""
-    stage.line(stage.record(stage.serials[0], "--detach", "--size", "65536", "-o", "flight"), 0, READY,
+    stage.line(stage.record(stage.serials[0], "--detach", "--size", "65536", "-o", "flight"), 0, *PREPARED, READY,
                r"record: 127\.\S+ records, also without the connection; to end that, and fetch it: \S+record --adb"
                r" 127\.\S+ --fetch -o flight")
     time.sleep(5)
@@ -348,15 +352,15 @@ def no_byte(stage: Stage) -> None:
 def no_room(stage: Stage) -> None:
     """On a device without room for the recorder that is said."""
     with mounted(stage, "/data/local/tmp", "600k"):
-        stage.line(stage.record(stage.serials[0]), 1, r"record: record can't be put into \S+ of 127\.\S+, which has"
-                   r" \d+ bytes free: .*")
+        stage.line(stage.record(stage.serials[0]), 1, PUTTING, r"record: record can't be put into \S+ of 127\.\S+,"
+                   r" which has \d+ bytes free: .*")
         stage.nothing_left()
 
 
 def fetched_wrong(stage: Stage) -> None:
     """What can't be written here stays on the device."""
     space = r"record: the files that are kept, .* can take \d+ bytes, and \. has \d+ free"
-    stage.line(stage.record(stage.serials[0], "--detach", "-o", "wrong"), 0, space, READY,
+    stage.line(stage.record(stage.serials[0], "--detach", "-o", "wrong"), 0, *PREPARED, space, READY,
                r"record: 127\.\S+ records, also without the connection; .*")
     came = stage.record(stage.serials[0], "--fetch", "-o", "/dev/full/wrong")
     stage.line(came, 1, "record: /dev/full is not a folder in which files can be made")
