@@ -1,4 +1,4 @@
-"""Changes of good inputs by chance: of bytes, of frames, of the words of lines, of sources, and of what JSON has."""
+"""Changes of good inputs by chance: of bytes, of frames, of the words of lines, and of sources."""
 
 import random
 import re
@@ -197,28 +197,3 @@ def changed_source(chance: random.Random, text: bytes) -> bytes:
         at = chance.randrange(len(words))
         words[at] = hostile(chance) if chance.random() < 0.5 else words[at] * chance.choice((2, 100, 5000))
     return b"".join(words)
-
-
-# ---- values of JSON
-
-VALUES = (None, True, "", [], {}, [[]], {"key": {}}, -1, 2**63, 2**70, 1e308, float("nan"), float("-inf"), *WORDS)
-
-
-def changed_value(chance: random.Random, value: object) -> object:
-    """A value of which something is another, missing or there often, at any depth."""
-    if isinstance(value, dict) and value and chance.random() < 0.95:
-        key, made = chance.choice(list(value)), dict(value)
-        how = chance.randrange(4)
-        if how == 0:
-            del made[key]
-        else:
-            made[key] = chance.choice(VALUES) if how == 1 else changed_value(chance, value[key])
-        return made
-    if isinstance(value, list) and value and chance.random() < 0.95:
-        made_list, at = list(value), chance.randrange(len(value))
-        if chance.random() < 0.3:
-            reorder(chance, made_list)
-        else:
-            made_list[at] = changed_value(chance, value[at])
-        return made_list
-    return chance.choice(VALUES)

@@ -1,5 +1,5 @@
-"""Ends the viewer while it writes, at moments by chance: by SIGKILL, because a file can't be longer, or because a disk is
-full."""
+"""Ends the viewer while it writes: by SIGKILL, because a file can't be longer, or because a disk is full, each by
+chance."""
 
 import pathlib
 import random
@@ -49,7 +49,7 @@ def killed(player: Player, chance: random.Random, room: pathlib.Path, count: int
 
 def said_wrongly(came: Came) -> Iterator[str]:
     """What is wrong with what it says when it can't write a file."""
-    yield from faults_of_streams(WRITES, came)
+    yield from faults_of_streams(came)
     if came.status not in (0, 1, 4) or came.status and (not came.err or b"standard output" in came.err):
         yield f"status {came.status}, {came.err.decode()}"
 
@@ -65,7 +65,7 @@ def in_short_files(player: Player, chance: random.Random, room: pathlib.Path, co
 
 
 def on_full_disks(player: Player, chance: random.Random, room: pathlib.Path, count: int) -> Iterator[str]:
-    """Runs it so many times with each of its files on a small disk, if the system gives this user disks of their own."""
+    """Runs it so many times with each of its files on a small disk, if the system gives this user one."""
     if player.play(Play("unshare", ("-rm", "true")), room).status:
         return
     kept = room / "kept"
@@ -73,8 +73,8 @@ def on_full_disks(player: Player, chance: random.Random, room: pathlib.Path, cou
         shutil.rmtree(kept, ignore_errors=True)
         kept.mkdir()
         size = chance.randrange(4, 60)
-        words = "-rm", "sh", "-c", ON_DISK, "sh", str(size), str(ROOT / "view"), *SESSION, option, f"full/{name}"
-        came = player.play(Play("unshare", words), room)
+        words = str(size), str(ROOT / "view"), *SESSION, option, f"full/{name}"
+        came = player.play(Play("unshare", ("-rm", "sh", "-c", ON_DISK, "sh", *words)), room)
         yield from (f"{option} on a disk of {size} KiB: {what}" for what in (*said_wrongly(came), *halves(kept)))
 
 

@@ -11,8 +11,7 @@ What must hold of each run:
 - It ends, in 30 s of the processor and with 1 GiB at most, with a status that the command's `--help` documents.
 - No exception of Python comes to a user, and each line on standard error begins with the name of the command. A status
   that says that something is wrong comes with a line.
-- No control character, no mark of direction and nothing that is no UTF-8 comes to a terminal; only the listing writes
-  the names of a side list as they are.
+- No control character, no mark of direction and nothing that is no UTF-8 comes to a terminal.
 - Each file that comes was asked for, and is whole: a page ends and has no markup but that of its templates, a database
   passes the check of its integrity, a timeline and a result are read to the end. Nothing is left in TMPDIR.
 - The viewer says of a malformed capture what the auditor says, and names it. A lab of which all is said to be done has
@@ -96,7 +95,7 @@ def play_input(player: Player, stock: Stock, one: Input, room: pathlib.Path, tal
     runs: list[tuple[Play, Came]] = []
     fulls = random.Random(f"{one} in full")
     for play in KINDS[one.kind](one.chance(), stock, room):
-        before, play = files_in(room), play._replace(in_full=fulls.random() < IN_FULL)
+        before, play = files_in(room), play._replace(in_full=play.in_full or fulls.random() < IN_FULL)
         came = player.play(play, room)
         runs.append((play, came))
         for what in faults_of(play, came, room, before):

@@ -10,10 +10,10 @@ import sqlite3
 from contextlib import closing, suppress
 from typing import Callable, Iterator, NamedTuple
 
-from checks.hostile.changes import (NUMBERS, VALUES, WORDS, changed_bytes, changed_capture, changed_lines,
-                                    changed_source, changed_value, encoded, reorder)
+from checks.hostile.changes import WORDS, changed_bytes, changed_capture, changed_lines, changed_source, encoded
 from checks.hostile.plays import Play, Player
 from checks.kit.programs import CHECKS, DRIVER, ROOT, SMALL
+from checks.lab.mutated import VALUES, mutated_results
 
 # The longest captures that are changed, so that a run is short.
 LONGEST = 20_000
@@ -116,8 +116,8 @@ def sides(chance: random.Random, _: Stock, room: pathlib.Path) -> Iterator[Play]
     if chance.random() < 0.2:
         capture.write_bytes(changed_capture(chance, capture.read_bytes(), chance.choice(CAPTURES).read_bytes()))
     yield view(chance, *SIDE)
-    if chance.random() < 0.3:
-        yield Play("./listing", (*SIDE, *narrowed(chance)))
+    if chance.random() < 0.2:  # the script takes out the signs of a side list
+        yield Play("./listing", (*SIDE, *narrowed(chance)), in_full=True)
 
 
 def books(chance: random.Random, _: Stock, room: pathlib.Path) -> Iterator[Play]:
@@ -192,28 +192,20 @@ QUESTIONS = (("since",), ("longest",), ("holds",), ("new", "old=b1", "new=b2", "
              ("called", "defect=d784601c9d15d559"), ("rate", "defect="), ("SELECT * FROM capture",), ("SELECT",))
 
 
-def result_text(chance: random.Random, stock: Stock, is_changed: bool) -> bytes:
+def good_result(chance: random.Random, stock: Stock) -> dict:
     """A result of one of two builds."""
-    result = json.loads(json.dumps(chance.choice(stock.results)))
-    result["capture"] |= {"build": chance.choice(("b1", "b2")), "device": f"d{chance.randrange(3)}",
-                          "digest": f"{chance.getrandbits(128):032x}"}
-    if not is_changed:
-        return json.dumps(result).encode()
-    if chance.random() < 0.1:
-        return b"[" * 100_000 if chance.random() < 0.2 else b""
-    for _ in range(chance.choice((1, 1, 2, 5))):
-        result = changed_value(chance, result)
-    text = json.dumps(result, ensure_ascii=chance.random() < 0.5).encode("utf-8", "surrogatepass")
-    text = re.sub(rb'("n": |"made": )\d+', rb"\g<1>" + chance.choice(NUMBERS).encode(), text, 1) if (
-        chance.random() < 0.2) else text
-    return changed_bytes(chance, text) if chance.random() < 0.2 else text
+    result = chance.choice(stock.results)
+    of = {"build": chance.choice(("b1", "b2")), "device": f"d{chance.randrange(3)}",
+          "digest": f"{chance.getrandbits(128):032x}"}
+    return {**result, "capture": {**result["capture"], **of}}
 
 
 def results(chance: random.Random, stock: Stock, room: pathlib.Path) -> Iterator[Play]:
-    """A good result between changed ones: it must come into the lab."""
+    """Changed results, and a good one after them, which must come into the lab."""
     (room / "results").mkdir()
-    for number, is_changed in enumerate((True, False, True)):
-        (room / f"results/{number}.json").write_bytes(result_text(chance, stock, is_changed))
+    for number, text in enumerate(mutated_results(good_result(chance, stock), chance, 3)):
+        (room / f"results/{number}.json").write_bytes(text)
+    (room / "results/good.json").write_bytes(json.dumps(good_result(chance, stock)).encode())
     yield Play("./fleet", ("load", "LAB.db", "results"))
     yield Play("./fleet", ("compare", "LAB.db", "b1", "b2", "--least", "1", "--all"))
     yield Play("./fleet", ("ask", "LAB.db", *chance.choice(QUESTIONS)))
@@ -222,7 +214,7 @@ def results(chance: random.Random, stock: Stock, room: pathlib.Path) -> Iterator
 def labs(chance: random.Random, stock: Stock, room: pathlib.Path) -> Iterator[Play]:
     """A changed lab."""
     changed_database(chance, room / "old.db", stock.lab)
-    (room / "new.json").write_bytes(result_text(chance, stock, False))
+    (room / "new.json").write_bytes(json.dumps(good_result(chance, stock)).encode())
     for words in (("compare", "old.db", "b1", "b2", "--least", "1"), ("ask", "old.db", *chance.choice(QUESTIONS)),
                   ("load", "old.db", "new.json"), ("compare", "old.db", "b1", "b1")):
         yield Play("./fleet", words)
@@ -270,7 +262,8 @@ def names(chance: random.Random, stock: Stock, room: pathlib.Path) -> Iterator[P
         ("--groups",), (f"-o{made}.html",), (f"--database={made}.db", "--groups"), (f"--trace={made}.json.gz",),
         (f"--against={front}{other}.db",), (f"--methods={front}{other}.methods", "--groups")))
     yield Play("./view", (*words, *more), chance.random() < 0.1)
-    yield Play("./audit", ("report", words[0]))
+    if not (room / f"{capture}.cap").is_fifo():  # the auditor waits for its writer
+        yield Play("./audit", ("report", words[0]))
     yield chance.choice((
         Play("./fleet", ("each", "SELECT key FROM capture", f"{front}{other}.db")),
         Play("./fleet", ("load", f"./{made}.db", f"{front}{other}.db")),

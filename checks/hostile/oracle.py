@@ -26,7 +26,7 @@ SIGNS = re.compile("[\0-\x08\x0b-\x1f\x7f-\x9f\u061c\u200e\u200f\u2028-\u202e\u2
 EXCEPTION = re.compile(r"Traceback \(most recent|\b(?:[A-Z][a-z]+)+(?:Error|Exception|Exit): ")
 
 # Statuses of what has no `--help`.
-STATUSES = {"make": {0, 2}, "lab/sessions.py": {0, 4}}
+STATUSES = {"make": {0, 2}}
 
 # How the lines on standard error begin, if not with the name of the program.
 BEGINS = {"make": r"fleet: |make(\[\d+\])?: ", "lab/sessions.py": "fleet: "}
@@ -49,17 +49,12 @@ def statuses(program: str) -> frozenset[int]:
     return frozenset({0} | {int(number) for number in re.findall(r"\b\d+(?=(?: and \d+)?[:,]\s)", shown.decode())})
 
 
-def is_exempt(play: Play) -> bool:
-    """The listing writes the names of a side list as they are there, and ./record writes no control character."""
-    return play.program == "./listing" and "--side" in play.words
-
-
-def faults_of_streams(play: Play, came: Came) -> Iterator[str]:
+def faults_of_streams(came: Came) -> Iterator[str]:
     for name, data in (("output", came.out), ("error", came.err)):
         text = text_of(data)
         if found := EXCEPTION.search(text):
             yield f"an exception on standard {name}: {last_line(text) if found[0].startswith('T') else found[0]}"
-        if (found := SIGNS.search(text)) and not is_exempt(play):
+        if found := SIGNS.search(text):
             yield f"{found[0]!a} on standard {name}"
 
 
@@ -70,7 +65,7 @@ def last_line(text: str) -> str:
 def faults_of_status(play: Play, came: Came) -> Iterator[str]:
     if came.status not in statuses(play.program):
         yield f"status {came.status}, which is not documented: {last_line(text_of(came.err))}"
-    if came.status in (1, 3, 4, 64) and not came.err.strip():
+    if came.status and not came.err.strip() and not (came.status == 2 and play.program in ("./audit", "./listing")):
         yield f"status {came.status} without a word"
     if came.peak > MOST_MEMORY:
         yield f"{came.peak >> 10} MiB of memory"
@@ -166,21 +161,27 @@ def files_in(room: pathlib.Path) -> set[pathlib.Path]:
     return {path for path in room.rglob("*") if not path.is_dir()}
 
 
+# Files that may come and are none of a final name: the lab's record of what was done, and what SQLite has beside a
+# database that is not closed, as one that is damaged.
+BESIDE = re.compile(r"tables/.*|lab/results/\.progress/.*|.*\.db-(wal|shm)")
+
+
 def is_asked(play: Play, name: str) -> bool:
     """Whether a command line makes a file of this name."""
     if play.program == "make":
         return name.startswith(("lab/results/", "lab/LAB.db"))
-    return any(name in word for word in play.words) or name == f"{play.words[0].removeprefix('./')}.html" or (
-        name.startswith(("tables/", "LAB.db", "old.db")))
+    return any(name in word for word in play.words) or name == f"{play.words[0].removeprefix('./')}.html"
 
 
 def faults_of_files(play: Play, room: pathlib.Path, before: set[pathlib.Path]) -> Iterator[str]:
-    """Files that came and are not asked for, or not whole. The lab's own record of what was done is none."""
+    """Files that came and are not asked for, or not whole."""
     for path in sorted(files_in(room) - before):
         name = str(path.relative_to(room))
+        if BESIDE.fullmatch(name):
+            continue
         if not is_asked(play, name):
             yield f"the file {name!a} came, which nobody asked for"
-        elif not name.startswith(("tables/", "lab/results/.progress")) and (why := why_half(path)):
+        elif why := why_half(path):
             yield f"{name!a} is not whole: {why}"
 
 
@@ -209,7 +210,7 @@ def sessions_left_out(play: Play, came: Came, room: pathlib.Path) -> Iterator[st
 
 
 def faults_of(play: Play, came: Came, room: pathlib.Path, before: set[pathlib.Path]) -> Iterator[str]:
-    yield from faults_of_streams(play, came)
+    yield from faults_of_streams(came)
     yield from faults_of_status(play, came)
     yield from faults_of_lines(play, came)
     yield from faults_of_files(play, room, before)

@@ -25,7 +25,8 @@ from checks.kit.programs import AUDITOR, LISTING, ROOT
 PROCESSOR, SPACE, CLOCK = 30, 4 << 30, 120
 
 # The scripts in Python, and the proved programs behind other scripts, by the names that messages give them.
-SCRIPTS = {"./view": "view", "./fleet": "fleet", "viewer/methods/table.py": "viewer/methods/table.py"}
+SCRIPTS = {"./view": "view", "./fleet": "fleet",
+           **{name: name for name in ("viewer/methods/table.py", "lab/sessions.py")}}
 PROVED = {"./audit": AUDITOR, "./listing": LISTING}
 
 
