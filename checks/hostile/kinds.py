@@ -10,7 +10,7 @@ import sqlite3
 from contextlib import closing, suppress
 from typing import Callable, Iterator, NamedTuple
 
-from checks.hostile.changes import WORDS, changed_bytes, changed_capture, changed_lines, changed_source, encoded
+from checks.hostile.mutations import WORDS, changed_bytes, changed_capture, changed_lines, changed_source, encoded
 from checks.hostile.plays import Play, Player
 from checks.kit.programs import CHECKS, DRIVER, ROOT, SMALL
 from checks.lab.mutated import VALUES, mutated_results
