@@ -312,8 +312,8 @@ static void play_child(u64 file)
 		fail("openings of a child");
 }
 
-/* A process gets its share, and no more; what it closes it may open again, and what its child had is given back too when
- * the child is gone. */
+/* A process gets its share, and no more; what it closes it may open again, and what its child had is given back too
+ * when the child is gone. */
 static void play_openings(void)
 {
 	const struct bpf_program *opens = program->progs.play_open, *closes = program->progs.play_release;

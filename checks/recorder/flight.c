@@ -1,6 +1,7 @@
 /* flight WORD..: the recorder on these words, with a driver that is made up, which ends the recording by a signal,
- * unless GOES_ON is in the environment. PLANTED there names files that somebody else makes meanwhile. It is through with its only write after that: so nearly all frames are written
- * after its books were copied. And it does more then, which is not in the recording. See loader. */
+ * unless GOES_ON is in the environment. It is through with its only write after that: so nearly all frames are written
+ * after its books were copied. And it does more then, which is not in the recording. PLANTED in the environment names
+ * files that somebody else makes meanwhile. See loader. */
 #define _GNU_SOURCE
 #include "drivers.h"
 #include "kernel.h"
