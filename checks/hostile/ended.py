@@ -31,10 +31,24 @@ def emptied(room: pathlib.Path) -> None:
         (room / name).unlink(missing_ok=True)
 
 
+def taken_for_whole(room: pathlib.Path) -> Iterator[str]:
+    """Files that are made wrong on purpose, and that nobody sees to be wrong."""
+    for name in FILES.values():
+        data = (room / name).read_bytes()
+        wrong = [data[:len(data) // 2], data[:-9], b""]
+        if name.endswith(".html"):
+            wrong += [data.replace(b"</p>", more + b"</p>", 1) for more in (b"<img src=x>", b"\x1b[31m", b"<script>")]
+        for number, other in enumerate(wrong):
+            (room / name).write_bytes(other)
+            if why_half(room / name) is None:
+                yield f"{name}, made wrong in way {number}, is taken for whole"
+
+
 def killed(player: Player, chance: random.Random, room: pathlib.Path, count: int) -> Iterator[str]:
     """Kills it so many times. The run after the last one leaves nothing of them but whole files."""
     longest = player.play(WRITES, room).seconds
     yield from halves(room)
+    yield from taken_for_whole(room)
     for _ in range(count):
         emptied(room)
         after = chance.uniform(0, longest)

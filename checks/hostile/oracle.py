@@ -122,8 +122,9 @@ def database(path: pathlib.Path) -> None:
     with closing(sqlite3.connect(path)) as opened:
         if (found := opened.execute("PRAGMA integrity_check").fetchone()) != ("ok",):
             raise ValueError(str(found))
-        if not opened.execute("SELECT count(*) FROM sqlite_master").fetchone()[0]:
-            raise ValueError("it has no table")
+        pages, size = (opened.execute(f"PRAGMA {what}").fetchone()[0] for what in ("page_count", "page_size"))
+        if not pages or pages * size != path.stat().st_size:
+            raise ValueError(f"it has not {pages} pages of {size} bytes")
 
 
 def packets(path: pathlib.Path) -> None:
