@@ -85,17 +85,22 @@ def faults_of_lines(play: Play, came: Came) -> Iterator[str]:
 
 
 class Markup(html.parser.HTMLParser):
-    """The tags of a page, and what could load or run something."""
+    """The tags of a page, what is in its scripts, and what else could load or run something."""
 
     def __init__(self) -> None:
         super().__init__()
         self.tags: list[str] = []
         self.loads: list[str] = []
+        self.script = ""
 
     def handle_starttag(self, tag: str, attrs: list[tuple[str, str | None]]) -> None:
         self.tags.append(tag)
         self.loads += [name for name, value in attrs if name.startswith("on") or name in ("src", "srcdoc", "style")
                        or name in ("href", "action") and not (value or "").startswith("#")]
+
+    def handle_data(self, data: str) -> None:
+        if self.tags[-1:] == ["script"]:
+            self.script += data
 
 
 @functools.cache
@@ -114,8 +119,9 @@ def page(path: pathlib.Path) -> None:
     markup.feed(text)
     if foreign := {*markup.tags} - tags_of_templates() | {*markup.loads}:
         raise ValueError(f"it has markup of a stranger: {sorted(foreign)}")
-    if markup.tags.count("script") != 1:
-        raise ValueError(f"it has {markup.tags.count('script')} scripts")
+    own = (ROOT / "viewer/page/page.js").read_text("utf-8")
+    if markup.tags.count("script") != 1 or markup.script.strip() != own.strip():
+        raise ValueError("it has another script than its own")
 
 
 def database(path: pathlib.Path) -> None:
