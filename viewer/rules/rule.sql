@@ -5,8 +5,8 @@
 -- makes: tables: rule; temporary tables: lossy, if_missing
 
 -- Processes with missing frames. If the side list does not say whose a missing frame was, it may be of any process. The
--- first frames may be lost, and the last ones; but a side list that goes on after a capture that was cut says nothing of
--- the capture there.
+-- first frames may be lost, and the last ones; but where a capture was cut, the side list says nothing of it after its
+-- end.
 CREATE TEMP TABLE lossy AS
 WITH lost AS (SELECT l.*, l.seq BETWEEN c.first_seq AND c.last_seq AS within FROM side_lost l, raw_capture c
   WHERE l.seq <= c.last_seq OR NOT EXISTS (SELECT 1 FROM side_time x WHERE x.seq > c.last_seq))
