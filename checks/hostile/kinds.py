@@ -192,20 +192,20 @@ QUESTIONS = (("since",), ("longest",), ("holds",), ("new", "old=b1", "new=b2", "
              ("called", "defect=d784601c9d15d559"), ("rate", "defect="), ("SELECT * FROM capture",), ("SELECT",))
 
 
-def good_result(chance: random.Random, stock: Stock) -> dict:
-    """A result of one of two builds."""
+def good_result(chance: random.Random, stock: Stock, build: str = "b2") -> dict:
+    """A result of a build, and of one of a few devices."""
     result = chance.choice(stock.results)
-    of = {"build": chance.choice(("b1", "b2")), "device": f"d{chance.randrange(3)}",
-          "digest": f"{chance.getrandbits(128):032x}"}
+    of = {"build": build, "device": f"d{chance.randrange(3)}", "digest": f"{chance.getrandbits(128):032x}"}
     return {**result, "capture": {**result["capture"], **of}}
 
 
 def results(chance: random.Random, stock: Stock, room: pathlib.Path) -> Iterator[Play]:
-    """Changed results, and a good one after them, which must come into the lab."""
+    """Changed results, and a good one of each build after them, by which the builds can be compared."""
     (room / "results").mkdir()
     for number, text in enumerate(mutated_results(good_result(chance, stock), chance, 3)):
         (room / f"results/{number}.json").write_bytes(text)
-    (room / "results/good.json").write_bytes(json.dumps(good_result(chance, stock)).encode())
+    for build in ("b1", "b2"):
+        (room / f"results/{build}.json").write_bytes(json.dumps(good_result(chance, stock, build)).encode())
     yield Play("./fleet", ("load", "LAB.db", "results"))
     yield Play("./fleet", ("compare", "LAB.db", "b1", "b2", "--least", "1", "--all"))
     yield Play("./fleet", ("ask", "LAB.db", *chance.choice(QUESTIONS)))
