@@ -125,12 +125,12 @@ def keep(made: pathlib.Path, path: pathlib.Path, may_replace: Callable[[], bool]
     that it may replace."""
     made.chmod(0o600)
     try:
-        with open(path, "xb", opener=for_owner):
-            pass
-    except FileExistsError as error:
-        if not may_replace():
+        os.link(made, path)
+    except OSError as error:
+        # A file system may have no links. Then a file of this name that somebody makes at this moment is replaced.
+        if os.path.lexists(path) and not may_replace():
             raise Stopped(1, f"{path} exists already") from error
-    made.replace(path)
+        made.replace(path)
 
 
 @contextlib.contextmanager
