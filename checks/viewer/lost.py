@@ -2,6 +2,7 @@
 frames are lost in turn, as the side list says. What is `real` then must be `real` in the whole session, too.
 
     checks/run lost                    loses one frame of 400
+    checks/run lost -- --most N        loses N frames of each session, or each one of it: 20 minutes of the processor for 12
     checks/run lost -- --all           loses each frame of each session: two hours of the processor
     checks/run lost -- --all CASE      of the sessions whose name has this text
 
@@ -12,6 +13,7 @@ import argparse
 import os
 import pathlib
 import sqlite3
+import sys
 from concurrent.futures import ProcessPoolExecutor
 from itertools import repeat
 
@@ -50,12 +52,21 @@ def without(session: Session, sequence: int) -> tuple[int, int]:
     return sum(map(len, whole[:at])), before - len(session.capture())
 
 
-def faults_of(number: int, every: int, room: pathlib.Path) -> list[str]:
-    """What is wrong with a case, if frames of it are lost: each of so many."""
+def some_of(frames: list[int], number: int, most: int | None) -> list[int]:
+    """The frames of a case that are lost: so many of them, from the first to the last one, or one of STEP."""
+    if most is None:
+        return frames[number % STEP::STEP]
+    if len(frames) <= most:
+        return frames
+    return [frames[nth * (len(frames) - 1) // (most - 1)] for nth in range(most)]
+
+
+def faults_of(number: int, most: int | None, room: pathlib.Path) -> list[str]:
+    """What is wrong with a case, if frames of it are lost."""
     one, found = CASES[number], []
     whole = one.played()
     there = [int.from_bytes(frame[:8], "little") for frame in whole.frames[1:]]
-    taken = [] if whole.missing else there[number % every::every]
+    taken = [] if whole.missing else some_of(there, number, most)
     due = real_ones(judged(base_of(room, whole)), 0, 0) if taken else {}
     for sequence in taken:
         session = one.played()
@@ -69,12 +80,13 @@ def faults_of(number: int, every: int, room: pathlib.Path) -> list[str]:
 def judge(given: argparse.Namespace, room: pathlib.Path, fail: Fail) -> None:
     build_programs(ROOT)
     raw_tables.loader()
+    most = given.most if given.all is None else sys.maxsize
     numbers = [number for number, one in enumerate(CASES) if (given.all or "") in one.name and one.has_side]
     with ProcessPoolExecutor(os.cpu_count()) as pool:
-        for faults in pool.map(faults_of, numbers, repeat(STEP if given.all is None else 1), repeat(room)):
+        for faults in pool.map(faults_of, numbers, repeat(most), repeat(room)):
             for fault in faults:
                 fail(fault)
 
 
 if __name__ == "__main__":
-    check(judge, all={"nargs": "?", "const": ""})
+    check(judge, all={"nargs": "?", "const": ""}, most={"type": int})
