@@ -13,7 +13,6 @@ import sys
 import time
 
 from checks.kit.checking import Fail, compare
-from checks.kit.frames import frames_of
 from checks.kit.programs import DRIVER, ROOT
 from checks.kit.runs import answer
 from checks.recorder.driver.compare import SECRETS, TO_CLEAR
