@@ -29,8 +29,13 @@ def places_of(copy: Copy, side: str) -> Iterator[pathlib.Path]:
         yield pathlib.Path(f"{base}.{copy.moment}.{copy.what}")
 
 
+def name_of(copy: Copy, sides: list[str]) -> str:
+    """What a copy is called that is not there."""
+    return shown_name([str(next(places_of(copy, sides[0])))])
+
+
 def text_of(copy: Copy, sides: list[str]) -> tuple[str | None, str | None]:
-    """The text of a copy; or None, and why not."""
+    """The text of a copy; or None, and what is wrong with it, if it is there."""
     for side in sides:
         for path in places_of(copy, side):
             try:
@@ -42,7 +47,7 @@ def text_of(copy: Copy, sides: list[str]) -> tuple[str | None, str | None]:
             if len(data) != copy.size:
                 return None, f"{shown_name([str(path)])} has {len(data):,} bytes, and the side list names {copy.size:,}"
             return data.decode(errors="replace"), None
-    return None, f"{shown_name([str(next(places_of(copy, sides[0])))])} is not beside the side list"
+    return None, None
 
 
 # ---- which opening is which
@@ -306,11 +311,12 @@ def load_states(database: sqlite3.Connection, states: dict[str, tuple[Copy, str]
 def load(database: sqlite3.Connection, copies: list[Copy], sides: list[str], names: dict[int, str]) -> str | None:
     """Puts the copies into the database. Returns what is wrong with those that are left out. Of two copies of one book
     the last counts."""
-    wrong, states = [], {}
+    wrong, states, lacking = [], {}, []
     for copy in {(copy.moment, copy.what): copy for copy in copies}.values():
         text, why = text_of(copy, sides)
         if text is None:
             wrong.append(why)
+            lacking += [name_of(copy, sides)] * (why is None)
             continue
         copy = widened(database, copy)
         database.execute("INSERT OR REPLACE INTO book VALUES (?, ?, ?, ?, ?)", copy[:5])
@@ -319,4 +325,6 @@ def load(database: sqlite3.Connection, copies: list[Copy], sides: list[str], nam
         if copy.what == "state" and copy.moment in ("begin", "end"):
             states[copy.moment] = copy, text
     wrong += load_states(database, states, names)
+    if lacking:
+        wrong.append(f"{', '.join(lacking)} {'is' if len(lacking) == 1 else 'are'} not beside the side list")
     return "; ".join(filter(None, wrong)) or None

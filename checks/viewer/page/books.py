@@ -196,8 +196,7 @@ def check_copies(folder: pathlib.Path, room: pathlib.Path, fail: Fail) -> None:
             ("other", lambda: end.write_text(texts[1] + "\n", "utf-8"), side,
              f"copies.end.state has {len(texts[1]) + 1} bytes, and the side list names {len(texts[1])}"),
             ("missing", end.unlink, side, "copies.end.state is not beside the side list"),
-            ("both", begin.unlink, side,
-             "copies.begin.state is not beside the side list; copies.end.state is not beside the side list"),
+            ("both", begin.unlink, side, "copies.begin.state, copies.end.state are not beside the side list"),
             ("huge", lambda: None, "huge.side",
              "the copy of state at the end has numbers that are none of the driver's")):
         change()
