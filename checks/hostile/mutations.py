@@ -185,6 +185,10 @@ def changed_lines(chance: random.Random, text: bytes) -> bytes:
     return b"\n".join(lines)
 
 
+# A word that is repeated again and again gets no longer than this.
+LONGEST = 2**17
+
+
 def changed_source(chance: random.Random, text: bytes) -> bytes:
     """A source of which words and signs are repeated often, exchanged or replaced."""
     if chance.random() < 0.3:
@@ -195,5 +199,6 @@ def changed_source(chance: random.Random, text: bytes) -> bytes:
             reorder(chance, words)
             continue
         at = chance.randrange(len(words))
-        words[at] = hostile(chance) if chance.random() < 0.5 else words[at] * chance.choice((2, 100, 5000))
+        often = chance.choice((2, 100, 5000))
+        words[at] = hostile(chance) if chance.random() < 0.5 else (words[at] * often)[:LONGEST]
     return b"".join(words)
