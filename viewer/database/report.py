@@ -43,19 +43,27 @@ def number_of(section: str, text: str, name: str) -> int:
     return int(fields_of(section, text)[name])
 
 
+def place_of(section: str, text: str) -> tuple[int | None, int, int]:
+    """The place of a row, if it has one, and its device and process. A row begins with these."""
+    if COLUMNS[section][0] == "place":
+        place, device, process, _ = text.split(None, 3)
+        return int(place), int(device), int(process)
+    device, process, _ = text.split(None, 2)
+    return None, int(device), int(process)
+
+
 def report_rows(lines: Iterable[str]) -> Iterator[tuple[str, int | None, int | None, int | None, str]]:
     """The rows of a report: section, place, device, process, text. Its heads are the rows of section `head`."""
     section = "head"
     for line in lines:
-        words, text = line.split(), line.strip()
+        text = line.strip()
         if not line.startswith("  "):
-            section = words[0]
+            section = text.split()[0]
             yield "head", None, None, None, text
         elif section == "codes":
             yield section, None, None, None, text
         else:
-            row = dict(zip(COLUMNS[section], words))
-            yield section, int(row["place"]) if "place" in row else None, int(row["device"]), int(row["process"]), text
+            yield section, *place_of(section, text), text
 
 
 def load_report(database: sqlite3.Connection, path: pathlib.Path) -> None:
@@ -65,36 +73,46 @@ def load_report(database: sqlite3.Connection, path: pathlib.Path) -> None:
                              report_rows(lines))
 
 
-class Row:
-    """What a row of the report says, by the names of the table `finding`."""
+# The column that says what a row is in its section; a row of another section has the section's name.
+WHAT = {"calls": "verdict", "served": "verdict", "strays": "kind", "refused": "kind", "buffers": "kind",
+        "deaths": "which", "clears": "which", "objects": "cause", "flags": "bits"}
+# The columns of a handle or node that are not 0 if it is held.
+HELD = {"handles": ("strong", "weak"), "nodes": ("strong", "weak", "strong_due", "weak_due")}
 
-    # The column that says what a row is in its section; a row of another section has the section's name.
-    WHAT = {"calls": "verdict", "served": "verdict", "strays": "kind", "refused": "kind", "buffers": "kind",
-            "deaths": "which", "clears": "which", "objects": "cause", "flags": "bits"}
-    # The columns of a handle or node that are not 0 if it is held.
-    HELD = {"handles": ("strong", "weak"), "nodes": ("strong", "weak", "strong_due", "weak_due")}
 
-    def __init__(self, section: str, text: str):
-        fields = fields_of(section, text)
-        self.what = fields[self.WHAT[section]] if section in self.WHAT else section
-        self.handle = int(fields["handle"]) if "handle" in fields else None
-        self.code = int(fields["code"]) if "code" in fields else None
-        self.ptr = self.cookie = None
-        if section in self.HELD:
-            self.what = "held" if any(fields[name] != "0" for name in self.HELD[section]) else "balanced"
-        if section == "nodes":
-            self.ptr, self.cookie = (signed(int(fields[name], 16)) for name in ("ptr", "cookie"))
+class Reader:
+    """Reads rows of one section of the report, of which there may be very many: so it looks up once where they have
+    what."""
+
+    def __init__(self, section: str):
+        at = {name: number for number, name in enumerate(COLUMNS[section])}
+        self.section, self.what = section, at.get(WHAT.get(section, ""))
+        self.held = [at[name] for name in HELD.get(section, ())]
+        self.handle, self.code = at.get("handle"), at.get("code")
+        self.ptr, self.cookie = (at["ptr"], at["cookie"]) if section == "nodes" else (None, None)
+
+    def read(self, text: str) -> tuple[str, int | None, int | None, int | None, int | None]:
+        """What a row says, by the names of the table `finding`: what, handle, code, ptr, cookie."""
+        words = text.split()
+        what = self.section if self.what is None else words[self.what]
+        if self.held:
+            what = "held" if any(words[at] != "0" for at in self.held) else "balanced"
+        return (what, None if self.handle is None else int(words[self.handle]),
+                None if self.code is None else int(words[self.code]),
+                None if self.ptr is None else signed(int(words[self.ptr], 16)),
+                None if self.cookie is None else signed(int(words[self.cookie], 16)))
 
 
 def findings_of(database: sqlite3.Connection) -> Iterator[tuple]:
     """The rows of the report that become findings: all but those of `codes` and `oneway`."""
     upids = {(device, process): upid for upid, device, process in
              database.execute("SELECT upid, device, process FROM raw_process")}
+    readers = {section: Reader(section) for section in COLUMNS}
     for number, section, place, device, process, text in database.execute(
             "SELECT id, section, place, device, process, text FROM report"
             " WHERE section NOT IN ('head', 'codes', 'oneway')"):
-        row = Row(section, text)
-        yield number, section, row.what, place, upids[device, process], row.handle, row.code, row.ptr, row.cookie
+        what, *rest = readers[section].read(text)
+        yield number, section, what, place, upids[device, process], *rest
 
 
 def load_findings(database: sqlite3.Connection) -> None:
