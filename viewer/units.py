@@ -59,10 +59,15 @@ def code_name(code: int | None) -> str | None:
 OBJECT = r"(?: (?!of )[\w$.:@/-]*[\w$.@/-](?: or others)?)?(?: \([\w$.:@]+(?: or others)?\))?"
 
 
-NODE = re.compile(rf"(?<!^) node 0x[0-9a-f]+{OBJECT}")
-OWN_OBJECT = re.compile(rf"^(handle|node|cookie) (0x)?[0-9a-f]+{OBJECT}")
-ADDRESS = re.compile(r"^address 0x[0-9a-f]+")
-HANDLE = re.compile(rf"\bhandle [0-9]+{OBJECT}")
+# What differs, with a text that a path has then, and what takes its place: in this order. To look for a text first takes
+# less time than an expression that does not fit.
+DIFFERS = (
+    (" node 0x", re.compile(rf"(?<!^) node 0x[0-9a-f]+{OBJECT}"), ""),
+    ("handle ", re.compile(rf"^handle (0x)?[0-9a-f]+{OBJECT}"), "handles"),
+    ("node ", re.compile(rf"^node (0x)?[0-9a-f]+{OBJECT}"), "nodes"),
+    ("cookie ", re.compile(rf"^cookie (0x)?[0-9a-f]+{OBJECT}"), "cookies"),
+    ("address 0x", re.compile(r"^address 0x[0-9a-f]+"), "addresses"),
+    ("handle ", re.compile(rf"\bhandle [0-9]+{OBJECT}"), "a handle"))
 
 
 def likeness(path: str, *processes: str | None) -> str:
@@ -72,10 +77,10 @@ def likeness(path: str, *processes: str | None) -> str:
     for who, name in zip(processes[::2], processes[1::2]):
         if who and who in path:  # To compile an expression for each process takes longer.
             path = re.sub(rf"(?<!\S){re.escape(who)}(?!\w)", lambda _: name or "a process", path)
-    path = NODE.sub("", path)
-    path = OWN_OBJECT.sub(r"\1s", path)
-    path = ADDRESS.sub("addresses", path)
-    return HANDLE.sub("a handle", path)
+    for text, expression, alike in DIFFERS:
+        if text in path:
+            path = expression.sub(alike, path)
+    return path
 
 
 def defect_key(kind: str, who: str, path: str) -> str:

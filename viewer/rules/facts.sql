@@ -55,12 +55,10 @@ FROM dead_record d JOIN dead_record q ON q.place = (SELECT max(x.place) FROM dea
 WHERE d.kind = :BR_DEAD_BINDER;
 CREATE INDEX temp.told_generation ON told_death(generation);
 
--- For a handle: the generation that is held, or else the last one; and the place where it was taken or given.
-UPDATE finding SET generation = (SELECT g.id FROM raw_generation g WHERE g.upid = finding.upid
-  AND g.handle = finding.handle ORDER BY g.strong + g.weak + g.held_strong + g.held_weak > 0 DESC, g.n DESC LIMIT 1)
-WHERE section = 'handles';
-UPDATE finding SET place = coalesce(g.held_since, g.given_by, g.begin)
-FROM raw_generation g WHERE g.id = finding.generation AND section = 'handles';
+-- For a handle: the last generation, since none before it is held; and the place where it was taken or given.
+UPDATE finding SET generation = g.id, place = coalesce(g.held_since, g.given_by, g.begin) FROM raw_generation g
+WHERE section = 'handles' AND g.id = (SELECT x.id FROM raw_generation x WHERE x.upid = finding.upid
+  AND x.handle = finding.handle ORDER BY x.begin DESC LIMIT 1);
 -- For a node: the last record by which the driver asks for a reference to it.
 CREATE TEMP TABLE asked AS
 SELECT t.upid, r.ptr, r.cookie, max(r.place) AS place FROM raw_record r JOIN raw_thread t USING (utid)

@@ -2,8 +2,8 @@
 -- needs: database/schema.sql: finding, raw_call, raw_delivery, raw_generation, raw_record, raw_send, side_time;
 --   database/views.sql: process; nodes.sql: node_of, who; facts.sql: given; rule.sql: rule; causes.sql: led_by;
 --   judging.py: counted, likeness, without_methods
--- makes: tables: title, finding_head, finding_group, traffic; temporary tables: titled, named, ranked, common, paths;
---   indexes: titled_kind, head_of_group, ranked_group, common_of, paths_of
+-- makes: tables: title, finding_head, finding_group, traffic; temporary tables: titled, known_as, named, ranked, common,
+--   paths; indexes: titled_kind, known_as_of, head_of_group, ranked_group, common_of, paths_of
 
 -- The title of a finding: by its rule, or by its section and what it is in that section.
 CREATE TABLE title(rule TEXT, section TEXT, what TEXT, title TEXT NOT NULL) STRICT;
@@ -51,18 +51,21 @@ SELECT k.rule, k.section, k.what,
 FROM (SELECT DISTINCT rule, section, what FROM finding WHERE rule NOTNULL AND lead IS NULL) k;
 CREATE UNIQUE INDEX temp.titled_kind ON titled(rule, section, what);
 
+-- What processes are called in paths, and their names.
+CREATE TEMP TABLE known_as AS SELECT w.upid, w.who, p.name FROM who w JOIN process p USING (upid);
+CREATE UNIQUE INDEX temp.known_as_of ON known_as(upid);
+
 -- The group of each finding, named by its leading finding: an open call leads its served end and its buffer.
 CREATE TABLE finding_head(id INTEGER PRIMARY KEY, grp INTEGER NOT NULL) STRICT;
 CREATE TEMP TABLE named AS
-SELECT f.id, f.path, likeness(f.path, t.who, p.name, o.who, q.name, s.who, x.name) AS likeness, f.rule,
+SELECT f.id, f.path, likeness(f.path, t.who, t.name, q.who, q.name, s.who, s.name) AS likeness, f.rule,
   v.sender AS giver,
   CASE r.verdict WHEN 'real' THEN 1 WHEN 'maybe' THEN 2 WHEN 'explained' THEN 3 ELSE 4 END AS rank,
   k.title
 FROM finding f JOIN rule r ON r.id = f.rule JOIN titled k USING (rule, section, what)
-  LEFT JOIN who t ON t.upid = f.target
-  LEFT JOIN process p ON p.upid = f.target LEFT JOIN who o ON o.upid = f.upid LEFT JOIN process q ON q.upid = f.upid
+  LEFT JOIN known_as t ON t.upid = f.target LEFT JOIN known_as q ON q.upid = f.upid
   LEFT JOIN given v ON v.generation = f.generation AND f.rule IN ('H5', 'H6', 'H8', 'H9', 'H10')
-  LEFT JOIN who s ON s.upid = v.sender LEFT JOIN process x ON x.upid = v.sender
+  LEFT JOIN known_as s ON s.upid = v.sender
 WHERE f.lead IS NULL;
 -- What is real and what is maybe on like paths is one group, with the strongest verdict of its findings.
 INSERT INTO finding_head

@@ -20,11 +20,12 @@ SELECT f.id, f.upid, f.handle, f.generation, f.what,
     JOIN raw_generation g ON g.upid = b.upid JOIN raw_record r ON r.place = g.begin
     WHERE b.upid = f.upid AND f.section = 'handles' AND g.handle = f.handle AND g.n = 1), 0) AS begun,
   -- Below 0 if more was let go, or acknowledged, than was taken or asked for; and what buffers hold, or what is due.
-  min(number_in(f.section, r.text, 'strong_low'), number_in(f.section, r.text, 'weak_low'),
-    iif(f.section = 'nodes', number_in(f.section, r.text, 'strong_due'), 0),
-    iif(f.section = 'nodes', number_in(f.section, r.text, 'weak_due'), 0)) AS least,
-  number_in(f.section, r.text, iif(f.section = 'nodes', 'strong_due', 'held_strong')) <> 0
-    OR number_in(f.section, r.text, iif(f.section = 'nodes', 'weak_due', 'held_weak')) <> 0 AS more,
+  -- A row without a minus has nothing below 0, and what is held or due are its last two numbers: so most rows, of which
+  -- there may be very many, are not read.
+  iif(instr(r.text, '-') = 0, 0, min(number_in(f.section, r.text, 'strong_low'),
+    number_in(f.section, r.text, 'weak_low'), iif(f.section = 'nodes', number_in(f.section, r.text, 'strong_due'), 0),
+    iif(f.section = 'nodes', number_in(f.section, r.text, 'weak_due'), 0))) AS least,
+  r.text NOT GLOB '* 0 0' AS more,
   (SELECT known FROM process_life p WHERE p.upid = f.upid) AS known,
   EXISTS (SELECT 1 FROM raw_generation g WHERE g.upid = f.upid AND g.handle = f.handle AND g.given_by IS NOT NULL)
     AS given

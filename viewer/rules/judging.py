@@ -30,7 +30,7 @@ def judge(database: sqlite3.Connection, folder: pathlib.Path = FOLDER) -> None:
     packages out."""
     database.create_function("duration", 1, duration_of, deterministic=True)
     database.create_function("counted", -1, counted, deterministic=True)
-    database.create_function("likeness", -1, likeness, deterministic=True)
+    database.create_function("likeness", -1, functools.lru_cache(4096)(likeness), deterministic=True)
     database.create_function("number_in", 3, number_of, deterministic=True)
     database.create_function("status_name", 1, status_name, deterministic=True)
     database.create_function("defect_key", 3, functools.lru_cache(4096)(defect_key), deterministic=True)
