@@ -2,8 +2,8 @@
 -- needs: database/schema.sql: finding, raw_call, raw_delivery, raw_generation, raw_record, raw_send, side_time;
 --   database/views.sql: process; nodes.sql: node_of, who; facts.sql: given; rule.sql: rule; causes.sql: led_by;
 --   judging.py: counted, likeness, without_methods
--- makes: tables: title, finding_head, finding_group, traffic; temporary tables: titled, known_as, named, ranked, common,
---   paths; indexes: titled_kind, known_as_of, head_of_group, ranked_group, common_of, paths_of
+-- makes: tables: title, finding_head, finding_group, traffic; temporary tables: titled, known_as, named, ranked,
+--   common, paths; indexes: titled_kind, known_as_of, head_of_group, ranked_group, common_of, paths_of
 
 -- The title of a finding: by its rule, or by its section and what it is in that section.
 CREATE TABLE title(rule TEXT, section TEXT, what TEXT, title TEXT NOT NULL) STRICT;
@@ -90,7 +90,7 @@ CREATE UNIQUE INDEX temp.common_of ON common(grp);
 CREATE TEMP TABLE paths AS
 SELECT grp, sum(n_all) AS n_all
 FROM (SELECT h.grp, n.path, max(f.n_all) AS n_all FROM named n JOIN finding_head h USING (id) JOIN finding f USING (id)
-  GROUP BY h.grp, n.path, iif(f.section = 'handles', f.upid, 0)) GROUP BY 1;
+  WHERE f.n_all NOTNULL GROUP BY h.grp, n.path, iif(f.section = 'handles', f.upid, 0)) GROUP BY 1;
 CREATE UNIQUE INDEX temp.paths_of ON paths(grp);
 
 -- A group has n findings of the n_all of its paths; those that are led do not count. Its rules begin with those of its
@@ -110,7 +110,7 @@ SELECT h.grp, CASE k.rank WHEN 1 THEN 'real' WHEN 2 THEN 'maybe' WHEN 3 THEN 'ex
   min(iif(f.lead IS NULL, f.place, NULL)), max(iif(f.lead IS NULL, f.place, NULL)),
   coalesce(max(f.waiting), 0), k.rules, NULL
 FROM finding_head h JOIN finding f USING (id) JOIN named n ON n.id = h.grp JOIN ranked k ON k.grp = h.grp
-  JOIN paths s ON s.grp = h.grp JOIN common o ON o.grp = h.grp
+  JOIN common o ON o.grp = h.grp LEFT JOIN paths s ON s.grp = h.grp
 GROUP BY h.grp;
 UPDATE finding_group SET note = (SELECT f.note FROM finding_head h JOIN finding f USING (id)
   WHERE h.grp = finding_group.grp AND f.lead IS NULL AND f.note <> '' ORDER BY f.place LIMIT 1);
