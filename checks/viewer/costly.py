@@ -137,6 +137,20 @@ def freezes(_: int) -> Iterator[Frame]:
 
 
 @costly
+def deaths_and_clears(_: int) -> Iterator[Frame]:
+    """No death is acknowledged, and no clear of its request is confirmed."""
+    return chain.from_iterable((wrote(1, 1, watch(BC_REQUEST_DEATH_NOTIFICATION, at, at)),
+                                got(1, 1, *each_long(BR_DEAD_BINDER, at)),
+                                wrote(1, 1, watch(BC_CLEAR_DEATH_NOTIFICATION, at, at))) for at in count(1))
+
+
+@costly
+def freezes_and_clears(_: int) -> Iterator[Frame]:
+    return chain.from_iterable((wrote(1, 1, watch(BC_REQUEST_FREEZE_NOTIFICATION, at, at)), got(1, 1, frozen(at, 1)),
+                                wrote(1, 1, watch(BC_CLEAR_FREEZE_NOTIFICATION, at, at))) for at in count(1))
+
+
+@costly
 def frees(_: int) -> Iterator[Frame]:
     return (wrote(1, 1, *each_long(BC_FREE_BUFFER, *(16 * buffer for buffer in some(at)))) for at in count())
 

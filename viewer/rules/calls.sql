@@ -9,10 +9,10 @@ UPDATE finding SET rule = 'A1', lead = w.id FROM waits w
 WHERE section IN ('served', 'buffers') AND w.delivery = finding.place AND (w.replied = 0 OR section = 'served');
 -- A call that failed because its server ended, and the served call there.
 UPDATE finding SET rule = 'A1', lead = f.id FROM raw_delivery d JOIN finding f ON f.place = d.send
-WHERE finding.section = 'served' AND finding.what = 'open' AND d.place = finding.place AND f.section = 'calls'
+WHERE finding.section = 'served' AND finding.what = 'open' AND d.place = finding.place AND +f.section = 'calls'
   AND f.what = 'failed' AND finding.rule IS NULL;
 UPDATE finding SET rule = 'A1', lead = coalesce(v.lead, v.id) FROM finding v
-WHERE finding.rule IS NULL AND finding.section = 'buffers' AND v.section = 'served' AND v.what = 'open'
+WHERE finding.rule IS NULL AND finding.section = 'buffers' AND +v.section = 'served' AND v.what = 'open'
   AND v.place = finding.place;
 
 -- C, T, U: calls and served calls that are open.

@@ -4,7 +4,7 @@
 -- makes: temporary tables: balance, begun_death; indexes: balance_at
 
 UPDATE finding SET rule = 'D3', note = 'the one at ' || d.place FROM finding d
-WHERE finding.rule IS NULL AND finding.section = 'clears' AND finding.what = 'unconfirmed' AND d.section = 'deaths'
+WHERE finding.rule IS NULL AND finding.section = 'clears' AND finding.what = 'unconfirmed' AND +d.section = 'deaths'
   AND d.what = 'unacknowledged' AND d.upid = finding.upid AND d.cookie = finding.cookie;
 UPDATE finding SET rule = CASE WHEN later = 0 AND finding.id IN (SELECT id FROM ended)
     OR finding.id IN (SELECT id FROM leaving) THEN 'T1'

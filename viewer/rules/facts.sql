@@ -143,7 +143,7 @@ FROM d LEFT JOIN side_time x ON x.seq = d.seq LEFT JOIN side_time z ON z.seq = d
 GROUP BY 1, 2, 3, 4, 5, 6;
 CREATE TEMP TABLE buffer_text AS
 SELECT f.path, b.n, b.good, b.longest_seq, b.longest FROM buffer_path b JOIN finding f ON f.place = b.one
-WHERE f.section = 'buffers';
+WHERE +f.section = 'buffers';
 UPDATE finding SET n_all = b.n, n_good = b.good, longest_seq = b.longest_seq, longest = b.longest
 FROM (SELECT path, sum(n) AS n, sum(good) AS good, max(longest_seq) AS longest_seq, max(longest) AS longest
   FROM buffer_text GROUP BY path) b WHERE b.path = finding.path AND section = 'buffers';

@@ -10,7 +10,7 @@ WHERE rule IS NULL AND section = 'freezes' AND d.place = finding.place
   AND coalesce(z.ts - (SELECT ts FROM side_time x WHERE x.seq = finding.seq) <= :LONG, 1);
 UPDATE finding SET rule = 'D3', note = 'the one at ' || f.place FROM finding f
 WHERE finding.rule IS NULL AND finding.section = 'freeze_clears' AND finding.what = 'unconfirmed'
-  AND f.section = 'freezes' AND f.what = 'unacknowledged' AND f.upid = finding.upid AND f.cookie = finding.cookie;
+  AND +f.section = 'freezes' AND f.what = 'unacknowledged' AND f.upid = finding.upid AND f.cookie = finding.cookie;
 -- The driver tells a process nothing more of an object until it has acknowledged what it was told. Others are told
 -- meanwhile: for each such notification, the first one of the contrary to anybody.
 CREATE TEMP TABLE freeze_told AS
@@ -40,7 +40,7 @@ CREATE TEMP TABLE begun_freeze AS
 SELECT f.id, b.quiet, iif(f.section = 'freezes', o.freezes,
   row_number() OVER (PARTITION BY f.upid, f.section ORDER BY f.place) <= o.freeze_clears) AS had
 FROM finding f JOIN begun b USING (upid) JOIN book_opening o ON o.upid = f.upid AND o.moment = 'begin'
-WHERE f.rule IS NULL AND f.section IN ('freezes', 'freeze_clears');
+WHERE f.rule IS NULL AND +f.section IN ('freezes', 'freeze_clears');
 UPDATE finding SET rule = CASE
   WHEN EXISTS (SELECT 1 FROM begun_freeze b WHERE b.id = finding.id AND b.had) THEN 'P2'
   WHEN finding.upid IN (SELECT upid FROM lossy) THEN 'M1'

@@ -21,6 +21,17 @@ JUDGING = ("nodes.sql", "names.sql", "freeze_facts.sql", "facts.sql", "late.sql"
            "causes.sql", "groups.sql", "defects.sql", "stacks.sql")
 
 
+# Most statements look at the findings of some sections, and a capture may have very many of others. Without statistics
+# SQLite takes it that ten findings are of a section, and that it need make no index for these few of what is joined to
+# them; so the statistics say that there are very many. Where findings of one section are looked up by something else,
+# as by their place, the statement has `+section`, for which no index is used. Nothing of this is left in the database.
+BY_SECTION = ("CREATE INDEX finding_of_section ON finding(section)", "ANALYZE finding_of_section",
+              "DELETE FROM sqlite_stat1",
+              "INSERT INTO sqlite_stat1 VALUES ('finding', 'finding_of_section', '1000000 100000')",
+              "ANALYZE sqlite_schema")
+NO_LONGER = ("DROP INDEX finding_of_section", "DROP TABLE sqlite_stat1")
+
+
 def judge(database: sqlite3.Connection, folder: pathlib.Path = FOLDER) -> None:
     """Gives each finding its verdict. In the statements `:BR_REPLY` is the number of that name, and `:LONG` a
     threshold. They make texts by `duration(nanoseconds)`, `counted(n, 'row')` and `status_name(number)`, alike ones by
@@ -35,6 +46,8 @@ def judge(database: sqlite3.Connection, folder: pathlib.Path = FOLDER) -> None:
     database.create_function("status_name", 1, status_name, deterministic=True)
     database.create_function("defect_key", 3, functools.lru_cache(4096)(defect_key), deterministic=True)
     numbers = {**named_numbers(database), **THRESHOLDS}
+    for statement in BY_SECTION:
+        database.execute(statement)
     for name in JUDGING:
         database.execute("BEGIN")
         for statement in statements_of(folder / name):
@@ -48,3 +61,5 @@ def judge(database: sqlite3.Connection, folder: pathlib.Path = FOLDER) -> None:
             database.create_function("without_methods", 1, names_of.without_methods, deterministic=True)
             database.create_function("service_name", 2, names_of.service, deterministic=True)
             database.create_function("object_name", 2, names_of.object, deterministic=True)
+    for statement in NO_LONGER:
+        database.execute(statement)

@@ -9,7 +9,7 @@ UPDATE finding SET rule = 'E3' WHERE rule IS NULL AND section = 'oneway' AND fin
 UPDATE finding SET rule = 'U1' WHERE rule IS NULL AND section = 'oneway' AND n_good >= :ENOUGH
   AND coalesce(age <= :USUAL * longest, age_seq <= :USUAL * longest_seq);
 UPDATE finding SET rule = 'W2', note = 'the one at ' || f.place FROM finding f JOIN raw_record r ON r.place = f.place
-WHERE finding.rule IS NULL AND finding.section = 'oneway' AND f.section = 'buffers' AND r.flags & :TF_ONE_WAY
+WHERE finding.rule IS NULL AND +finding.section = 'oneway' AND f.section = 'buffers' AND r.flags & :TF_ONE_WAY
   AND r.kind <> :BR_REPLY
   AND f.upid = finding.target AND f.ptr = finding.ptr AND f.cookie = finding.cookie;
 -- Or it waited for one that was freed only when its process ended.
