@@ -59,8 +59,8 @@ def code_name(code: int | None) -> str | None:
 OBJECT = r"(?: (?!of )[\w$.:@/-]*[\w$.@/-](?: or others)?)?(?: \([\w$.:@]+(?: or others)?\))?"
 
 
-# What differs, with a text that a path has then, and what takes its place: in this order. To look for a text first takes
-# less time than an expression that does not fit.
+# What differs, with a text that a path has then, and what takes its place: in this order. To look for a text first
+# takes less time than an expression that does not fit.
 DIFFERS = (
     (" node 0x", re.compile(rf"(?<!^) node 0x[0-9a-f]+{OBJECT}"), ""),
     ("handle ", re.compile(rf"^handle (0x)?[0-9a-f]+{OBJECT}"), "handles"),

@@ -33,8 +33,8 @@ def columns_of(section: str) -> str:
 
 @functools.lru_cache(1)
 def fields_of(section: str, text: str) -> dict[str, str]:
-    """The fields of a row by name: several are asked for, one after another. A row of `oneway` has no handle if it is of
-    what a process received."""
+    """The fields of a row by name: several are asked for, one after another. A row of `oneway` has no handle if it is
+    of what a process received."""
     return dict(zip(COLUMNS[section], text.split()))
 
 
