@@ -1,7 +1,7 @@
 """Checks that no finding of `view` is `real` because of a lost frame: of each small session of sessions/*cases.py
 frames are lost in turn, as the side list says. What is `real` then must be `real` in the whole session, too.
 
-    checks/run lost                    loses one frame of 400
+    checks/run lost                    loses one frame of 400, and those of which one was found wrong before
     checks/run lost -- --most N        loses N frames of each session, or each one of it: 20 minutes of the processor for 12
     checks/run lost -- --all           loses each frame of each session: two hours of the processor
     checks/run lost -- --all CASE      of the sessions whose name has this text
@@ -25,8 +25,9 @@ from checks.viewer.sessions.session import Session
 from viewer.database import raw_tables
 from viewer.database.programs import build_programs
 
-# `.ci/run` loses one frame of so many.
+# `.ci/run` loses one frame of so many, and these, each of which once made a finding real.
 STEP = 400
+FOUND = {"others_are_told wait=0 ends=60": [22], "kept_by_another_pool wait=12000": [93]}
 
 # What a finding is, in a session and in the same session with a frame less: a handle, a node, or the place of a record.
 Known = tuple[object, ...]
@@ -66,7 +67,7 @@ def faults_of(number: int, most: int | None, room: pathlib.Path) -> list[str]:
     one, found = CASES[number], []
     whole = one.played()
     there = [int.from_bytes(frame[:8], "little") for frame in whole.frames[1:]]
-    taken = [] if whole.missing else some_of(there, number, most)
+    taken = [] if whole.missing else [*some_of(there, number, most), *FOUND.get(one.name, [])]
     due = real_ones(judged(base_of(room, whole)), 0, 0) if taken else {}
     for sequence in taken:
         session = one.played()

@@ -1,23 +1,25 @@
 -- How long each finding has lasted, what its thread did after it, and whether it ended with its thread or process.
 -- Times are used if the side list has them, and frames otherwise.
 -- needs: database/schema.sql: book, book_opening, capture, finding, raw_call, raw_capture, raw_delivery, raw_frame,
---   raw_record, raw_thread, side_time; database/views.sql: process, thread; late.sql: late
+--   raw_record, raw_thread, side_lost, side_time; database/views.sql: process, thread; late.sql: late
 -- makes: temporary tables: last, process_life, begun, life, written, usual, old, ended, leaving; indexes:
 --   life_of_process, begun_process, life_of_thread, old_finding, ended_finding, leaving_finding
 
 -- ---- how long: to the end of its thread, its process or the capture
 
--- A side list that goes on after a capture that was cut says nothing of the end of the capture.
+-- A side list that goes on after a capture that was cut says nothing of the end of the capture. What it says of the end
+-- otherwise may name a frame that was lost after the last one.
 CREATE TEMP TABLE last AS
-SELECT c.last_seq AS seq, c.missing, iif(EXISTS (SELECT 1 FROM side_time s WHERE s.seq > c.last_seq),
-  (SELECT ts FROM side_time s WHERE s.seq = c.last_seq),
-  coalesce((SELECT value FROM capture WHERE key = 'end_ts'),
-    (SELECT ts FROM side_time s WHERE s.seq = c.last_seq))) AS ts
-FROM raw_capture c;
+SELECT c.last_seq AS seq, c.missing,
+  iif(cut, c.last_seq, max(c.last_seq, coalesce((SELECT max(seq) FROM side_lost), 0))) AS told,
+  iif(cut, (SELECT ts FROM side_time s WHERE s.seq = c.last_seq),
+    coalesce((SELECT value FROM capture WHERE key = 'end_ts'),
+      (SELECT ts FROM side_time s WHERE s.seq = c.last_seq))) AS ts
+FROM (SELECT *, EXISTS (SELECT 1 FROM side_time s WHERE s.seq > last_seq) AS cut FROM raw_capture) c;
 INSERT INTO capture SELECT 'until_ts', ts FROM last;
 CREATE TEMP TABLE process_life AS
-SELECT upid, iif(ended_after <= last.seq, ended_after, NULL) AS ended_after,
-  iif(ended_after <= last.seq, ended, NULL) AS ended,
+SELECT upid, iif(ended_after <= last.told, min(ended_after, last.seq), NULL) AS ended_after,
+  iif(ended_after <= last.told, ended, NULL) AS ended,
   coalesce(met = 'from-start', 0) AS known
 FROM process, last;
 CREATE UNIQUE INDEX temp.life_of_process ON process_life(upid);
@@ -30,8 +32,8 @@ CREATE UNIQUE INDEX temp.begun_process ON begun(upid);
 CREATE TEMP TABLE life AS
 SELECT t.utid, min(coalesce(t.ended_after, p.ended_after), coalesce(p.ended_after, t.ended_after)) AS ended_after,
   min(coalesce(t.ended, p.ended), coalesce(p.ended, t.ended)) AS ended
-FROM (SELECT utid, upid, iif(ended_after <= last.seq, ended_after, NULL) AS ended_after,
-    iif(ended_after <= last.seq, ended, NULL) AS ended FROM thread, last) t JOIN process_life p USING (upid);
+FROM (SELECT utid, upid, iif(ended_after <= last.told, min(ended_after, last.seq), NULL) AS ended_after,
+    iif(ended_after <= last.told, ended, NULL) AS ended FROM thread, last) t JOIN process_life p USING (upid);
 CREATE UNIQUE INDEX temp.life_of_thread ON life(utid);
 -- For a call the end of its thread counts, for a oneway send that of its receiver, for all else that of its process.
 UPDATE finding SET
