@@ -81,6 +81,14 @@ def unchanged(files: list[str]) -> Iterator[None]:
     refuse_changed()
 
 
+def refuse_named_pipe(name: str) -> None:
+    """A file may be read once, and so be a pipe of the shell. But a pipe with a name of its own may have no writer, and
+    would be waited for."""
+    with contextlib.suppress(OSError):
+        if stat.S_ISFIFO(os.lstat(name).st_mode):
+            raise Stopped(4, f"{name} is a pipe: write it into a file first, by cat > FILE")
+
+
 def linked(files: list[str], folder: pathlib.Path) -> list[pathlib.Path]:
     """Links to files, as programs are given them: whatever a file is called, a link is no option of a program, and
     /dev/stdin is another file there than here."""

@@ -3,12 +3,13 @@
 import re
 from typing import Iterator
 
-from viewer.files import Stopped
+from viewer.files import Stopped, refuse_named_pipe
 
 
 def known_in(path: str) -> dict[str, str]:
     """The keys in a file, one a line, each with its comment. A line may be empty, or begin with #."""
     found: dict[str, str] = {}
+    refuse_named_pipe(path)
     try:
         with open(path, encoding="utf-8", errors="replace") as lines:
             for number, line in enumerate(lines, 1):

@@ -4,6 +4,7 @@ import re
 import sqlite3
 from typing import Iterable, Iterator, NamedTuple
 
+from viewer.files import refuse_named_pipe
 from viewer.methods.every import ADDED, BASE, OF_BASE
 
 # The longest name of a method, and of its source. What is longer is cut.
@@ -52,6 +53,7 @@ def cut(text: str) -> str:
 
 def methods_in(path: str) -> Iterator[tuple[str, int, Method]]:
     """The lines of a table of `viewer/methods/table.py`."""
+    refuse_named_pipe(path)
     with open(path, encoding="utf-8", errors="replace", newline="\n") as lines:
         for number, line in enumerate(lines, 1):
             fields = line.removesuffix("\n").split("\t")

@@ -87,8 +87,11 @@ def check_pipes(folder: pathlib.Path, room: pathlib.Path, fail: Fail) -> None:
     os.mkfifo(room / "pipe")
     shutil.copy(CAPTURE, room / "good.cap")
     pipe = " is a pipe or a device, and is read more than once: write it into a file first, by cat > FILE\n"
+    named = " is a pipe: write it into a file first, by cat > FILE\n"
     for words, told in ((("pipe",), pipe), (("good.cap", "--side", "pipe"), pipe),
                         (("good.cap", "--against", "pipe"), pipe), (("/dev/stdin",), pipe),
+                        (("good.cap", "--methods", "pipe"), named),
+                        (("good.cap", "--fail-on", "real", "--known", "pipe"), named),
                         ((".",), " is a folder, and not a file\n")):
         came = subprocess.run([folder / "view", *words, "--groups"], cwd=room, capture_output=True, input="",
                               encoding="utf-8", timeout=60)
