@@ -2,6 +2,7 @@
 
 import os
 import pathlib
+import re
 import sqlite3
 from itertools import repeat
 from typing import Iterator
@@ -9,6 +10,7 @@ from typing import Iterator
 from viewer.defects.seen import kept_database
 from viewer.files import Stopped
 from viewer.terminal import field_of
+from viewer.units import counted
 
 QUESTIONS = pathlib.Path(__file__).resolve().parent / "questions"
 
@@ -48,6 +50,20 @@ class Values(dict[str, str | None]):
             raise Stopped(64, f"{question} takes {', '.join(others)}{' and ' * bool(others)}{last}")
 
 
+# Values that name something of the lab, and where that is.
+OF_BUILD = "build", "SELECT 1 FROM build WHERE name = ?"
+NAMED = {"defect": ("defect", "SELECT 1 FROM defect WHERE id = ?"), "old": OF_BUILD, "new": OF_BUILD}
+
+
+def refuse_unknown(lab: sqlite3.Connection, values: Values) -> None:
+    """Refuses a defect and builds that the lab does not have, because zeros would answer for them."""
+    for name, value in values.items():
+        if name in NAMED:
+            what, query = NAMED[name]
+            if not lab.execute(query, (value,)).fetchone():
+                raise Stopped(1, f"the lab has no {what} {value}")
+
+
 def text_of(question: str) -> str:
     """The SQL of a question."""
     if question in names():
@@ -70,10 +86,20 @@ def ask(lab: sqlite3.Connection, question: str, words: list[str]) -> Iterator[st
             raise
         raise Stopped(64, f"{error}; questions that have a name: {' '.join(names())}") from error
     values.refuse_others("the question" if question == query else question, query)
+    if question != query:
+        refuse_unknown(lab, values)
     if cursor.description is None:
         return
     yield line_of(name for name, *_ in cursor.description)
     yield from map(line_of, cursor)
+
+
+def doubt(lab: sqlite3.Connection, question: str) -> str | None:
+    """Why an answer may lack something: results were too long for all rows of who talks to whom, or of what is held."""
+    if not re.search(r"\b(talk|held)\b", text_of(question)):
+        return None
+    captures, rows = lab.execute("SELECT count(*), sum(left_out) FROM capture WHERE left_out > 0").fetchone()
+    return f"{counted(captures, 'result')} of the lab with {rows:,} rows left out" if captures else None
 
 
 def answer_of(query: str, path: str) -> list[tuple]:

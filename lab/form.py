@@ -1,5 +1,8 @@
 """The form of a result: the fields of each of its parts, and of which kind their values are. A result may come from
-anywhere, so nothing of it is used before it is known to have this form."""
+anywhere, so nothing of it is used before it is known to have this form.
+
+In a file each text of the lists is there once, in `names`: a row has the place of its texts in that list. And a list
+has the names of its columns once, and rows without names. This is form 2; in files of form 1 a row is an object."""
 
 import math
 import re
@@ -44,6 +47,7 @@ TEXT = Kind("a text", is_text, ("text",))
 NAME = Kind("a name", lambda value: is_text(value) and value != "", ("text",))
 WHOLE = Kind("a whole number of 64 bits", is_whole, ("integer",))
 NUMBER = Kind("a number", is_number, ("integer", "real"))
+KEY = hexadecimal(16)
 VERDICT = Kind("a verdict", lambda value: isinstance(value, str) and value in RANKS, ("text",))
 
 
@@ -59,7 +63,7 @@ CAPTURE = {
 
 # What a row is of each of the lists of a result.
 ROWS = {
-    "found": {"key": hexadecimal(16), "verdict": VERDICT, **fields(TEXT, "kind who path"), "n": WHOLE,
+    "found": {"key": KEY, "verdict": VERDICT, **fields(TEXT, "kind who path"), "n": WHOLE,
               **fields(optional(TEXT), "call rules own_path note"),
               **fields(optional(WHOLE), "n_all waiting age place")},
     "talk": {**fields(optional(TEXT), "caller server interface method call"),
@@ -96,3 +100,69 @@ def wrong(result: object) -> str | None:
     if why is None and len({row["key"] for row in result["found"]}) < len(result["found"]):
         return "found has a key twice"
     return why
+
+
+# ---- as a file has it
+
+# The form of the files that are written.
+FORM = 2
+
+
+def is_named(kind: Kind) -> bool:
+    """Whether a row has the place of the value in `names`. Verdicts are words of our own, and keys differ."""
+    return "text" in kind.types and kind not in (VERDICT, KEY)
+
+
+def folded(result: dict) -> dict:
+    """A result as a file has it."""
+    names: dict[str, int] = {}
+
+    def value_of(kind: Kind, value: object) -> object:
+        return names.setdefault(value, len(names)) if is_named(kind) and isinstance(value, str) else value
+
+    lists = {name: {"columns": [*form], "rows": [[value_of(kind, row.get(column)) for column, kind in form.items()]
+                                                 for row in result[name]]} for name, form in ROWS.items()}
+    return {"form": FORM, "capture": result["capture"], "names": [*names], **lists}
+
+
+class Unfolding:
+    """A file of form 2 that is unfolded to a result. What can't be is told by `why`."""
+
+    def __init__(self, given: dict):
+        self.names = given.get("names")
+        self.why = None if isinstance(self.names, list) else "names is no list"
+        self.result = {"capture": given.get("capture"), **{name: self.rows(name, given.get(name)) for name in ROWS}}
+
+    def rows(self, name: str, given: object) -> list[dict]:
+        columns, rows = (given.get("columns"), given.get("rows")) if isinstance(given, dict) else (None, None)
+        if not isinstance(columns, list) or not isinstance(rows, list) or any(type(one) is not str for one in columns):
+            self.why = self.why or f"{name} has no columns and rows"
+            return []
+        if others := [at for at, row in enumerate(rows) if not isinstance(row, list) or len(row) != len(columns)]:
+            self.why = self.why or f"{name}.rows[{others[0]}] is no row of {len(columns)} values"
+        if self.why:
+            return []
+        kinds = [ROWS[name].get(column) for column in columns]
+        return [{column: self.value(f"{name}.rows[{at}].{column}", kind, value)
+                 for column, kind, value in zip(columns, kinds, row) if kind} for at, row in enumerate(rows)]
+
+    def value(self, where: str, kind: Kind, value: object) -> object:
+        if value is None or not is_named(kind):
+            return value
+        if type(value) is int and 0 <= value < len(self.names):
+            return self.names[value]
+        self.why = self.why or f"{where} is no place in names"
+        return None
+
+
+def unfolded(given: object) -> tuple[dict, str | None]:
+    """The result that a file has, of any form that was ever written, and what is wrong with it, if something is."""
+    if not isinstance(given, dict):
+        return {}, "it is no object"
+    form = given.get("form", 1)
+    if form == 1:
+        return given, wrong(given)
+    if form != FORM:
+        return {}, f"it is of form {form!a}, and not of form {FORM} or before"
+    unfolding = Unfolding(given)
+    return unfolding.result, unfolding.why or wrong(unfolding.result)

@@ -11,6 +11,7 @@ import time
 from typing import Iterator, NamedTuple
 
 from lab import result
+from lab.wrong_list import why_wrong
 from viewer.database import side_belongs
 from viewer.defects.seen import kept_database
 from viewer.files import Stopped, shown_name, unchanged
@@ -24,18 +25,15 @@ PR_SET_PDEATHSIG = 1
 # The statuses of `./view` after which there is a database, and those that mean the same here.
 VIEWED, SAME = (0, 2), (3, 4, 64)
 
+# A disk with fewer free bytes is full.
+LITTLE = 2**16
+
 
 class Inputs(NamedTuple):
     """The files of a capture, its side lists, and the tables of methods."""
     files: list[str]
     sides: list[str]
     methods: list[str]
-
-    def refuse_empty(self) -> None:
-        """Refuses a side list without a byte, which is all that is left of one if the disk was full."""
-        for side in self.sides:
-            if os.stat(side).st_size == 0:
-                raise Stopped(4, f"{side} is empty: put the side list there, or remove it to do without")
 
     def options(self) -> list[str]:
         return [f"--side={side}" for side in self.sides] + [f"--methods={table}" for table in self.methods]
@@ -108,6 +106,15 @@ def why_no_answer(status: int, told: list[str]) -> str:
     return "; ".join(known or told[-1:]) or f"status {status}"
 
 
+def no_room_in(room: pathlib.Path) -> str:
+    """Words about a scratch disk that is full, of which the programs only know that they can't write."""
+    with contextlib.suppress(OSError):
+        disk = os.statvfs(room)
+        if disk.f_bavail * disk.f_frsize < LITTLE or disk.f_files and not disk.f_favail:
+            return f"; the disk of {room.parent} is full"
+    return ""
+
+
 def result_of(root: pathlib.Path, inputs: Inputs, seconds: float) -> dict:
     """The result of a capture, without what only the caller knows. There is one only if another run would say the same.
     What else ends `./view`, such as a full disk, has none, and the next run tries again."""
@@ -120,7 +127,10 @@ def result_of(root: pathlib.Path, inputs: Inputs, seconds: float) -> dict:
         if status == 1 and told and side_belongs.OTHER in told[-1]:
             return result.failed(told[-1])
         if status not in VIEWED:
-            raise Stopped(status if status in SAME else 1, f"{inputs.files[0]}: {why_no_answer(status, told)}")
+            if status == 4 and (why := why_wrong(inputs.sides, told, room)):
+                return result.failed(why)
+            raise Stopped(status if status in SAME else 1,
+                          f"{inputs.files[0]}: {why_no_answer(status, told)}{no_room_in(room)}")
         database = kept_database(str(made))
         try:
             return result.summary(database)
@@ -132,7 +142,6 @@ def one(root: pathlib.Path, inputs: Inputs, build: str, device: str, to: pathlib
     """Writes the result of a capture, by the programs in this folder. Returns why it does not have all defects, if it
     is malformed or can't be viewed."""
     with unchanged([*inputs.files, *inputs.sides, *inputs.methods]):
-        inputs.refuse_empty()
         digest = digest_of(inputs.files)
         made = result_of(root, inputs, seconds)
         # Not by time.time(), which can't say the time of a clock that is wrong by centuries.

@@ -1,17 +1,20 @@
-"""What is kept of a capture: a result, which is a JSON file of at most 64 KB, whatever the size of the capture."""
+"""What is kept of a capture: a result, a JSON file of at most 64 KB once it is packed, whatever the size of the
+capture."""
 
 import json
 import os
 import pathlib
 import sqlite3
 import tempfile
+import zlib
 
+from lab.form import folded
 from viewer.defects.seen import defects_of, facts_of, seconds_of
 from viewer.files import Stopped, errors_of
 
-# The most bytes that a file of a result has. The most that its parts have together; and the most characters of a text
-# in it, since names may be long.
-LARGEST, MOST, LONGEST = 65_536, 64_000, 512
+# The most bytes that a file of a result has, and that it has when it is packed; and the most characters of a text in
+# it, since names may be long.
+LARGEST, MOST, LONGEST = 2**20, 2**16, 512
 
 # What each process of a program holds at most, and in the end. What had ended when the recording did holds nothing.
 HELD = """
@@ -56,22 +59,39 @@ def summary(database: sqlite3.Connection) -> dict:
 
 
 def text_of(result: dict) -> str:
-    return json.dumps(result, separators=(",", ":")) + "\n"
+    return json.dumps(folded(result), separators=(",", ":")) + "\n"
+
+
+def fits(result: dict) -> bool:
+    """Whether a result is short enough. Packed it is some ten times shorter, as a lab is best sent and kept."""
+    text = text_of(result).encode()
+    return len(text) <= LARGEST and len(zlib.compress(text)) <= MOST
+
+
+# The lists of a result, in the order in which their rows are left out last.
+LISTS = ("found", "held", "talk")
+
+
+def first_rows(result: dict, count: int) -> dict:
+    """The result with so many rows of all lists. `left_out` counts the others."""
+    kept, left = {}, count
+    for name in LISTS:
+        kept[name] = result[name][:left]
+        left -= len(kept[name])
+    left_out = sum(len(result[name]) for name in LISTS) - count + left
+    return {**result, **kept, "capture": {**result["capture"], "left_out": left_out}}
 
 
 def bounded(result: dict) -> dict:
     """The result without its last rows, if it is too long: who talks to whom goes first, then what is held, then the
-    weakest defects. `left_out` counts them."""
-    lists = {name: list(map(text_of, result[name])) for name in ("found", "held", "talk")}
-    room, left_out = MOST - len(text_of(result["capture"])) - 1024, 0
-    for name, texts in lists.items():
-        fits = 0
-        while fits < len(texts) and (room := room - len(texts[fits].encode())) >= 0:
-            fits += 1
-        left_out += len(texts) - fits
-        result[name] = result[name][:fits]
-    result["capture"]["left_out"] = left_out
-    return result
+    weakest defects."""
+    fewest, most = 0, sum(len(result[name]) for name in LISTS)
+    if fits(whole := first_rows(result, most)):
+        return whole
+    while most - fewest > 1:
+        middle = (fewest + most) // 2
+        fewest, most = (middle, most) if fits(first_rows(result, middle)) else (fewest, middle)
+    return first_rows(result, fewest)
 
 
 def failed(why: str) -> dict:

@@ -8,7 +8,7 @@ import sqlite3
 import time
 from typing import Iterator
 
-from lab.form import CAPTURE, ROWS, Kind, wrong
+from lab.form import CAPTURE, ROWS, Kind, unfolded
 from lab.result import LARGEST
 from viewer.files import Stopped
 
@@ -101,6 +101,7 @@ def open_lab(path: str, may_make: bool = False) -> sqlite3.Connection:
                 refuse_other(lab, path)
             if may_make:
                 make(lab)
+            lab.execute((FOLDER / "builds.sql").read_text("utf-8"))
             closed_if_refused.pop_all()
     except (sqlite3.Error, UnicodeError) as error:
         raise Stopped(4, f"{path}: {error}") from error
@@ -164,10 +165,10 @@ def read(path: pathlib.Path) -> dict:
     """A result."""
     text = text_in(path)
     try:
-        result = json.loads(text.decode("utf-8"))
+        result, why = unfolded(json.loads(text.decode("utf-8")))
     except (ValueError, RecursionError) as error:
         raise Stopped(4, f"{path}: it is no result of `one`: it is no JSON") from error
-    if why := wrong(result):
+    if why:
         raise Stopped(4, f"{path}: it is no result of `one`: {why}")
     return result
 

@@ -30,10 +30,11 @@ _binder_fleet() { # COMMAND WORD BEFORE
   case $COMP_CWORD,$3 in
     1,*) _binder_audit_words "$2" 'one load compare ask each --help --version' ;;
     *,--fail-on) _binder_audit_words "$2" 'real maybe' ;;
-    *,--build | *,--device | *,--seconds | *,--share | *,--least) ;;
+    *,--build | *,--device | *,--seconds | *,--rate | *,--share | *,--least) ;;
     *,ask) _binder_audit_files ;;
     *)
-      _binder_audit_options "$2" '--side --methods --build --device -o --seconds --share --least --fail-on --known --all'
+      _binder_audit_options "$2" '--side --methods --build --device -o --seconds --rate --share --least --fail-on
+        --known --all --json --junit --sarif'
       ;;
   esac
 }

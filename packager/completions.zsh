@@ -27,11 +27,15 @@ case $service in
       '--device[device that it ran on]:device:' \
       '-o[file of the result]:result:_files' \
       '--seconds[how long a capture may take]:seconds:' \
+      '--rate[how many of a hundred told ones may be chance]:rate:' \
       '--share[enough devices of a hundred]:share:' \
       '--least[and at least so many]:devices:' \
       '--fail-on[weakest verdict that fails]:verdict:(real maybe)' \
       '--known[defects that are known]:file:_files' \
       '--all[also what is the same]' \
+      '--json[a comparison in JSON]' \
+      '--junit[file for a comparison as JUnit writes it]:file:_files' \
+      '--sarif[file for what fails as SARIF]:file:_files' \
       '(- *)--help[say what the words mean]' \
       '(- *)--version[say what the programs are made of]' \
       ':command:(one load compare ask each)' \

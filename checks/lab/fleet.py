@@ -13,14 +13,17 @@
 
 What must hold:
 
-- A capture has a result. A malformed one, one with the side list of another and one that takes too long have a result
-  that says so. None is longer than 64 KB. There is none, and a line says why, if another run may do better.
+- A capture has a result. A malformed one, one with a wrong side list or that of another, and one that takes too long
+  have a result that says so. None has more than 64 KB when it is packed. There is none, and a line says why, if another
+  run may do better.
 - A lab of results, which are made of stored captures put together in many ways, with a fault put into one build:
   however many loaders there are, killed or not, in whatever order, each capture counts once. What the lab has does
   not depend on the order.
 - The fault is the only new line of that build, and the only one that is gone in the build in which it is mended.
   Another one grows. Malformed and failed captures are told apart, and count for nothing.
-- Keys of two designs, and with and without tables of methods, are refused.
+- What is told is more than chance: the tests give what others worked out, two sets of captures of one build have no
+  line, and each planted change has its line.
+- Keys of two designs, with and without tables of methods, and with side lists on one side alone, are refused.
 - Of results that are none each has a line that says why, and the others are loaded. Mutated ones are loaded whole or
   have such a line, and nothing in them moves a terminal.
 - Each question that has a name has an answer, and so has SQL. `each` asks kept databases. What can't be done is told in
@@ -45,11 +48,13 @@ import shutil
 import sqlite3
 import subprocess
 import time
+import zlib
 from typing import Iterator
 
 from checks.kit.checking import FLAG, Fail, check, compare
 from checks.kit.programs import DRIVER, built_programs
 from checks.kit.runs import answer
+from checks.lab.chances import check_chances
 from checks.lab.keys import CUT, check_keys_of_cut, print_keys_of_two
 from checks.lab.mutated import check_mutated, check_wrong
 from checks.lab.names import check_names, made_up
@@ -57,6 +62,7 @@ from checks.lab.nodes import check_by_make, check_by_slurm
 from checks.lab.tried_again import check_tried_again
 from checks.lab.words import check_words
 from lab import result
+from lab.form import unfolded
 from lab.store import open_lab
 from viewer.units import defect_key
 
@@ -80,7 +86,7 @@ def made_of(folder: pathlib.Path, room: pathlib.Path, name: str, *more: object) 
     """The result of a stored capture."""
     to = room / f"{name}.json"
     fleet(folder, "one", *stored(name), "--build", "b1", "--device", "d1", "-o", to, *more)
-    return json.loads(to.read_text("utf-8"))
+    return unfolded(json.loads(to.read_text("utf-8")))[0]
 
 
 # ---- results
@@ -131,13 +137,26 @@ def check_killed(folder: pathlib.Path, room: pathlib.Path, fail: Fail) -> None:
 
 
 def check_bound(whole: dict, fail: Fail) -> None:
-    """However much there is, a result is short, and its defects are the last to go."""
-    large = copy.deepcopy(whole)
-    large["talk"] = [{**whole["talk"][0], "code": code, "caller": "x" * 400} for code in range(3000)]
+    """A capture like a phone's has a whole result. However much there is, a result is short, and its defects are the
+    last to go."""
+    chance, phone, large = random.Random(1), copy.deepcopy(whole), copy.deepcopy(whole)
+    # 24 processes, which have 1,200 sorts of calls.
+    phone["talk"] = [{**whole["talk"][0], "caller": f"process.number.{row % 24} on binder", "server":
+                      f"process.number.{row // 50} on binder", "call": f"org.example.IInterface{row // 50}.method{row}",
+                      "sends": chance.randrange(1000), "longest": chance.randrange(10**9)} for row in range(1200)]
+    compare("a result like a phone's", unfolded(json.loads(result.text_of(result.bounded(phone)))),
+            ({**phone, "capture": {**phone["capture"], "left_out": 0}}, None), fail)
+    row = {**whole["talk"][0], "caller": "x" * 400}
+    large["talk"] = [{**row, "longest": chance.getrandbits(60)} for _ in range(20_000)]
     bounded = result.bounded(large)
-    compare("a long result", (len(result.text_of(bounded)) <= 65536, len(bounded["found"]), len(bounded["talk"]) > 50,
-                              bounded["capture"]["left_out"] + len(bounded["talk"])),
-            (True, len(whole["found"]), True, 3000), fail)
+    text = result.text_of(bounded).encode()
+    compare("a long result", (len(text) <= 2**20, 2**16 - 100 < len(zlib.compress(text)) <= 2**16,
+                              len(bounded["found"]), bounded["capture"]["left_out"] + len(bounded["talk"])),
+            (True, True, len(whole["found"]), 20_000), fail)
+    bounded = result.bounded({**large, "found": [{**whole["found"][0], "note": f"{chance.getrandbits(2000):x}"}
+                                                 for _ in range(2000)]})
+    compare("a result of very many defects", (result.fits(bounded), 0 < len(bounded["found"]) < 2000, bounded["talk"]),
+            (True, True, []), fail)
 
 
 # ---- a lab of results that are made up of stored ones
@@ -263,7 +282,7 @@ def check_compared(folder: pathlib.Path, room: pathlib.Path, fail: Fail) -> str:
 
 def check_refused(folder: pathlib.Path, room: pathlib.Path, of: dict[str, dict], fail: Fail) -> None:
     """Keys that are not alike are not compared."""
-    for name, change in (("prints", {"prints": 99}), ("methods", {"methods": 3})):
+    for name, change in (("prints", {"prints": 99}), ("methods", {"methods": 3}), ("side", {"side": 0})):
         lab = room / f"{name}.db"
         some = [session_of(of, list(COMMON), build, "d", at, 1) for at, build in enumerate(("old", "new"))]
         some[1]["capture"].update(change)
@@ -317,7 +336,8 @@ def check_asked(folder: pathlib.Path, room: pathlib.Path, key: str, fail: Fail) 
     lab = room / "lab.db"
     asked = {"new": (["old=b2", "new=b3", "devices=2"], PLANTED), "since": ([], "\tb3\tb4\t"),
              "rate": ([f"defect={key}"], "\nb3\t"), "longest": ([], " code "), "holds": ([], " on binder\tb"),
-             "called": ([f"defect={key}"], "\nb3\t"), "SELECT count(*) AS n FROM capture": ([], "n\n")}
+             "called": ([f"defect={key}"], "\nb3\t"), "where": ([f"defect={key}"], "\nb3\t"),
+             "SELECT count(*) AS n FROM capture": ([], "n\n")}
     for question, (values, due) in asked.items():
         status, out, told = fleet(folder, "ask", lab, question, *values)
         compare(f"ask {question}", (status, due in out, told), (0, True, ""), fail)
@@ -442,6 +462,7 @@ def judge(given: argparse.Namespace, room: pathlib.Path, fail: Fail) -> None:
             check_names(room / "names", fail)
             check_tried_again(folder, room / "tried-again", fail)
             check_keys_of_cut(folder, room, CUT, fail)
+            check_chances(room / "chances", fail)
         check_lab(folder, room, given.results or 200, bool(given.results), fail)
 
 

@@ -68,7 +68,7 @@ def changed_text(chance: random.Random, text: bytes) -> bytes:
 def mutated_results(good: dict, chance: random.Random, count: int) -> Iterator[bytes]:
     """So many results, each of a capture of its own and of one of a few builds."""
     for number in range(count):
-        made = copy.deepcopy(good)
+        made = copy.deepcopy(good) if number % 2 else json.loads(result.text_of(good))  # of form 1, and of form 2
         made["capture"] |= {"digest": f"{number:032x}", "build": f"b{number % 3}", "device": f"d{number % 5}"}
         if chance.random() < 0.05:
             yield chance.choice(TEXTS)
@@ -95,7 +95,19 @@ WRONG: tuple[tuple[Path, object, str], ...] = (
     (("found", 0, "who"), None, "found[0].who is not a text"))
 
 NO_RESULTS = ((b"[" * 60_000, "it is no JSON"), (b"\xff", "it is no JSON"), (b"[]", "it is no object"),
-              (b"", "it is no JSON"), (b" " * 65_537, "it has more than 65,536 bytes"))
+              (b"", "it is no JSON"), (b" " * (2**20 + 1), "it has more than 1,048,576 bytes"))
+
+# The same of a file of form 2.
+WRONG_FILES: tuple[tuple[Path, object, str], ...] = (
+    (("form",), 3, "it is of form 3, and not of form 2 or before"), (("form",), "2", "it is of form '2'"),
+    (("names",), None, "names is no list"), (("names", 0), "\ud800", "found[0].kind is not a text"),
+    (("names", 0), 5, "found[0].kind is not a text"), (("talk",), [], "talk has no columns and rows"),
+    (("talk", "columns"), 5, "talk has no columns and rows"), (("talk", "columns", 0), [], "talk has no columns"),
+    (("held", "columns"), [], "held.rows[0] is no row of 0 values"), (("found", "rows", 0), [], "found.rows[0] is no"),
+    (("found", "rows", 0, 2), 99_999, "found.rows[0].kind is no place in names"),
+    (("found", "rows", 0, 2), -1, "found.rows[0].kind is no place in names"),
+    (("found", "rows", 0, 2), True, "found.rows[0].kind is no place in names"),
+    (("found", "rows", 0, 0), 0, "found[0].key is not 16 hexadecimal digits"))
 
 
 def wrong_results(good: dict) -> Iterator[tuple[bytes, str]]:
@@ -105,6 +117,10 @@ def wrong_results(good: dict) -> Iterator[tuple[bytes, str]]:
         parent_of(made, path)[path[-1]] = value  # type: ignore[index]
         yield json.dumps(made).encode(), says
     yield json.dumps({**good, "found": [good["found"][0]] * 2}).encode(), "found has a key twice"
+    for path, value, says in WRONG_FILES:
+        made = json.loads(result.text_of(good))
+        parent_of(made, path)[path[-1]] = value  # type: ignore[index]
+        yield json.dumps(made).encode(), says
 
 
 def check_wrong(folder: pathlib.Path, room: pathlib.Path, good: dict, fail: Fail) -> None:
@@ -118,8 +134,15 @@ def check_wrong(folder: pathlib.Path, room: pathlib.Path, good: dict, fail: Fail
     os.mkfifo(results / "pipe.json")
     due["pipe.json"] = "it is no file"
     (results / "z.json").write_text(result.text_of(good), "utf-8")
+    # As an earlier version wrote it.
+    older = {**good, "capture": {**good["capture"], "digest": "0" * 32}}
+    (results / "older.json").write_text(json.dumps(older), "utf-8")
     status, out, err = played(folder / "fleet", "load", room / "wrong.db", results)
-    compare("wrong results: status, output", (status, out), (4, "1 added, 0 there already\n"), fail)
+    compare("wrong results: status, output", (status, out), (4, "2 added, 0 there already\n"), fail)
+    compare("an older result", *(sqlite3.connect(room / "wrong.db").execute(
+        "SELECT count(*), sum(n), sum(length(kind)), sum(length(f.path)) FROM found f JOIN defect d ON d.id = f.defect"
+        " JOIN capture c ON c.id = f.capture WHERE c.digest = ?", (of["capture"]["digest"],)).fetchone()
+        for of in (older, good)), fail)
     lines = err.splitlines()
     compare("wrong results: lines", len(lines), len(due), fail)
     for name, says in due.items():

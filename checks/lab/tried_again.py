@@ -45,10 +45,7 @@ def check_ends(room: pathlib.Path, fail: Fail) -> None:
         (room / "s.cap").write_bytes(b"BNDRCAP2")
         came = played(folder / "fleet", "one", "s.cap", *ONE, "--seconds", "0.5", cwd=room)
         check_line(ends, came, status, says, room, fail)
-    # What does not depend on the viewer: a side list that is empty, and a clock that is wrong by millennia.
-    (room / "s.side").touch()
-    came = played(folder / "fleet", "one", "s.cap", "--side", "s.side", *ONE, cwd=room)
-    check_line("an empty side list", came, 4, "s.side is empty", room, fail)
+    # What does not depend on the viewer: a clock that is wrong by millennia.
     late = {**os.environ, "LD_PRELOAD": str(preloadable(room, "lab/late_clock.c"))}
     came = answer([folder / "fleet", "one", "s.cap", *ONE, "--seconds", "0"], cwd=room, env=late, encoding="utf-8")
     check_line("a clock of the year 10000", came, 0, "it took longer than 0 s", room, fail)
@@ -72,8 +69,22 @@ def others(room: pathlib.Path) -> Iterator[tuple[str, list[object], int, str]]:
     yield "/dev/stdin", [], 4, "/dev/stdin is a pipe or a device"
     yield "none", [], 4, "none: No such file or directory"
     yield str(DRIVER / "leaks/capture-1.cap"), ["--side", "pipe"], 4, "pipe is a pipe or a device"
-    yield str(DRIVER / "leaks/capture-1.cap"), ["--side", "text"], 4, "text"
+    yield from ((str(DRIVER / "leaks/capture-1.cap"), ["--side", name], 0, says) for name, says in wrong_lists(room))
     yield str(DRIVER / "leaks/capture-1.cap"), ["--methods", "text"], 4, "text"
+
+
+def wrong_lists(room: pathlib.Path) -> Iterator[tuple[str, str]]:
+    """Side lists that are none, or not to the end, as a recorder leaves them whose disk was full: what is wrong with
+    each lasts."""
+    side = (DRIVER / "leaks/capture.side").read_bytes()
+    for name, data, says in (
+            ("empty", b"", "empty is empty, and no side list"),
+            ("text", b"a text that is no capture\n", "text is not a side list"),
+            ("zeros.side", side[:5000] + bytes(3000) + b"\n", "zeros.side has a line without a time"),
+            ("word.side", side + b"5 process 1\n", "word.side: the line 'process' at 5 is not valid"),
+            ("long.side", side + b"7" * (2**22 + 1) + b"\n", "long.side has a line of more than ")):
+        (room / name).write_bytes(data)
+        yield name, says
 
 
 def check_others(folder: pathlib.Path, room: pathlib.Path, fail: Fail) -> None:

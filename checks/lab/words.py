@@ -2,10 +2,12 @@
 lab, the locale or standard output."""
 
 import contextlib
+import json
 import os
 import pathlib
 import sqlite3
 from typing import Callable
+from xml.etree import ElementTree
 
 from checks.kit.checking import Fail, compare
 from checks.kit.runs import answer
@@ -20,10 +22,16 @@ QUESTIONS = (
     (["new"], "new takes old=, new= and devices="), (["new", "old=b1", "new=b2"], "new takes old=, new= and devices="),
     (["since", "build=b1"], "since takes no value"), (["rate", "key=0"], "rate takes defect="),
     (["rate", "defect"], "defect: a value of a question is NAME=VALUE"),
-    (["sinse"], "no question is called sinse, but these: called holds longest new rate since"),
+    (["sinse"], "no question is called sinse, but these: called holds longest new rate since where"),
     (["SELECT :build"], "the question takes build="), (["SELECT ?", "build=b1"], "values that have names, as :build"),
     (["SELECT 1; SELECT 2"], "a question is one statement of SQL"), (["SELECT * FROM none"], "no such table: none"),
     (["DELETE FROM capture"], "readonly"), (["-"], "near"))
+
+# Questions about what the lab does not have.
+UNKNOWN = (
+    (["rate", "defect=nothing"], "the lab has no defect nothing"),
+    (["where", f"defect={'0' * 16}"], f"the lab has no defect {'0' * 16}"),
+    (["new", "old=b1", "new=b99", "devices=2"], "the lab has no build b99"))
 
 # Command lines that are not valid.
 WORDS = (["compare", "lab.db", "b1", "b2", "--share", "nan"], ["ask\x1b[31m"],
@@ -58,6 +66,9 @@ def check_questions(folder: pathlib.Path, lab: pathlib.Path, fail: Fail) -> None
     for (question, *values), says in QUESTIONS:
         with contextlib.closing(open_lab(str(lab))) as opened:
             check_stopped(f"ask {question} {values}", lambda: list(ask(opened, question, values)), 64, says, fail)
+    for (question, *values), says in UNKNOWN:
+        with contextlib.closing(open_lab(str(lab))) as opened:
+            check_stopped(f"ask {question} {values}", lambda: list(ask(opened, question, values)), 1, says, fail)
     for question, says in (("new", "new takes old="), ("SELECT '\udcff'", "is not UTF-8")):
         came = played(folder / "fleet", "ask", lab, question)
         check_line(f"ask {question!a}", came, 64, f"fleet: {says}" if question == "new" else says, fail)
@@ -87,6 +98,16 @@ def check_labs(folder: pathlib.Path, room: pathlib.Path, lab: pathlib.Path, good
     compare("what is left beside labs", [*room.glob("*-wal"), *room.glob("*-shm")], [], fail)
 
 
+def check_reports(folder: pathlib.Path, room: pathlib.Path, build: str, due: int, fail: Fail) -> None:
+    """The reports for other programs can be read, whatever the names are."""
+    files = "--junit", "a.xml", "--sarif", "a.sarif"
+    came = played(folder / "fleet", "compare", "stranger.db", "b1", build, "--json", "--all", *files, cwd=room)
+    cases = ElementTree.fromstring((room / "a.xml").read_text("utf-8")).findall("testcase")
+    sarif = json.loads((room / "a.sarif").read_bytes())
+    compare("reports of strangers", (came[0], len(json.loads(came[1])["defects"]), len(cases), sarif["version"]),
+            (0, due, due, "2.1.0"), fail)
+
+
 def check_strangers(folder: pathlib.Path, room: pathlib.Path, good: dict, fail: Fail) -> None:
     """Signs that a terminal obeys, in all texts of results, in words and in names of files; and letters that a locale
     lacks."""
@@ -103,6 +124,7 @@ def check_strangers(folder: pathlib.Path, room: pathlib.Path, good: dict, fail: 
         came = played(folder / "fleet", *words, cwd=room)
         said = (came[1] + came[2]).replace("\n", "").replace("\t", "")
         compare(f"{words!a}: status, signs", (came[0], said.isprintable()), (status, True), fail)
+    check_reports(folder, room, name, sum(it["verdict"] != "explained" for it in good["found"]), fail)
     environment = {**os.environ, **ASCII}
     came = answer([folder / "fleet", "ask", room / "stranger.db", "since"], env=environment, encoding="utf-8")
     compare("in a locale of ASCII", (came[0], "клиент" in came[1], came[2]), (0, True, ""), fail)

@@ -1,0 +1,186 @@
+"""Whether captures of two builds differ by more than chance: exact tests, a bound on how many of the told differences
+are false, and intervals. All is conditional on what both builds have together, so nothing is assumed of how often a
+defect comes, or in which clumps."""
+
+import math
+import random
+from collections.abc import Iterable, Iterator
+from functools import lru_cache
+from typing import NamedTuple
+
+# Of how many standard deviations an interval of 95 % is, to each side.
+DEVIATIONS = 1.959964
+
+# A permutation test ends when so many orders are as unlike as what was seen: then it is chance, or nearly known. And
+# there are never more orders than this.
+MET, MOST_ORDERS = 50, 100_000
+
+# Every order is drawn from this seed, so the same lab always gives the same p.
+SEED = 1
+
+
+# ---- captures with and without
+
+
+@lru_cache(maxsize=10_000)
+def ways(old: int, new: int, having: int) -> tuple[int, list[int]]:
+    """In how many ways `having` captures can be those of both builds that have a defect, by how many of them are old:
+    the least number of old ones, and the ways from there on."""
+    first = max(0, having - new)
+    way, found = math.comb(old, first) * math.comb(new, having - first), []
+    for some in range(first, min(old, having) + 1):
+        found.append(way)
+        way = way * (old - some) * (having - some) // ((some + 1) * (new - having + some + 1))
+    return first, found
+
+
+@lru_cache(maxsize=10_000)
+def fisher(old_having: int, old: int, new_having: int, new: int) -> float:
+    """The p of Fisher's exact test, of both sides: how often chance shares out those that have it in a way that is no
+    more likely than the one that was seen."""
+    first, found = ways(old, new, old_having + new_having)
+    seen = found[old_having - first]
+    return sum(way for way in found if way <= seen) / sum(found)
+
+
+def least_p(old: int, new: int, having: int) -> float:
+    """The least p that Fisher's test can give of so many captures: as many of them as may be are of one build."""
+    found = ways(old, new, having)[1]
+    return min(found[0], found[-1]) / sum(found)
+
+
+@lru_cache(maxsize=10_000)
+def least_order_p(old: int, new: int, having: int) -> float:
+    """The least p that a permutation test can give of findings in so many captures: no other order of these captures is
+    as unlike, but the others may be in any order."""
+    others = old + new - having
+    least = min(math.comb(others, old - some) for some in (max(0, having - new), min(old, having)))
+    return least / math.comb(old + new, old)
+
+
+# ---- findings an hour
+
+
+class Counted(NamedTuple):
+    """Numbers of captures, as bits: a mask for each binary digit, which has a bit for each capture. So the sum over any
+    captures, which are a mask too, takes a few steps."""
+    digits: list[int]
+
+    def sum(self, captures: int) -> int:
+        return sum((digit & captures).bit_count() << at for at, digit in enumerate(self.digits))
+
+
+def counted(numbers: Iterable[tuple[int, int]]) -> Counted:
+    """The number of each capture, by its place."""
+    digits: list[int] = []
+    for place, number in numbers:
+        for at in range(number.bit_length()):
+            if at == len(digits):
+                digits.append(0)
+            digits[at] |= (number >> at & 1) << place
+    return Counted(digits)
+
+
+class Orders:
+    """Orders in which the same captures could have come from both builds, at random: of each order the mask of those
+    that are new, and their seconds."""
+
+    def __init__(self, seconds: list[int], new: int):
+        """`seconds` has how long each capture is, the old ones first; `new` of them are new."""
+        self.captures, self.new = len(seconds), new
+        self.lengths, self.total = counted(enumerate(seconds)), sum(seconds)
+        self.seen = (1 << self.captures) - (1 << self.captures - new)
+        self.seen_seconds = self.lengths.sum(self.seen)
+        self.chance, self.drawn = random.Random(SEED), list[tuple[int, int]]()
+        # The share of the new ones, in binary digits, the last one first.
+        self.share = [256 * new // self.captures >> at & 1 for at in range(8)]
+
+    def draw(self) -> int:
+        """So many of all captures, each choice as likely as another. Each capture is taken with about the share of the
+        new ones; then single ones are taken or left until there are as many as due."""
+        captures = 0
+        for digit in self.share:
+            some = self.chance.getrandbits(self.captures)
+            captures = captures | some if digit else captures & some
+        while (more := self.new - captures.bit_count()):
+            one = 1 << int(self.chance.random() * self.captures)
+            captures = captures | one if more > 0 else captures & ~one
+        return captures
+
+    def some(self, most: int) -> Iterator[tuple[int, int]]:
+        """So many orders, the same ones each time."""
+        for number in range(most):
+            if number == len(self.drawn):
+                captures = self.draw()
+                self.drawn.append((captures, self.lengths.sum(captures)))
+            yield self.drawn[number]
+
+    def p(self, findings: Iterable[tuple[int, int]], most: int) -> float:
+        """The p of a permutation test, of both sides: how often findings an hour differ as much as they do if each
+        capture may be of either build. A capture keeps its findings and its length, because findings come in clumps.
+        The test ends early where chance is likely, and p is right then too (Besag and Clifford, 1991)."""
+        numbers = counted(findings)
+        total = numbers.sum((1 << self.captures) - 1)
+
+        def unlike(captures: int, seconds: int) -> int:
+            return abs(numbers.sum(captures) * self.total - total * seconds)
+
+        seen, met = unlike(self.seen, self.seen_seconds), 0
+        for number, (captures, seconds) in enumerate(self.some(most), 1):
+            met += unlike(captures, seconds) >= seen
+            if met == MET:
+                return met / number
+        return (met + 1) / (most + 1)
+
+
+# ---- many defects
+
+
+def orders_for(tests: int, rate: float) -> int:
+    """How many orders tell a difference beside so many tests: enough for a p well below what the first one needs."""
+    return min(MOST_ORDERS, math.ceil(5 * max(tests, 1) / max(rate, 1e-9)))
+
+
+def limit(ps: Iterable[float], rate: float) -> float:
+    """The largest p that is told, so that of what is told the share `rate` is false on average (Benjamini and Hochberg,
+    1995); negative if nothing is."""
+    ordered = sorted(ps)
+    return max((p for at, p in enumerate(ordered, 1) if p <= rate * at / len(ordered)), default=-1.0)
+
+
+# ---- intervals
+
+
+class Interval(NamedTuple):
+    """A number, and the interval in which it is with 95 %."""
+    value: float
+    low: float
+    high: float
+
+
+def share_of(having: int, captures: int) -> Interval:
+    """A share of captures, with Wilson's interval."""
+    if captures == 0:
+        return Interval(0.0, 0.0, 1.0)
+    share, square = having / captures, DEVIATIONS ** 2 / captures
+    middle = (share + square / 2) / (1 + square)
+    half = DEVIATIONS / (1 + square) * math.sqrt(share * (1 - share) / captures + square / captures / 4)
+    return Interval(share, max(0.0, middle - half) if having else 0.0, min(1.0, middle + half) if having < captures
+                    else 1.0)
+
+
+def rate_of(findings: list[int], seconds: list[float]) -> Interval | None:
+    """Findings an hour, with Byar's interval of a Poisson count. If captures differ by more than such counts do,
+    because findings come in clumps, the interval is as much wider. None without times."""
+    hours, total = sum(seconds) / 3600, sum(findings)
+    if not hours:
+        return None
+    expected = [total / hours * each / 3600 for each in seconds]
+    clump = max(1.0, sum((came - due) ** 2 for came, due in zip(findings, expected)) / total) if total else 1.0
+    count = total / clump
+
+    def byar(number: float, side: int) -> float:
+        return number * (1 - 1 / (9 * number) + side * DEVIATIONS / (3 * math.sqrt(number))) ** 3
+
+    low = byar(count, -1) if count > 0.25 else 0.0
+    return Interval(total / hours, max(0.0, low) * clump / hours, byar(count + 1, 1) * clump / hours)
