@@ -100,7 +100,17 @@ class Packets:
         self.counters: dict[int, list[tuple[bytes, bytes]]] = {}
         self.queues: dict[int, list[tuple[int, bytes]]] = {}
         self.others: dict[str, bytes] = {}
+        self.seen = self.first_seen(database) if axis.timed else {}
         self.tell_clocks(axis.moments)
+
+    def first_seen(self, database: sqlite3.Connection) -> dict[tuple[int, int] | int, int]:
+        """When each thread and each process is first seen."""
+        seen: dict[tuple[int, int] | int, int] = {}
+        for utid, ts in database.execute("SELECT t.utid, x.ts FROM thread t JOIN side_time x ON x.seq = t.first_seq"):
+            lane = self.system.lane_of[utid]
+            for one in lane, lane[0]:
+                seen[one] = min(ts, seen.get(one, ts))
+        return seen
 
     # -- packets
 
@@ -138,10 +148,13 @@ class Packets:
 
     # -- tracks
 
-    def track(self, *parts: bytes) -> int:
-        """A new track."""
+    def track(self, *parts: bytes, of: tuple[int, int] | int | None = None) -> int:
+        """A new track, of a thread or a process that is first seen at its time. Numbers of processes are used again: so
+        Perfetto takes the one that has the number at the time of the packet, and without a time the one that it met
+        last, which differs by the order of the files of a joined trace."""
         uuid = next(self.uuids)
-        self.packet(message(TRACK_DESCRIPTOR, number(UUID, uuid), *parts))
+        time = [number(TIMESTAMP, self.seen[of])] if of in self.seen else []
+        self.packet(*time, message(TRACK_DESCRIPTOR, number(UUID, uuid), *parts))
         return uuid
 
     def process_track(self, upid: int) -> int:
@@ -152,7 +165,7 @@ class Packets:
             labels = [text(PROCESS_LABELS, label) for label in dict.fromkeys(map(self.label_of, rows))]
             name = next((row.name for row in rows if row.name), "process")
             self.processes[one] = self.track(message(
-                OF_PROCESS, number(PROCESS_PID, self.system.pid(rows[0])), text(PROCESS_NAME, name), *labels))
+                OF_PROCESS, number(PROCESS_PID, self.system.pid(rows[0])), text(PROCESS_NAME, name), *labels), of=one)
         return self.processes[one]
 
     def label_of(self, row: ProcessRow) -> str:
@@ -171,7 +184,8 @@ class Packets:
             name = self.system.names.get(lane)
             described = message(OF_THREAD, number(THREAD_PID, self.system.pid_of(upid)), number(THREAD_TID, tid),
                                 text(THREAD_NAME, name) if name else b"")
-            self.lanes[lane] = number(TRACK, self.track(number(PARENT, parent), described, number(OWN_TRACK, 1)))
+            own = self.track(number(PARENT, parent), described, number(OWN_TRACK, 1), of=lane)
+            self.lanes[lane] = number(TRACK, own)
         return self.lanes[lane]
 
     def head_of_process(self, process: Process) -> bytes:
