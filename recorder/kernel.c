@@ -5,6 +5,7 @@
 #include "names.h"
 #include "needs.h"
 #include "side.h"
+#include "tracepoints.h"
 #include <bpf/bpf.h>
 #include <bpf/libbpf.h>
 #include <errno.h>
@@ -111,18 +112,18 @@ static int keep_link(struct bpf_link *link)
 	return 0;
 }
 
-static int attach_tracepoint(enum driver driver, struct bpf_program *to, const char *name)
-{
-	return keep_link(bpf_program__attach_tracepoint(to, driver_system(driver), name));
-}
-
 /* Returns 0, or an error. */
 static int attach_tracepoints(enum driver driver)
 {
-	int error = attach_tracepoint(driver, program->progs.at_command, "binder_command");
-	error = error ? error : attach_tracepoint(driver, program->progs.at_write_done, "binder_write_done");
-	error = error ? error : attach_tracepoint(driver, program->progs.at_return, "binder_ioctl_done");
-	return error ? error : attach_tracepoint(driver, program->progs.at_entry, "binder_ioctl");
+	const struct tracepoint *each = tracepoints_of_driver;
+	const char *system = driver_system(driver);
+	int error = 0;
+	for (; each->program && !error; each++) {
+		struct bpf_program *to = bpf_object__find_program_by_name(program->obj, each->program);
+		const char *name = tracepoint_name(each, system);
+		error = name ? keep_link(bpf_program__attach_tracepoint(to, system, name)) : -ENOENT;
+	}
+	return error;
 }
 
 static int attach_probe(struct bpf_program *to, const char *function)

@@ -3,6 +3,7 @@
 #include "drivers.h"
 #include "lack.h"
 #include "tracefs.h"
+#include "tracepoints.h"
 #include <errno.h>
 #include <linux/capability.h>
 #include <stdio.h>
@@ -101,53 +102,6 @@ int need_driver(void)
 	return 0;
 }
 
-/* What the programs in record.bpf.c read of each tracepoint, as its `format` file says where that is. */
-struct tracepoint {
-	const char *name, *fields[2];
-};
-
-static const struct tracepoint of_scheduler[] = {
-	{ "sched_process_exec", { "pid_t old_pid;\toffset:16;\tsize:4;", "" } },
-	{ "sched_process_exit", { "", "" } },
-	{ 0 },
-};
-
-static const struct tracepoint of_driver[] = {
-	{ "binder_ioctl", { "unsigned int cmd;\toffset:8;\tsize:4;", "unsigned long arg;\toffset:16;\tsize:8;" } },
-	{ "binder_command", { " cmd;\toffset:8;\tsize:4;", "" } },
-	{ "binder_write_done", { "int ret;\toffset:8;\tsize:4;", "" } },
-	{ "binder_ioctl_done", { "int ret;\toffset:8;\tsize:4;", "" } },
-	{ 0 },
-};
-
-static int has_fields(const struct tracepoint *tracepoint, FILE *file)
-{
-	char text[4096];
-	text[fread(text, 1, sizeof text - 1, file)] = 0;
-	return strstr(text, tracepoint->fields[0]) && strstr(text, tracepoint->fields[1]);
-}
-
-/* Whether the tracepoints of a system of events are there with the fields that are read. Writes what is wrong with the
- * first one that is not into `why`. */
-static int has_tracepoints(const char *system, const struct tracepoint *each, char *why, size_t room)
-{
-	char path[TRACEFS_PATH_BYTES], name[TRACEFS_PATH_BYTES / 2];
-	int is_good = 1;
-	for (; each->name && is_good; each++) {
-		snprintf(name, sizeof name, "events/%s/%s/format", system, each->name);
-		tracefs_path(path, name);
-		FILE *file = fopen(path, "r");
-		is_good = file && has_fields(each, file);
-		if (!file)
-			snprintf(why, room, "%s: %s", path, strerror(errno));
-		else if (!is_good)
-			snprintf(why, room, "%s has other fields than the recorder knows", path);
-		if (file)
-			fclose(file);
-	}
-	return is_good;
-}
-
 int need_tracefs(void)
 {
 	char path[TRACEFS_PATH_BYTES];
@@ -163,7 +117,8 @@ int need_tracefs(void)
 static void need_driver_tracepoints(enum driver driver, enum driver other)
 {
 	char why[512];
-	if (!driver_is_recorded(driver) || has_tracepoints(driver_system(driver), of_driver, why, sizeof why))
+	if (!driver_is_recorded(driver) ||
+	    tracepoints_are_there(driver_system(driver), tracepoints_of_driver, why, sizeof why))
 		return;
 	if (!driver_is_recorded(other))
 		lack("the Binder driver in %s is not recorded: %s%s", driver_language(driver), why,
@@ -179,7 +134,7 @@ void need_tracepoints(void)
 	char why[512];
 	need_driver_tracepoints(DRIVER_IN_RUST, DRIVER_IN_C);
 	need_driver_tracepoints(DRIVER_IN_C, DRIVER_IN_RUST);
-	if (!has_tracepoints("sched", of_scheduler, why, sizeof why))
+	if (!tracepoints_are_there("sched", tracepoints_of_scheduler, why, sizeof why))
 		lack("%s: this kernel is not recorded", why);
 }
 

@@ -1,16 +1,13 @@
 /* The recorder's program in the kernel: what it does at each event of the driver and of the scheduler. */
 #include "command.bpf.h"
 #include "stacks.bpf.h"
+#include "tracepoints.h"
 
 /* The functions of an opening: of the driver in C, and of the one in Rust. */
 extern const void binder_fops __ksym __weak, rust_binder_fops __ksym __weak;
 
-/* The fields of the tracepoints that are read here. needs.c compares them with the `format` files of tracefs. Both
- * drivers have the same tracepoints with the same fields, in systems of events of their own. So kernel.c attaches the
- * programs below whose section is only `tp` or `kprobe` to each driver that is there. */
-struct ioctl_fields { u64 common; u32 command, unused; u64 argument; };
-struct number_fields { u64 common; u32 number; };
-struct exec_fields { u64 common; u32 path, id, old_id; };
+/* Both drivers have the same tracepoints. So kernel.c attaches the programs below whose section is only `tp` or `kprobe`
+ * to each driver that is there. */
 
 static __always_inline int is_wanted(u32 process, u32 device)
 {

@@ -57,7 +57,8 @@ open_packages() { # FOLDER PACKAGE..
     for file in *.deb; do dpkg-deb -x "$file" . && rm -- "$file" || exit 1; done && touch opened)
 }
 
-# The newest kernel of a series, or the newest of all. Newer packages leave the kernel and its modules to others.
+# The newest kernel of a series, or the newest of all, that the registry hands out: it may list one that it has not got.
+# Newer packages leave the kernel and its modules to others.
 fetch_kernel() { # SERIES, or newest
   local package parts begin=${1/./\\.}\\.
   kernel=$room/kernel-$1-$architecture
@@ -67,13 +68,14 @@ fetch_kernel() { # SERIES, or newest
   5.10) use_lists bullseye ;;
   *) use_lists bookworm ;;
   esac || return 1
-  package=$(apt-cache "${from[@]}" search --names-only "^linux-image-$begin[0-9.+deb-]*-$architecture\$" |
-    awk '{ print $1 }' | sort -V | tail -n 1)
-  [[ -n $package ]] || return 1
-  parts=$(apt-cache "${from[@]}" depends "$package" |
-    awk '$1 == "Depends:" && $2 ~ /^linux-(binary|modules)-/ { print $2 }')
-  # shellcheck disable=SC2086
-  open_packages "$kernel" "$package" $parts
+  while read -r package; do
+    parts=$(apt-cache "${from[@]}" depends "$package" |
+      awk '$1 == "Depends:" && $2 ~ /^linux-(binary|modules)-/ { print $2 }')
+    # shellcheck disable=SC2086
+    if open_packages "$kernel" "$package" $parts; then return 0; fi
+  done < <(apt-cache "${from[@]}" search --names-only "^linux-image-$begin[0-9.+deb-]*-$architecture\$" |
+    awk '{ print $1 }' | sort -Vr | head -n 4)
+  return 1
 }
 
 # A compiler for arm64, which finds Debian's libraries.

@@ -1,0 +1,69 @@
+/* systems FOLDER: says in a line each what a recording lacks on a system of which only some files are there, those
+ * below the FOLDER: tracefs, kallsyms, folders of modules, and in `release` the version of the kernel. The status is 1
+ * if it lacks something. See systems.sh. */
+#include "drivers.h"
+#include "lack.h"
+#include "needs.h"
+#include <stdio.h>
+#include <stdlib.h>
+#include <string.h>
+#include <sys/utsname.h>
+#include <unistd.h>
+
+int __real_access(const char *path, int mode);
+FILE *__real_fopen(const char *path, const char *mode);
+
+static const char *folder;
+
+static void path_below(char *path, size_t room, const char *name)
+{
+	if ((size_t)snprintf(path, room, "%s%s", folder, name) >= room)
+		exit(2);
+}
+
+int __wrap_access(const char *name, int mode)
+{
+	char path[4096];
+	path_below(path, sizeof path, name);
+	return __real_access(path, mode);
+}
+
+FILE *__wrap_fopen(const char *name, const char *mode)
+{
+	char path[4096];
+	path_below(path, sizeof path, name);
+	return __real_fopen(path, mode);
+}
+
+int uname(struct utsname *name)
+{
+	FILE *file = fopen("/release", "r");
+	memset(name, 0, sizeof *name);
+	int is_read = file && fgets(name->release, sizeof name->release, file);
+	if (file)
+		fclose(file);
+	name->release[strcspn(name->release, "\n")] = 0;
+	return is_read ? 0 : -1;
+}
+
+int main(int count, char **words)
+{
+	if (count != 2)
+		return 2;
+	folder = words[1];
+	lack_list();
+	need_kernel();
+	need_no_lockdown();
+	int has_driver = need_driver();
+	if (need_tracefs() && has_driver)
+		need_tracepoints();
+	need_no_preemption(PREEMPTION_UNKNOWN);
+	for (enum driver driver = 0; driver < DRIVERS; driver++) {
+		char opens[FUNCTION_BYTES], releases[FUNCTION_BYTES];
+		if (driver_is_recorded(driver))
+			printf("driver in %s: %s\n", driver_language(driver),
+			       driver_function(driver, "open", opens) && driver_function(driver, "release", releases) ?
+			       "its own functions are probed" : "functions of the kernel are probed");
+	}
+	return lack_count() != 0;
+}
