@@ -13,7 +13,7 @@ What must hold:
   together. The commands of a page are run one after another in one folder, which has the repository's files and the
   program as `audit`.
 - docs/DATABASE.md names the tables of `./listing --tables`.
-- The code words, sorts and flags in docs/COMMANDS.md are those by which the second reading and the database read.
+- The code words, sorts and flags in docs/COMMANDS.md are those of the second reading, the recorder and the database.
 - The files of sources that a page names are there, and docs/ARCHITECTURE.md names every crate.
 - The options that a page names are those of `--help` of the programs, and of the checks.
 - Each crate's page begins with a caller: lines of code that stand in a file of a crate above, or in a file of the crate
