@@ -24,11 +24,17 @@ from concurrent.futures import Future, ProcessPoolExecutor, ThreadPoolExecutor, 
 from itertools import chain
 from typing import Callable, Iterator, NamedTuple
 
-from checks.kit.captures import *
+from checks.kit.captures import (BC_ACQUIRE, BC_ACQUIRE_DONE, BC_CLEAR_DEATH_NOTIFICATION, BC_DEAD_BINDER_DONE,
+                                 BC_DECREFS, BC_ENTER_LOOPER, BC_FREE_BUFFER, BC_INCREFS, BC_INCREFS_DONE, BC_RELEASE,
+                                 BC_REPLY, BC_REPLY_SG, BC_REQUEST_DEATH_NOTIFICATION, BC_TRANSACTION, BR_ACQUIRE,
+                                 BR_CLEAR_DEATH_NOTIFICATION_DONE, BR_DEAD_BINDER, BR_DEAD_REPLY, BR_DECREFS,
+                                 BR_FAILED_REPLY, BR_FROZEN_REPLY, BR_INCREFS, BR_NOOP, BR_REPLY, BR_TRANSACTION,
+                                 BR_TRANSACTION_SEC_CTX, HANDLE, HEADER, HEADER_2, MAX_32, MAX_64, PTR, each, each_long,
+                                 entry, frame, node, offsets, record, transaction, u32, u64, watch)
 from checks.kit.checking import FLAG, check, row
 from checks.kit.runs import answer, due, report_by, shown, under
-from checks.kit.written import write_frames
 from checks.kit.traffic import write_traffic
+from checks.kit.written import write_frames
 
 # The workers and the pieces, in frames, with which the first program is run, and each further one.
 ALL = [(workers, piece) for workers in (1, 3, 33, 64) for piece in (1, 256, 65_536)]

@@ -31,7 +31,10 @@ import time
 from itertools import chain
 from typing import Callable, NamedTuple
 
-from checks.kit.captures import *
+from checks.kit.captures import (BC_ACQUIRE, BC_CLEAR_DEATH_NOTIFICATION, BC_FREE_BUFFER, BC_RELEASE, BC_REPLY,
+                                 BC_REQUEST_DEATH_NOTIFICATION, BC_TRANSACTION, BR_NOOP, BR_REPLY, BR_TRANSACTION,
+                                 BR_TRANSACTION_COMPLETE, HANDLE, HEADER, ONE_HANDLE, each, each_long, entry, frame,
+                                 frame_header, record, transaction, u32, u64, watch, write)
 from checks.kit.checking import check, row
 from checks.kit.programs import compiled, preloadable
 from checks.kit.runs import answer, at_once, measured_run, report_by, shown, under, with_library

@@ -1,6 +1,8 @@
 """Captures with very many of one thing in a process, and the reports on them."""
 
-from checks.kit.captures import *
+from checks.kit.captures import (BC_ACQUIRE, BC_FREE_BUFFER, BC_REQUEST_DEATH_NOTIFICATION, BC_TRANSACTION,
+                                 BR_DEAD_BINDER, BR_DEAD_REPLY, BR_TRANSACTION, each, each_long, frame, record,
+                                 transaction, watch)
 from checks.kit.written import with_buffer, write_frames
 
 HEADS = """calls 0 answered 0 failed 0 unanswered 0

@@ -17,7 +17,12 @@ import random
 from collections import Counter, deque
 from typing import Iterator, NamedTuple
 
-from checks.kit.captures import *
+from checks.kit.captures import (BC_ACQUIRE, BC_ACQUIRE_DONE, BC_CLEAR_FREEZE_NOTIFICATION, BC_FREEZE_NOTIFICATION_DONE,
+                                 BC_FREE_BUFFER, BC_INCREFS_DONE, BC_RELEASE, BC_REPLY, BC_REQUEST_FREEZE_NOTIFICATION,
+                                 BC_TRANSACTION, BR_ACQUIRE, BR_CLEAR_FREEZE_NOTIFICATION_DONE, BR_DEAD_REPLY,
+                                 BR_FAILED_REPLY, BR_INCREFS, BR_NOOP, BR_REPLY, BR_TRANSACTION,
+                                 BR_TRANSACTION_COMPLETE, ENTER, HEADER_2, SORTS, changed, entry, frame, frozen,
+                                 of_handle, offsets, places_of, record, transaction, u32, u64, watch)
 
 ONE_WAY = 1
 TEXTS = b"", b"tick", b"ping"

@@ -12,7 +12,14 @@ capture. `captures.py` has the frames and records.
 import random
 import sys
 
-from checks.kit.captures import *
+from checks.kit.captures import (BC_ACQUIRE, BC_ACQUIRE_DONE, BC_CLEAR_DEATH_NOTIFICATION, BC_DEAD_BINDER_DONE,
+                                 BC_DECREFS, BC_FREE_BUFFER, BC_INCREFS, BC_INCREFS_DONE, BC_RELEASE, BC_REPLY,
+                                 BC_REQUEST_DEATH_NOTIFICATION, BC_TRANSACTION, BC_TRANSACTION_SG, BINDER, BR_ACQUIRE,
+                                 BR_CLEAR_DEATH_NOTIFICATION_DONE, BR_DEAD_BINDER, BR_DEAD_REPLY, BR_DECREFS,
+                                 BR_FAILED_REPLY, BR_INCREFS, BR_NOOP, BR_RELEASE, BR_REPLY, BR_TRANSACTION,
+                                 BR_TRANSACTION_COMPLETE, BR_TRANSACTION_SEC_CTX, FD, FDA, HANDLE, HEADER, HEADER_2,
+                                 PTR, WEAK_BINDER, WEAK_HANDLE, each, each_long, entry, frame, node, record,
+                                 transaction, u64, watch)
 
 PROCESSES, THREADS, AT_ONCE = 40, 8, 60
 

@@ -21,7 +21,12 @@ from collections import Counter
 from typing import Callable, Iterable
 
 from checks.kit import runs, tokens
-from checks.kit.captures import *
+from checks.kit.captures import (BC_ACQUIRE, BC_CLEAR_FREEZE_NOTIFICATION, BC_FREEZE_NOTIFICATION_DONE, BC_REPLY,
+                                 BC_REPLY_SG, BC_REQUEST_FREEZE_NOTIFICATION, BC_TRANSACTION, BC_TRANSACTION_SG,
+                                 BR_CLEAR_FREEZE_NOTIFICATION_DONE, BR_FROZEN_BINDER, BR_NOOP, BR_REPLY, BR_TRANSACTION,
+                                 BR_TRANSACTION_SEC_CTX, COMMANDS, ENTER, HEADER, HEADER_2, MAX_32, MAX_64, attached,
+                                 each, each_long, entry, frame, frame_header, frozen, of_handle, offsets, read, record,
+                                 transaction, u32, u64, watch, write)
 from checks.kit.checking import Fail, check, compare
 from checks.kit.frames import frames_of
 from checks.kit.programs import CHECKS, DRIVER, LISTING, ROOT, SMALL

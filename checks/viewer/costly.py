@@ -4,7 +4,11 @@ import pathlib
 from itertools import chain, count, repeat
 from typing import Callable, Iterator, NamedTuple
 
-from checks.kit.captures import *
+from checks.kit.captures import (BC_ACQUIRE, BC_CLEAR_DEATH_NOTIFICATION, BC_CLEAR_FREEZE_NOTIFICATION, BC_FREE_BUFFER,
+                                 BC_RELEASE, BC_REPLY, BC_REQUEST_DEATH_NOTIFICATION, BC_REQUEST_FREEZE_NOTIFICATION,
+                                 BC_TRANSACTION, BR_ACQUIRE, BR_DEAD_BINDER, BR_REPLY, BR_TRANSACTION,
+                                 BR_TRANSACTION_COMPLETE, HANDLE, HEADER_2, changed, each, each_long, entry, frame,
+                                 frozen, node, offsets, record, transaction, u32, u64, watch)
 from checks.kit.tokens import marked
 
 AT_ONCE = 256  # So many records are in a frame, where that makes no difference.

@@ -57,7 +57,9 @@ from collections import Counter
 from typing import Iterator
 from unittest import mock
 
-from checks.kit.captures import *
+from checks.kit.captures import (BC_ACQUIRE, BC_FREE_BUFFER, BC_RELEASE, BC_TRANSACTION, BR_NOOP, BR_REPLY,
+                                 BR_TRANSACTION, BR_TRANSACTION_COMPLETE, HEADER, each, each_long, frame, record,
+                                 transaction)
 from checks.kit.checking import Fail, check, compare, run_parts
 from checks.kit.programs import AUDITOR, DRIVER, ROOT, built_programs
 from checks.viewer.page.common import loaded, on_one_clock, stored, texts_stored, timeline_of, view

@@ -92,6 +92,7 @@ def expected_of(name: str, lines: list[str]) -> Expected:
 def expectations(of: str) -> dict[str, Expected]:
     """All sessions of a set, by their names."""
     blocks: dict[str, list[str]] = {}
+    name = ""
     for line in (SETS / of / "expected.txt").read_text("utf-8").splitlines():
         if not line or line.lstrip().startswith("#"):
             continue

@@ -6,11 +6,11 @@ import shutil
 import sqlite3
 
 from checks.kit.checking import Fail, compare
+from checks.kit.programs import CHECKS
 from checks.kit.tokens import marked
 from checks.viewer.page.common import texts_of, view, written
 from checks.viewer.page.methods import make_table
-from checks.kit.programs import CHECKS
-from checks.viewer.sessions.session import *
+from checks.viewer.sessions.session import Session
 from viewer.defects.seen import seen_in
 from viewer.files import Stopped
 

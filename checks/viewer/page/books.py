@@ -9,11 +9,14 @@ import sqlite3
 import time
 from typing import Iterator
 
+from checks.kit.captures import (BC_ACQUIRE_DONE, BC_DEAD_BINDER_DONE, BC_INCREFS_DONE, BC_RELEASE,
+                                 BC_REQUEST_DEATH_NOTIFICATION, BR_ACQUIRE, BR_DEAD_BINDER, BR_INCREFS, ENTER, each,
+                                 each_long, node, watch)
 from checks.kit.checking import Fail, compare
 from checks.kit.frames import frames_of
 from checks.viewer.page.common import texts_of, view, written
 from checks.viewer.sessions.book_cases import buffer, call_of, own, ref, thread, transaction_of
-from checks.viewer.sessions.session import *
+from checks.viewer.sessions.session import Session
 from viewer.database import load_books, raw_tables
 from viewer.database.books import state, stats
 from viewer.database.side_list import Copy

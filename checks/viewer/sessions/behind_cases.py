@@ -1,7 +1,7 @@
 """More sessions as in cases.py: listeners that fall behind."""
 
 from checks.viewer.sessions.cases import case
-from checks.viewer.sessions.session import *
+from checks.viewer.sessions.session import ONE_WAY
 
 
 def told(s, count, came_at, ends=True, lost=False, more=0):

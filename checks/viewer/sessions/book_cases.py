@@ -1,7 +1,10 @@
 """Sessions that were met in mid-life, with the driver's book of what they held then."""
 
+from checks.kit.captures import (BC_ACQUIRE, BC_DEAD_BINDER_DONE, BC_RELEASE, BC_REPLY, BC_REQUEST_DEATH_NOTIFICATION,
+                                 BR_CLEAR_DEATH_NOTIFICATION_DONE, BR_RELEASE, BR_REPLY, BR_SPAWN_LOOPER, ENTER, each,
+                                 each_long, node, record, watch)
 from checks.viewer.sessions.cases import case
-from checks.viewer.sessions.session import *
+from checks.viewer.sessions.session import DONE, Sent
 
 
 # ---- lines of the book `state`, as the kernel 6.1 writes them

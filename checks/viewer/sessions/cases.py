@@ -7,7 +7,11 @@ rule C4 and one with A1.
 
 from typing import Callable, NamedTuple
 
-from checks.viewer.sessions.session import *
+from checks.kit.captures import (BC_DEAD_BINDER_DONE, BC_EXIT_LOOPER, BC_RELEASE, BC_REPLY,
+                                 BC_REQUEST_DEATH_NOTIFICATION, BC_TRANSACTION, BR_DEAD_BINDER, BR_DEAD_REPLY,
+                                 BR_FAILED_REPLY, BR_FROZEN_REPLY, BR_ONEWAY_SPAM_SUSPECT, BR_REPLY, ENTER, MAX_32,
+                                 each, each_long, record, u32, watch)
+from checks.viewer.sessions.session import DONE, ONE_WAY, STATUS_CODE, Sent, Session
 
 
 class Case(NamedTuple):

@@ -1,8 +1,9 @@
 """More sessions as in cases.py: services that end while they serve a call."""
 
+from checks.kit.captures import BR_DEAD_REPLY, ENTER, record
 from checks.kit.tokens import marked
 from checks.viewer.sessions.cases import case
-from checks.viewer.sessions.session import *
+from checks.viewer.sessions.session import DONE
 
 ONE = marked("a.b.IOne")
 

@@ -1,8 +1,10 @@
 """More sessions as in cases.py: what comes of the death of a process, and what tells of one death in one group."""
 
+from checks.kit.captures import (BC_CLEAR_DEATH_NOTIFICATION, BC_DEAD_BINDER_DONE, BC_RELEASE,
+                                 BC_REQUEST_DEATH_NOTIFICATION, BR_DEAD_BINDER, BR_DEAD_REPLY, ENTER, each, each_long,
+                                 record, watch)
 from checks.viewer.sessions.cases import case, with_server
 from checks.viewer.sessions.kept_cases import calls_back
-from checks.viewer.sessions.session import *
 
 
 @case("H3:3", "given by calls of code 4: 3 of 5 that came so)", dead=3, alive=2)

@@ -2,10 +2,11 @@
 
 A case's words name a defect by what its key is made of, `defect: KIND | WHO | PATH`, and count the defects."""
 
+from checks.kit.captures import BC_ACQUIRE, BR_DEAD_REPLY, BR_FAILED_REPLY, BR_FROZEN_REPLY, ENTER, each, record, u32
 from checks.kit.tokens import marked, numbers, string16
 from checks.viewer.sessions.cases import case
 from checks.viewer.sessions.name_cases import ADDED, TO_MANAGER
-from checks.viewer.sessions.session import *
+from checks.viewer.sessions.session import ONE_WAY, STATUS_CODE
 
 PING = int.from_bytes(b"_PNG", "big")
 ONE, TWO, OTHER = marked("a.b.IOne"), marked("a.b.ITwo"), marked("c.d.IOne")

@@ -1,8 +1,10 @@
 """More sessions as in cases.py: freeze notifications, and clears of them."""
 
+from checks.kit.captures import (BC_CLEAR_FREEZE_NOTIFICATION, BC_FREEZE_NOTIFICATION_DONE, BC_RELEASE,
+                                 BC_REQUEST_FREEZE_NOTIFICATION, BR_CLEAR_FREEZE_NOTIFICATION_DONE, ENTER, each,
+                                 each_long, frozen, watch)
 from checks.viewer.sessions.book_cases import begun
 from checks.viewer.sessions.cases import case
-from checks.viewer.sessions.session import *
 
 
 def asks(thread, handle=1, cookie=0xF):

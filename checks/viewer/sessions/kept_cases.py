@@ -1,7 +1,8 @@
 """More sessions as in cases.py: handles that came the same way, of which a process keeps nearly all or some."""
 
+from checks.kit.captures import BC_ACQUIRE, BC_RELEASE, ENTER, each, of_handle, offsets
 from checks.viewer.sessions.cases import case, with_server
-from checks.viewer.sessions.session import *
+from checks.viewer.sessions.session import node_object
 
 # How the client of with_server calls its server.
 SERVER = {"via": 1, "ptr": 0x9000}

@@ -1,8 +1,10 @@
 """More sessions as in cases.py: recordings that go on after their end, as those of earlier recorders do. Then come only
 reads, one of a thread, and not what they come of or lead to."""
 
+from checks.kit.captures import (BC_ACQUIRE_DONE, BC_TRANSACTION, BR_ACQUIRE, BR_CLEAR_DEATH_NOTIFICATION_DONE,
+                                 BR_DEAD_BINDER, BR_DECREFS, BR_FAILED_REPLY, BR_RELEASE, each_long, node, record)
 from checks.viewer.sessions.cases import case
-from checks.viewer.sessions.session import *
+from checks.viewer.sessions.session import ACCEPT_FDS, ONE_WAY, Sent
 from checks.viewer.sessions.state_cases import watching
 
 

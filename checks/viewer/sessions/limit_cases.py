@@ -1,7 +1,8 @@
 """Sessions that end with the driver's book `stats`: how many threads a process may have, and its oneway space."""
 
+from checks.kit.captures import BC_TRANSACTION, BR_FAILED_REPLY, record
 from checks.viewer.sessions.cases import case
-from checks.viewer.sessions.session import *
+from checks.viewer.sessions.session import ONE_WAY, Sent
 
 
 def with_driver(s, driver):

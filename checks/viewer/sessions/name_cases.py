@@ -1,8 +1,9 @@
 """Sessions whose calls name interfaces, or services: what their paths and notes call them."""
 
+from checks.kit.captures import BC_ACQUIRE, BC_RELEASE, each, of_handle, offsets, u32
 from checks.kit.tokens import GATHER, MANAGER, NO_SOURCE, marked, numbers, string16
 from checks.viewer.sessions.cases import case, with_server
-from checks.viewer.sessions.session import *
+from checks.viewer.sessions.session import STATUS_CODE, node_object
 
 ONE, TWO = marked("a.b.IOne"), marked("a.b.ITwo")
 NAME_OF, PING = int.from_bytes(b"_NTF", "big"), int.from_bytes(b"\x0fPNG", "big")
@@ -108,7 +109,7 @@ def named_calls_give(s):
     """Handles that come with calls of one interface."""
     _, client, server = with_server(s)
     for handle in range(20, 24):
-        body, listed = node_object(0x100 * handle), offsets(0)
+        body = node_object(0x100 * handle)
         sent = client.main.sends(1, 4, body=ONE + body, listed=offsets(len(ONE)))
         address = server.main.gets(sent, 0x9000, ONE + of_handle(2, handle), offsets(len(ONE)))
         server.main.writes(*each(BC_ACQUIRE, handle))

@@ -1,8 +1,9 @@
 """More sessions as in cases.py: pools of threads that calls use up, whether these or those that wait are answered or
 not."""
 
+from checks.kit.captures import BC_ACQUIRE, BC_EXIT_LOOPER, ENTER, each, record
 from checks.viewer.sessions.cases import case
-from checks.viewer.sessions.session import *
+from checks.viewer.sessions.session import ONE_WAY
 
 
 def waits_for_one(s, service, caller, victim, took=1100, idle=0, code=10, through=None):

@@ -6,7 +6,9 @@ needs nothing more to call it: `serve` makes a process the context manager, whos
 
 import re
 
-from checks.kit.captures import *
+from checks.kit.captures import (BC_ACQUIRE, BC_FREE_BUFFER, BC_INCREFS, BC_REGISTER_LOOPER, BC_REPLY, BC_TRANSACTION,
+                                 BR_REPLY, BR_TRANSACTION, BR_TRANSACTION_COMPLETE, ENTER, HEADER_2, SORTS, changed,
+                                 each, each_long, entry, frame, of_handle, offsets, places_of, record, transaction, u64)
 
 ACCEPT_FDS, ONE_WAY, STATUS_CODE, UPDATE_TXN = 0x10, 0x01, 0x08, 0x40
 DONE = record(BR_TRANSACTION_COMPLETE)

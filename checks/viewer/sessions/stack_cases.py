@@ -1,7 +1,10 @@
 """Which stacks tell of a finding, and whose they are. See cases.py."""
 
+from checks.kit.captures import (BC_ACQUIRE, BC_CLEAR_DEATH_NOTIFICATION, BC_REPLY, BC_REQUEST_DEATH_NOTIFICATION,
+                                 BR_ACQUIRE, BR_CLEAR_DEATH_NOTIFICATION_DONE, BR_DEAD_BINDER, BR_FAILED_REPLY, ENTER,
+                                 each, each_long, node, of_handle, offsets, record, watch)
 from checks.viewer.sessions.cases import case
-from checks.viewer.sessions.session import *
+from checks.viewer.sessions.session import ONE_WAY, Sent, node_object
 
 
 @case("U4:1", "finding_stack 1: 3, the call that it answers", "finding_stack 2: -")

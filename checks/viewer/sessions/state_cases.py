@@ -1,7 +1,11 @@
 """More sessions as in cases.py: handles, nodes, deaths, clears, frees, objects, and oneway sends that never came."""
 
+from checks.kit.captures import (BC_ACQUIRE, BC_ACQUIRE_DONE, BC_CLEAR_DEATH_NOTIFICATION, BC_DEAD_BINDER_DONE,
+                                 BC_DECREFS, BC_INCREFS, BC_RELEASE, BC_REQUEST_DEATH_NOTIFICATION, BR_ACQUIRE,
+                                 BR_CLEAR_DEATH_NOTIFICATION_DONE, BR_DEAD_BINDER, BR_FAILED_REPLY, BR_RELEASE, ENTER,
+                                 each, each_long, node, of_handle, offsets, record, watch)
 from checks.viewer.sessions.cases import case
-from checks.viewer.sessions.session import *
+from checks.viewer.sessions.session import ONE_WAY, UPDATE_TXN
 
 
 # ---- handles and nodes
