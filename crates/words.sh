@@ -3,7 +3,7 @@
 # no file is opened that can be opened, so nothing is taken from a pipe. Of what is not sure they say nothing.
 #
 # The script that reads this file has its own name in `name`.
-# shellcheck shell=bash
+# shellcheck shell=bash disable=SC2154
 
 # Says a line, if standard error takes one, and fails. Each %s in the line stands for a word, which is in quotes unless
 # it is plain, so that no terminal obeys a sign of it.

@@ -27,6 +27,7 @@ for methods in "$lab/$build"/*.methods; do words+=("--methods=$methods"); done
 progress=$lab/results/.progress
 tell() {
   [[ -e $progress/total ]] || return 0
+  # shellcheck disable=SC1010
   local total done failed ended seconds file
   exec {file}>>"$progress/done"
   flock "$file"

@@ -174,7 +174,7 @@ def block_lines(lines: list[str]) -> Iterator[str]:
         yield from table(lines)
     elif re.match(r"(- |\d+\. )", lines[0]):
         for begin, item in items_of(lines):
-            yield rf".IP \(bu 2" if begin == "-" else f".IP {begin} 4"
+            yield r".IP \(bu 2" if begin == "-" else f".IP {begin} 4"
             yield from filled(item)
     elif (column := column_of(lines)) is not None:
         for word, text in words_of(lines, column):

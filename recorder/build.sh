@@ -16,8 +16,8 @@ machine=
 while [[ ${1:-} == --* ]]; do
   case $1 in
     --sanitize)
-      link=(-fsanitize=address,undefined)
-      flags=(-O1 -g -fno-omit-frame-pointer -fsanitize=address,undefined -fno-sanitize-recover=all)
+      link=("-fsanitize=address,undefined")
+      flags=(-O1 -g -fno-omit-frame-pointer "-fsanitize=address,undefined" -fno-sanitize-recover=all)
       ;;
     --strip) link+=(-s) ;;
     --machine)

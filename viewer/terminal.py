@@ -1,6 +1,6 @@
-"""What the programs write to standard output and standard error. A text may be a stranger's: a name in a capture, a side
-list or a book, the name of a file, what another program says of one. So each sign that a terminal would obey, or that
-turns or hides other signs, is written as its number, and no locale makes a text fail."""
+"""What the programs write to standard output and standard error. A text may be a stranger's: a name in a capture, a
+side list or a book, the name of a file, what another program says of one. So each sign that a terminal would obey, or
+that turns or hides other signs, is written as its number, and no locale makes a text fail."""
 
 import contextlib
 import sys

@@ -2,8 +2,8 @@
 
     checks/run devices [-- PROGRAM..]
 
-It is run by hand and not by `.ci/run`: it makes some 3,800 runs, which took two minutes and a half on a busy machine. It
-builds only `devices.c` beside it, for which it needs `cc`. A device that hangs is not tested.
+It is run by hand and not by `.ci/run`: it makes some 3,800 runs, which took two minutes and a half on a busy machine.
+It builds only `devices.c` beside it, for which it needs `cc`. A device that hangs is not tested.
 
 The answer that is due for a capture comes from kit/second_reading.py. For a file that changes while it is read, it is
 the answer for the bytes that the reads gave, which the shim records.
@@ -73,7 +73,7 @@ class Program(NamedTuple):
         """The answer of a run without the shim, with these redirections of a shell, after these words of the shell."""
         (self.room / "capture").write_bytes(capture)
         return runs.answer(["sh", "-c", f'{before} exec "$0" "$@" {streams}', self.path, *words], timeout=60,
-                          cwd=self.room, **options)
+                           cwd=self.room, **options)
 
 
 def due(words, capture):
@@ -153,8 +153,8 @@ def changed_files(program, fail):
 
 
 def read_by_all(program, fail):
-    """A file that all workers read at once. Each read fails in turn; the file changes before a read; and the system lets
-    the program open no second file."""
+    """A file that all workers read at once. Each read fails in turn; the file changes before a read; and the system
+    lets the program open no second file."""
     whole = program.run(BY_FOUR, LARGE)
     if whole.answer != due(BY_FOUR, LARGE) or whole.given[:16] != LARGE[:16] or len(whole.given) <= len(LARGE):
         fail(f"a large file by four: {whole.told()}, {len(whole.given)} bytes read")
@@ -240,7 +240,8 @@ def judge(given, room, fail):
         fail("the long report is too short to fill a pipe twice")
     shim = preloadable(room, "auditor/devices.c")
     for path in given.programs:
-        for case in (slow_devices, failing_reads, failing_writes, changed_files, read_by_all, failing_streams, left_pipes):
+        for case in (slow_devices, failing_reads, failing_writes, changed_files, read_by_all, failing_streams,
+                     left_pipes):
             program = Program(path, room, shim)
             case(program, lambda what, case=case: fail(f"{case.__name__}: {what}"))
 

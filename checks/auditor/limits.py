@@ -183,4 +183,5 @@ def judge(given, room, fail):
 
 
 if __name__ == "__main__":
-    check(judge, runs={"type": int, "default": 20}, bytes={"type": int, "default": 2**26}, peaks=FLAG, instructions=FLAG)
+    check(judge, runs={"type": int, "default": 20}, bytes={"type": int, "default": 2**26}, peaks=FLAG,
+          instructions=FLAG)

@@ -271,7 +271,8 @@ def sweep_large(room, program, table, fail):
         write(number, 100, 101, record(BC_ENTER_LOOPER)) for number in range(1, 30_000)))
     for workers in (1, 4):
         sweep = of_program(room, program, str(room / "large.cap"), workers)
-        table.add("large.cap", workers, *judged(sweep, workers, 120, lambda what: fail(f"{program}: large.cap: {what}")))
+        table.add("large.cap", workers,
+                  *judged(sweep, workers, 120, lambda what: fail(f"{program}: large.cap: {what}")))
 
 
 def sweep_calls(room, fail):

@@ -15,7 +15,8 @@ def columns_of_tables() -> dict[str, dict[str, str]]:
     """The raw tables in schema.sql, without `raw_`: of each the columns, in order, each with its type."""
     with closing(sqlite3.connect(":memory:")) as database:
         database.executescript((raw_tables.FOLDER / "schema.sql").read_text("utf-8"))
-        tables = database.execute("SELECT name FROM sqlite_schema WHERE type = 'table' AND name GLOB 'raw_*'").fetchall()
+        tables = database.execute(
+            "SELECT name FROM sqlite_schema WHERE type = 'table' AND name GLOB 'raw_*'").fetchall()
         return {table.removeprefix("raw_"):
                 dict(database.execute("SELECT name, type FROM pragma_table_info(?)", (table,))) for table, in tables}
 

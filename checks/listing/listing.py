@@ -275,8 +275,9 @@ def check_side_begins(room: pathlib.Path, fail: Fail) -> None:
     """A side list begins as one of version 1 or 2."""
     capture, side = "samples/acquire.cap", room / "a.side"
     refused = 4, ["listing: the side list is not of version 1 or 2"]
-    for begin, due in (("binder side list 1\n", (0, 2)), ("binder side list 2\n", (0, 2)), ("binder side list 3\n", None),
-                       ("binder side list 2", None), ("binder side list 22\n", None), ("", None), ("5 frame 1\n", None)):
+    for begin, due in (("binder side list 1\n", (0, 2)), ("binder side list 2\n", (0, 2)),
+                       ("binder side list 3\n", None), ("binder side list 2", None), ("binder side list 22\n", None),
+                       ("", None), ("5 frame 1\n", None)):
         side.write_text(begin + "7 frame 1\n" * begin.endswith("\n"), "utf-8")
         status, lines = answer(LISTING, capture, "--side", side)
         if due is None:
@@ -394,7 +395,8 @@ def check_services(room: pathlib.Path, fail: Fail) -> None:
 def check_columns(fail: Fail) -> None:
     """The rows that listing_tables makes have the columns of the raw tables in schema.sql, by name and in order."""
     made = "".join(path.read_text("utf-8") for path in (ROOT / "crates/listing_tables/src").glob("*.rt"))
-    compare("columns", {tuple(re.findall(r"(\w+): ", row)) for row in re.findall(r"columns! \{(.*?)\}", made, re.DOTALL)},
+    named = re.findall(r"columns! \{(.*?)\}", made, re.DOTALL)
+    compare("columns", {tuple(re.findall(r"(\w+): ", row)) for row in named},
             set(map(tuple, columns_of_tables().values())), fail)
 
 

@@ -59,7 +59,7 @@ of more. The words of the toolchain come last. `checks/run definitions` makes th
 | `f x y`, `λ x. e` | f of x and y; the function that makes e of x |
 | `f None = a`, `f _ = b` | f of `None` is a, and f of any other value is b: the first line that fits counts |
 | `let x = a in e` | e, where x is a |
-| `elim x [ \| p ↦ a \| q ↦ b ]` | a if x is p, and b if x is q |
+| `elim x [ \\| p ↦ a \\| q ↦ b ]` | a if x is p, and b if x is q |
 | `P : A → Type 0` | P is a statement about an A, which is true or not |
 | `a ≡ b` | a is b |
 | `P × Q`, `P → Q` | P and Q; if P, then Q |
@@ -75,7 +75,7 @@ of more. The words of the toolchain come last. `checks/run definitions` makes th
 | `[]`, `x ∷ xs`, `xs ++ ys` | the empty list; x and then the list xs; the list xs and then the list ys |
 | `a - b`, `a / b`, `a % b` | of `ℕ`: the difference, or 0 if b is larger; the quotient, rounded down; the rest |
 | `a -ℤ b` | the difference, of `ℤ` |
-| `a == b`, `a && b`, `a \|\| b` | a is b; a and b; a or b: as a `Bool` that is computed |
+| `a == b`, `a && b`, `a \\|\\| b` | a is b; a and b; a or b: as a `Bool` that is computed |
 | `requires { P }`, `ensures { Q }` | P is true before the call, and Q after the call; `result` is the returned value |
 | `x.old`, `x.new`, `v.items` | in a contract: x before the call and after it; the elements of a `Vec` |
 """

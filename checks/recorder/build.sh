@@ -13,7 +13,7 @@ here=$(dirname -- "$(readlink -f -- "${BASH_SOURCE[0]}")")
 recorder=$here/../../recorder
 flags=(-O1 -std=gnu11 -Wall -Wextra -Werror "-I$recorder")
 if [[ $1 == --sanitize ]]; then
-  flags+=(-g -fsanitize=address,undefined -fno-sanitize-recover=all)
+  flags+=(-g "-fsanitize=address,undefined" -fno-sanitize-recover=all)
   shift
 fi
 program=$1 folder=$(readlink -f -- "$2")

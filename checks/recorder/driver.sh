@@ -264,6 +264,7 @@ try() { # PLANS OUT WORDS WHOLE: boots the kernel, plays the plans, compares
   [[ -s $room/plan ]] || return 0
   boot "$kernel" "$room/plan" "$room/$2" "$3"
   printf '%s\n' "$3" >"$room/$2/words"
+  # shellcheck disable=SC2086
   python3 -m checks.recorder.driver.compare "$auditor" "$room/$2" $4 || status=1
 }
 

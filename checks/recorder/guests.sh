@@ -1,7 +1,7 @@
 # What the checks share that boot Debian's kernels in QEMU: packages, kernels, the recorder for arm64. They source this
 # file, after they have set `check`, by which they are called, `root`, the top of the repository, and `acceleration`,
 # how QEMU runs x86-64; and they set `room`, a folder for what is fetched, before they fetch.
-# shellcheck shell=bash disable=SC2034
+# shellcheck shell=bash disable=SC2034,SC2154
 
 stop() {
   printf 'checks/%s: %s\n' "$check" "$1" >&2
@@ -73,7 +73,7 @@ fetch_kernel() { # SERIES, or newest
       awk '$1 == "Depends:" && $2 ~ /^linux-(binary|modules)-/ { print $2 }')
     # shellcheck disable=SC2086
     if open_packages "$kernel" "$package" $parts; then return 0; fi
-  done < <(apt-cache "${from[@]}" search --names-only "^linux-image-$begin[0-9.+deb-]*-$architecture\$" |
+  done < <(apt-cache "${from[@]}" search --names-only "^linux-image-${begin}[0-9.+deb-]*-$architecture\$" |
     awk '{ print $1 }' | sort -Vr | head -n 4)
   return 1
 }

@@ -193,7 +193,8 @@ def lenient(judged: list[Judged]) -> Iterator[str]:
 
 
 def judge_folder(folder: pathlib.Path, view: pathlib.Path, keep: pathlib.Path, fail: Fail) -> list[Judged]:
-    expected, found = expectations(folder.name.partition("-")[0]), sorted(path.name for path in folder.iterdir() if path.is_dir())
+    expected = expectations(folder.name.partition("-")[0])
+    found = sorted(path.name for path in folder.iterdir() if path.is_dir())
     for name in sorted(expected.keys() ^ set(found)):
         fail(f"{folder.name}: {name} is only in {'the table' if name in expected else 'the folder'}")
     keep.mkdir(parents=True, exist_ok=True)

@@ -122,11 +122,12 @@ make_initramfs() { # KERNEL SHELL POLICY TO: with SELinux if POLICY is a file
   done
   mv -- "$top/usr/bin/busybox" "$top/busybox"
   # What a guest does not need takes it time to unpack.
-  rm -rf -- "$top"/{bin,usr/share,usr/lib/{diet,klibc}} "$top"/usr/lib/*-musl "$top"/usr/lib/*/{bin,gconv}
+  rm -rf -- "${top:?}"/{bin,usr/share,usr/lib/{diet,klibc}} "$top"/usr/lib/*-musl "$top"/usr/lib/*/{bin,gconv}
   mkdir -p -- "$top"/{bin,modules,system-programs,su,other,etc,root}
   cp -- "$phone/init.sh" "$top/init"
   cp -- "$programs"/{system,service} "$top/system-programs/"
   cp -- "$programs/su" "$top/su/su"
+  # shellcheck disable=SC2016
   printf '#!/bin/sh\nif [ "$1" = -m ]; then echo armv7l; else /bin/uname "$@"; fi\n' >"$top/other/uname"
   chmod +x -- "$top/init" "$top/other/uname"
   printf '%s\n' "$2" >"$top/shell"

@@ -37,7 +37,7 @@ from checks.kit.rows import rows_of
 from checks.kit.tokens import GATHER, MANAGER, NO_SOURCE, PARTITIONS, marked, numbers, partition, string16
 
 TF_ONE_WAY, TF_CLEAR_BUF = 0x01, 0x20
-SORTS = {int.from_bytes(one[:4], "little"): len(one) for one in captures.SORTS}	# the bytes of each
+SORTS = {int.from_bytes(one[:4], "little"): len(one) for one in captures.SORTS}  # the bytes of each
 
 # The column of the table record that has what is redacted.
 REDACTED = {"service": None}

@@ -1,7 +1,7 @@
 # Builds a kernel with the Binder driver in Rust, of Debian sid's sources with sid's tools: Debian's own kernels have
 # only the driver in C. That driver is a module of it, without binderfs, since the two can't both be built in. driver.sh
 # sources this file after guests.sh.
-# shellcheck shell=bash disable=SC2034,SC2154
+# shellcheck shell=bash disable=SC2016,SC2034,SC2154
 
 tools_of_rust_kernel=(rustc rust-src bindgen clang lld llvm libclang-dev bc flex bison libelf-dev libdw-dev libssl-dev
   make pahole cpio kmod xz-utils perl python3 libc6-dev gcc)

@@ -2,7 +2,8 @@
 frames are lost in turn, as the side list says. What is `real` then must be `real` in the whole session, too.
 
     checks/run lost                    loses one frame of 400, and those of which one was found wrong before
-    checks/run lost -- --most N        loses N frames of each session, or each one of it: 20 minutes of the processor for 12
+    checks/run lost -- --most N        loses N frames of each session, or each one of it: for 12, 20 minutes of the
+                                       processor
     checks/run lost -- --all           loses each frame of each session: two hours of the processor
     checks/run lost -- --all CASE      of the sessions whose name has this text
 

@@ -84,6 +84,7 @@ WITH_FILES = {name: ([DRIVER / name / "capture-1.cap"], DRIVER / name / "capture
 
 PICTURED = Pictured("chain", 4084, 13, 29)
 
+
 def written(database: sqlite3.Connection, path: pathlib.Path, is_android: bool = False, **window: int) -> pathlib.Path:
     path.unlink(missing_ok=True)
     trace.write(database, path, Window(**window), path.name, is_android)

@@ -74,7 +74,7 @@ from checks.viewer.page.books import (check_agreement, check_bad_books, check_co
                                       check_long_books)
 from checks.viewer.page.browser import check_browser
 from checks.viewer.page.files import (check_again, check_changing, check_malformed, check_names, check_pipes,
-                                       check_terminal, check_whole)
+                                      check_terminal, check_whole)
 from checks.viewer.page.growth import check_growth
 from checks.viewer.page.losses import CUTS, FAULTLESS, check_cuts, check_gaps
 from checks.viewer.page.methods import check_methods, check_unnamed

@@ -13,6 +13,7 @@
 # `messages`, what the recorder says, of which so many bytes as `told` has were passed on when it began. The recorder
 # does not write to the connection itself, which may stall, but for the line that it is ready, before PROGRAM begins.
 # It uses what toybox, mksh and busybox have.
+# shellcheck shell=dash
 umask 077
 exec 4>&2 2>/dev/null	# what the commands say, when for example another one removes the folder, is for nobody
 
@@ -113,7 +114,7 @@ detach)
 	while kill -0 $runner && [ ! -e pid ]; do sleep 0.1; done
 	while is_recording && ! has_begun; do sleep 0.2; done
 	tell
-	echo $told >told
+	echo "$told" >told
 	;;
 end)
 	told=$(cat told)

@@ -94,8 +94,8 @@ AROUND = 100_000_000
 
 
 def widened(database: sqlite3.Connection, copy: Copy) -> Copy:
-    """The copy with its numbers further apart: what the frames up to `from_seq` did is surely in it, and what the frames
-    after `after` did is surely not."""
+    """The copy with its numbers further apart: what the frames up to `from_seq` did is surely in it, and what the
+    frames after `after` did is surely not."""
     def last_until(ts: int) -> int:
         return database.execute("SELECT max(seq) FROM side_time WHERE ts <= ?", (ts,)).fetchone()[0] or 0
     return copy._replace(from_seq=min(copy.from_seq, last_until(copy.ts - AROUND)),

@@ -213,4 +213,3 @@ class Aidl(Reader):
             if not self.takes(","):
                 self.must("}")
                 return
-

@@ -7,6 +7,7 @@
 # `cost: rate HOW BYTES COUNT NANOSECONDS LOADER IDLE CAPTURE SIDE`, where LOADER is in nanoseconds, as is IDLE, what it
 # takes of as long a time without calls. `stack: NUMBER` is how many functions the longest stack has. Before that files
 # are opened and closed (opens.c), bare and looked at, with lines `cost: opens HOW 0 COUNT NANOSECONDS`.
+# shellcheck shell=dash disable=SC2013,SC2086
 /bin/busybox --install -s /bin
 export PATH=/bin
 mount -t proc proc /proc

@@ -148,8 +148,8 @@ def end_differences(recording):
         yield "end", "all", "after", after, max(numbers, default=0)
 
 
-MISSED = {"crowd": "calls-without-number"}	# what a scenario makes the recorder miss
-COUNTS = {	# by the word of the side list: how the last line of the recorder names the same
+MISSED = {"crowd": "calls-without-number"}  # what a scenario makes the recorder miss
+COUNTS = {  # by the word of the side list: how the last line of the recorder names the same
     "events": "events missed", "calls-without-number": "calls without a number",
     "calls-of-32-bits": "calls of 32-bit programs, not recorded"}
 
@@ -165,7 +165,7 @@ def missed_differences(name, recording, output):
             yield "missed", "all", what, told, "some" if MISSED.get(name) == what else 0
 
 
-MOST_FILES = 4		# that a flight recorder keeps
+MOST_FILES = 4  # that a flight recorder keeps
 
 
 def flight_differences(recording, folder):
@@ -200,7 +200,7 @@ def hoard_differences(output, folder):
 
 SECRETS = {which: bytes((which * 73 + i * 151 + (i * i >> 3) * 29 + 17) & 255 for i in range(64))
            for which in range(1, 6)}
-TO_CLEAR = 5		# the secret that is sent with TF_CLEAR_BUF
+TO_CLEAR = 5  # the secret that is sent with TF_CLEAR_BUF
 TOKEN = "org.example.IVault".encode("utf-16-le")
 
 
@@ -220,7 +220,7 @@ def secret_differences(recording):
 
 LONGEST_COMMAND = 256
 USER = 10123
-COMMANDS = (	# of each process of the scenario people, in order: the users, and the command lines
+COMMANDS = (  # of each process of the scenario people, in order: the users, and the command lines
     [(0, b"/scenarios.static\0people\0/out/people")], [(0, b"com.example.mail\0person\0a")],
     [(0, b"<pre-initialized>, and room for the name that it gets\0person\0z"),
      (0, b"com.example.a.name.of.many.letters:remote")],
@@ -296,7 +296,7 @@ FACTS_BEFORE = {"books_doubt": None, "books_compared": 5, "books_left_out": 0}
 
 # ---- namespaces, and openings from before the recording
 
-OWN_NUMBERS = 4194304	# numbers from here on are no ids of Linux
+OWN_NUMBERS = 4194304  # numbers from here on are no ids of Linux
 
 
 def sender_differences(recording):
@@ -321,7 +321,7 @@ def bits_differences(how, recording):
         yield "names", "all", "bits", wrong, 0
 
 
-OPENINGS_BEFORE = 4	# of the load: manager, service and two clients
+OPENINGS_BEFORE = 4  # of the load: manager, service and two clients
 # What the output of a guest has for these ways to record.
 SAYS = {
     "drivers": ["is not recorded: ", "the absent one alone: status 1", " are not recorded, and those of "],
@@ -332,13 +332,13 @@ SAYS = {
 
 # How it is recorded if the recorder does not record all, from beginning to end.
 PARTIAL = {"late", "hidden", "before", "killed", "stopped", "full", "narrow", "flight", "hoard"}
-MOST_AFTER = 200_000_000	# nanoseconds from the last frame to the end, if the scenario goes on after it
-MOST_CUT = 8192		# bytes of a last frame of the load that a killed recorder may leave cut
+MOST_AFTER = 200_000_000  # nanoseconds from the last frame to the end, if the scenario goes on after it
+MOST_CUT = 8192  # bytes of a last frame of the load that a killed recorder may leave cut
 
 
 class Scenario:
     def __init__(self, auditor, folder):
-        self.name, self.folder = folder.name.removesuffix("-rust"), folder	# as store.py calls some
+        self.name, self.folder = folder.name.removesuffix("-rust"), folder  # as store.py calls some
         self.recording = Recording(folder)
         status = folder / "status"
         self.status, self.how = status.read_text("utf-8").split()[:2] if status.exists() else ("0", "stored")
@@ -433,7 +433,7 @@ class Scenario:
 
 # ---- wrong books
 
-WRONG_IN_C = {	# for each section a count in a file of the books
+WRONG_IN_C = {  # for each section a count in a file of the books
     "codes": ("stats", r"^(BC_REPLY: )(\d+)"),
     "codes by process": ("stats", r"^(  BC_FREE_BUFFER: )(\d+)"),
     "handles": ("state", r"(  ref \d+: desc \d+ (?:dead )?node \d+ s )(\d+)"),
@@ -456,7 +456,7 @@ WRONG_IN_RUST = {
     "deaths": ("state", r"(  has )(delivered dead binder)"),
     "clears": ("state", r"(  has )(cleared death notification)"),
 }
-WRONG = {"C": WRONG_IN_C, "Rust": WRONG_IN_RUST}	# where the books of each driver can be made wrong
+WRONG = {"C": WRONG_IN_C, "Rust": WRONG_IN_RUST}  # where the books of each driver can be made wrong
 
 
 def wrong(text, section, where):
@@ -465,12 +465,12 @@ def wrong(text, section, where):
 
     def change(found):
         return found[1] + (str(int(found[2], 16) + 1) if re.fullmatch(r"[0-9a-f]+", found[2]) else "lost")
-    head, mark, rest = text[name].partition("\nproc ")	# nodes without a process come first, and have no row
+    head, mark, rest = text[name].partition("\nproc ")  # nodes without a process come first, and have no row
     if section in ("nodes", "due"):
         rest, times = re.subn(pattern, change, rest, count=1, flags=re.M)
         changed = head + mark + rest
     else:
-        old = set(text.get(name + ".before", "").splitlines())	# lines of earlier scenarios
+        old = set(text.get(name + ".before", "").splitlines())  # lines of earlier scenarios
         lines, times = text[name].splitlines(), 0
         for at, line in enumerate(lines):
             if line not in old and not times:
@@ -480,8 +480,8 @@ def wrong(text, section, where):
 
 
 def unfound(scenarios):
-    """For each driver that has books here, and each section: in how many scenarios its books were made wrong, and in how
-    many that was found."""
+    """For each driver that has books here, and each section: in how many scenarios its books were made wrong, and in
+    how many that was found."""
     for driver, sections in WRONG.items():
         here = [scenario for scenario in scenarios if scenario.driver == driver]
         for section, where in sections.items() if here else ():

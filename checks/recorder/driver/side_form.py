@@ -11,7 +11,8 @@ NUMBER = "[0-9]+"
 KINDS = {
     **dict.fromkeys(("RELEASE", "MACHINE"), r"\S+"), **dict.fromkeys(("NAME", "COMMAND", "PATH"), ".*"),
     **dict.fromkeys(("WHEN", "WHICH", "WHAT", "WHY", "REASON", "MET"), "[a-z0-9-]+"),
-    "DEVICES": rf"(?:{NUMBER}:{NUMBER}:(?:C|Rust)(?:,|(?= |$)))*", "ADDRESS": "(?:0x[0-9a-f]+|-)", "ID": "(?:[0-9a-f]+|-)"}
+    "DEVICES": rf"(?:{NUMBER}:{NUMBER}:(?:C|Rust)(?:,|(?= |$)))*", "ADDRESS": "(?:0x[0-9a-f]+|-)",
+    "ID": "(?:[0-9a-f]+|-)"}
 
 
 def page() -> str:
@@ -25,7 +26,8 @@ def page() -> str:
 def templates(text: str) -> list[str]:
     """The lines of the blocks that show a line of each kind: a word, and words in capitals for what differs."""
     blocks = re.findall(r"(?:^    [a-z].*\n)+", text, re.M)
-    return [line.strip() for block in blocks if re.match(r"    [a-z ]+\b.*[A-Z]{2}", block) for line in block.splitlines()]
+    return [line.strip() for block in blocks if re.match(r"    [a-z ]+\b.*[A-Z]{2}", block)
+            for line in block.splitlines()]
 
 
 def pattern_of(template: str) -> str:

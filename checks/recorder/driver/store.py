@@ -9,8 +9,8 @@ import sys
 from checks.recorder.driver import books
 from checks.recorder.driver.recording import Recording, report_on
 
-LARGEST = 200_000	# bytes of a capture with its side list
-WAYS = ("both", "record", "redact", "narrow", "before", "stacks", "frameless", "two-drivers")	# to record a scenario
+LARGEST = 200_000  # bytes of a capture with its side list
+WAYS = ("both", "record", "redact", "narrow", "before", "stacks", "frameless", "two-drivers")  # to record a scenario
 
 
 def store_symbols(program, folder):
@@ -39,7 +39,7 @@ def main(auditor, source, to, suffix="", *names):
         kept = to / (folder.name + suffix)
         shutil.rmtree(kept, ignore_errors=True)
         kept.mkdir(parents=True)
-        saved = [folder / name for name in books.NAMES if (folder / name).exists()]	# the driver in Rust has no log
+        saved = [folder / name for name in books.NAMES if (folder / name).exists()]  # the driver in Rust has no log
         for path in (*files, *folder.glob("capture.*.*"), *saved):
             shutil.copyfile(path, kept / path.name)
         (kept / "report.txt").write_text(text, "utf-8")

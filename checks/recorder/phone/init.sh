@@ -7,6 +7,7 @@
 #   5558  as root, on a machine that seems to be another one
 #   5559  as root, in a domain of SELinux that may not use bpf
 # /shell says whether its commands are toybox, with mksh, as on Android, or busybox. With a /policy it enforces that one.
+# shellcheck shell=dash disable=SC2086
 /busybox mkdir -p /proc /sys /dev /run /tmp /data/local/tmp /bin
 /busybox mount -t proc proc /proc
 /busybox mount -t sysfs sys /sys

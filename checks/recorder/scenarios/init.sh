@@ -25,6 +25,7 @@
 #            all processes are alive at the end of the recording
 #   flight   by the recorder only, which keeps the newest 4 files of 128 KiB; `most-files` is how many there were at
 #            most
+# shellcheck shell=dash disable=SC2013,SC2046,SC2086
 /bin/busybox --install -s /bin
 export PATH=/bin LD_LIBRARY_PATH=/lib
 mount -t proc proc /proc

@@ -239,7 +239,7 @@ def check_hostile(folder: pathlib.Path, room: pathlib.Path, fail: Fail) -> pathl
     check_policy(text, fail)
     check_harmless("hostile names", text, fail)
     compare("hostile names: characters that are not shown", [one for one in text if not one.isprintable()
-                                                            and one != "\n"], [], fail)
+                                                             and one != "\n"], [], fail)
     compare("hostile names: the number of one of them", '<span class="sign">U+202E</span>gnp.exe' in text, True, fail)
     compare("hostile names: texts that may turn others", shown_of(text).turned, [], fail)
     compare("hostile names: paths that are not set apart", re.findall("<span><b>[^<]*</b> (?!<bdi>)", text), [], fail)

@@ -78,7 +78,7 @@ def others_queue(s, wait, took=0, enters=True, killed=False):
 
 @case("C4:1 C6:1 C7:2 A1:4")
 def two_pools(s):
-    """The only loopers of two services never answer. At one of them another call waits for long, at the other one not."""
+    """The only loopers of two services never answer. At one of them another call waits for long, at the other not."""
     service, client = s.two()
     server = s.process(300, "server")
     server.main.writes(ENTER)

@@ -78,9 +78,9 @@ def check_slices(what: str, database: sqlite3.Connection, read: Read, fail: Fail
           for place, ts, seq, upid, thread, tid in database.execute(
               "SELECT place, ts, seq, r.upid, thread, tid FROM record r JOIN thread USING (utid)")}
     closers = dict(database.execute("SELECT place, closer FROM call"))
-    ended = {place for place, in database.execute("SELECT place FROM call JOIN thread t USING (utid) JOIN process p ON"
-             " p.upid = t.upid, raw_capture c WHERE closer IS NULL AND min(coalesce(t.ended_after, 1e18),"
-             " coalesce(p.ended_after, 1e18)) <= c.last_seq")}
+    ended = {place for place, in database.execute(
+        "SELECT place FROM call JOIN thread t USING (utid) JOIN process p ON p.upid = t.upid, raw_capture c"
+        " WHERE closer IS NULL AND min(coalesce(t.ended_after, 1e18), coalesce(p.ended_after, 1e18)) <= c.last_seq")}
     parents = dict(database.execute("SELECT place, parent FROM call"))
     for one in read.slices:
         place = one.args["place"]
