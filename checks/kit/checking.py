@@ -8,8 +8,9 @@ import shutil
 import signal
 import sys
 import tempfile
-from typing import Callable, Iterable, Iterator
+from typing import Callable, Iterable, Iterator, Sequence
 
+from checks.kit.cases import chosen
 from checks.kit.programs import AUDITOR, BY_RATTLE
 
 Fail = Callable[[str], None]
@@ -34,20 +35,6 @@ def row(*cells: object) -> None:
     print("| " + " | ".join(map(str, cells)) + " |", flush=True)
 
 
-def run_parts(parts: Iterable[Callable], folder: pathlib.Path, room: pathlib.Path, fail: Fail) -> None:
-    """Runs parts of a check on the programs of a folder, each in a room of its own, which has its name."""
-    for part in parts:
-        (room / part.__name__).mkdir()
-        part(folder, room / part.__name__, fail)
-
-
-def failures_of(part: Callable, *given: object) -> list[str]:
-    """The failures of a part of a check, which can so run in a process of its own."""
-    failed: list[str] = []
-    part(*given, failed.append)
-    return failed
-
-
 @contextlib.contextmanager
 def own_room(prefix: str = "checks-") -> Iterator[pathlib.Path]:
     """A folder that is removed afterwards. A signal that ends the check removes it too, and ends the check without a
@@ -61,24 +48,46 @@ def own_room(prefix: str = "checks-") -> Iterator[pathlib.Path]:
         yield pathlib.Path(room)
 
 
-def check(judge: Callable[[argparse.Namespace, pathlib.Path, Fail], Iterable[str] | None], **options: dict) -> None:
+def check(judge: Callable[[argparse.Namespace, pathlib.Path, Fail], Iterable[str] | None],
+          cases: Callable[[], Sequence[str]] | None = None, **options: dict) -> None:
     """Runs a check, from its command line to its status. `judge` gets the parsed command line, a folder that is removed
     afterwards, and a function that takes failures; others it may yield. The command line may have these options, in the
     form of argparse, and programs. If it names no program, `given.programs` has the built auditor, and that by Rattle's
-    own compiler if it is there."""
+    own compiler if it is there. A check with cases, of which this is given the names, takes names in place of programs,
+    and `given.cases` has those that it must play."""
     name = pathlib.Path(sys.argv[0]).stem
     line = argparse.ArgumentParser(f"checks/run {name} --", description=sys.modules["__main__"].__doc__, epilog=ENDING,
                                    allow_abbrev=False, formatter_class=argparse.RawDescriptionHelpFormatter)
-    line.add_argument("programs", metavar="PROGRAM", nargs="*", type=pathlib.Path,
-                      default=[AUDITOR, *[BY_RATTLE] * BY_RATTLE.exists()],
-                      help="the auditor, or several; without it the built ones")
+    built = [AUDITOR, *[BY_RATTLE] * BY_RATTLE.exists()]
+    if cases is None:
+        line.add_argument("programs", metavar="PROGRAM", nargs="*", type=pathlib.Path, default=built,
+                          help="the auditor, or several; without it the built ones")
+    else:
+        line.add_argument("cases", metavar="CASE", nargs="*",
+                          help="plays these alone: whole names, or all that begin with them before a / or a space")
+        line.add_argument("--list", action="store_true", help="lists the names of the cases")
+        line.add_argument("--program", dest="programs", metavar="PROGRAM", action="append", type=pathlib.Path,
+                          help="an auditor; without it the built ones")
     for option, how in options.items():
         line.add_argument(f"--{option}", **how)
     given = line.parse_args()
-    given.programs = [program.resolve() for program in given.programs]
+    if cases is not None:
+        choose(name, given, cases())
+    given.programs = [program.resolve() for program in given.programs or built]
     failed: list[str] = []
     with own_room() as room:
         failed.extend(judge(given, room, failed.append) or ())
     for what in failed:
         print(f"checks/{name}: {what}", file=sys.stderr)
     sys.exit(1 if failed else 0)
+
+
+def choose(check_name: str, given: argparse.Namespace, names: Sequence[str]) -> None:
+    """Puts the names of the cases that the command line means into it, or lists them."""
+    if given.list:
+        print("\n".join(names))
+        sys.exit()
+    try:
+        given.named, given.cases = bool(given.cases), chosen(given.cases, names)
+    except ValueError as error:
+        sys.exit(f"checks/{check_name}: {error}")

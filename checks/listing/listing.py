@@ -1,6 +1,7 @@
 """Checks the program of `./listing`.
 
-    checks/run listing [-- PROGRAM]
+    checks/run listing [-- CASE..]     plays these cases alone, as `freezes`, `stored/death.txt`, or `stored`
+    checks/run listing -- --print ..   writes the stored listings of these cases anew, and prints what changed
 
 Each file in `stored/` beside this one must be what the command in its first line prints. For each capture of
 crates/audit_cases/data and samples/ the listing and the auditor's report must agree: in the counts by code, or in the
@@ -27,14 +28,18 @@ from checks.kit.captures import (BC_ACQUIRE, BC_CLEAR_FREEZE_NOTIFICATION, BC_FR
                                  BR_TRANSACTION_SEC_CTX, COMMANDS, ENTER, HEADER, HEADER_2, MAX_32, MAX_64, attached,
                                  each, each_long, entry, frame, frame_header, frozen, of_handle, offsets, read, record,
                                  transaction, u32, u64, watch, write)
-from checks.kit.checking import Fail, check, compare
+from checks.kit.cases import Part, parts_of, play
+from checks.kit.checking import FLAG, Fail, check, compare
 from checks.kit.frames import frames_of
 from checks.kit.programs import CHECKS, DRIVER, LISTING, ROOT, SMALL
 from checks.kit.rows import columns_of_tables, rows_of
 from checks.kit.second_reading import NEWER
+from checks.kit.stored import renew
 from checks.kit.traffic import write_traffic
 
-STORED = CHECKS / "listing/stored"
+STORED = sorted((CHECKS / "listing/stored").iterdir())
+# The captures of the real driver.
+CAPTURES = sorted(DRIVER.glob("*/capture-1.cap"))
 
 
 def answer(program: pathlib.Path, *words: object) -> tuple[int, list[str]]:
@@ -52,14 +57,20 @@ def check_alone(table: str, capture: pathlib.Path, folder: pathlib.Path, fail: F
 # ---- stored listings
 
 
-def check_stored(fail: Fail) -> None:
-    """Each stored listing. Its first line has the command, its last line the status."""
-    for stored in sorted(STORED.iterdir()):
-        words, *lines, status = stored.read_text("utf-8").splitlines()
-        code, came = answer(LISTING, *words.split()[1:])
-        for number, (one, other) in enumerate(zip(came, lines), 2):
-            compare(f"stored/{stored.name}, line {number}", one, other, fail)
-        compare(f"stored/{stored.name}", (code, len(came)), (int(status.split()[1]), len(lines)), fail)
+def check_stored(program: pathlib.Path, room: pathlib.Path, stored: pathlib.Path, fail: Fail) -> None:
+    """A stored listing. Its first line has the command, its last line the status."""
+    words, *lines, status = stored.read_text("utf-8").splitlines()
+    code, came = answer(LISTING, *words.split()[1:])
+    for number, (one, other) in enumerate(zip(came, lines), 2):
+        compare(f"stored/{stored.name}, line {number}", one, other, fail)
+    compare(f"stored/{stored.name}", (code, len(came)), (int(status.split()[1]), len(lines)), fail)
+
+
+def renew_stored(stored: pathlib.Path) -> None:
+    """Writes what the command of a stored listing prints now."""
+    words, *_ = stored.read_text("utf-8").splitlines()
+    code, came = answer(LISTING, *words.split()[1:])
+    renew(stored, "".join(f"{line}\n" for line in (words, *came, f"status {code}")))
 
 
 # ---- listing and report
@@ -89,7 +100,7 @@ def check_capture(program: pathlib.Path, capture: pathlib.Path, fail: Fail) -> N
         compare(f"{capture}, counts", counts_listed(lines), counts_reported(report), fail)
 
 
-def check_captures(program: pathlib.Path, fail: Fail) -> None:
+def check_captures(program: pathlib.Path, room: pathlib.Path, fail: Fail) -> None:
     runs.at_once(os.cpu_count(), lambda capture: check_capture(program, capture, fail), SMALL)
 
 
@@ -100,7 +111,7 @@ def has_word(field: str) -> Callable[[list[str]], bool]:
     return lambda words: field in words
 
 
-def check_narrowed(room: pathlib.Path, fail: Fail) -> None:
+def check_narrowed(program: pathlib.Path, room: pathlib.Path, fail: Fail) -> None:
     """Compares each option on usual traffic with the whole listing. Attachments are left out, since their objects have
     handles and cookies that are in no line."""
     capture = room / "traffic.cap"
@@ -189,7 +200,7 @@ def freezes() -> bytes:
     ) + read(6, 100, 101, *map(record, (0x80087215, 0x800C7216)))
 
 
-def check_freezes(room: pathlib.Path, fail: Fail) -> None:
+def check_freezes(program: pathlib.Path, room: pathlib.Path, fail: Fail) -> None:
     capture, folder = room / "freezes.cap", room / "tables of freezes"
     capture.write_bytes(freezes())
     status, lines = answer(LISTING, capture)
@@ -227,7 +238,7 @@ def check_freezes(room: pathlib.Path, fail: Fail) -> None:
 # ---- what is at a place, and columns
 
 
-def check_places(fail: Fail) -> None:
+def check_places(program: pathlib.Path, room: pathlib.Path, fail: Fail) -> None:
     """A frame; the calls that have rows in the report; and columns that say the same as the lines."""
     capture = "samples/driver/leaks/capture-1.cap"
     _, whole = answer(LISTING, capture)
@@ -248,30 +259,29 @@ def check_places(fail: Fail) -> None:
             [["128", "object", "0", "at", "0", "HANDLE"]], fail)
 
 
-def check_side(fail: Fail) -> None:
-    """After each line of the stored captures: the time, the ids and the names that the side list has for its frame."""
-    for capture in sorted(DRIVER.glob("*/capture-1.cap")):
-        side = capture.with_name("capture.side")
-        lines = side.read_text("utf-8", errors="surrogateescape").splitlines()
-        if "after=" in "".join(line for line in lines if " name pid=" in line):
-            continue
-        told, people, names = {}, {}, {}
-        for line in lines:
-            match line.split(" "):
-                case [time, "frame", number]:
-                    told[number] = time
-                case [_, "process", device, process, *_]:
-                    names.setdefault((device, process), line.split("name=")[1])
-                case [_, "thread", device, process, thread, pid, tid, *_]:
-                    people.setdefault((device, process, thread), f"{pid} {tid} thread={line.split('name=')[1]}")
-        due = []
-        for line in answer(LISTING, capture)[1]:
-            _, number, *thread = line.split()[:5]
-            due.append(f"{line} time={told[number]} {people[tuple(thread)]} process={names[tuple(thread[:2])]}")
-        compare(f"--side of {capture}", answer(LISTING, capture, "--side", side), (0, due), fail)
+def check_side(program: pathlib.Path, room: pathlib.Path, capture: pathlib.Path, fail: Fail) -> None:
+    """After each line of a stored capture: the time, the ids and the names that the side list has for its frame."""
+    side = capture.with_name("capture.side")
+    lines = side.read_text("utf-8", errors="surrogateescape").splitlines()
+    if "after=" in "".join(line for line in lines if " name pid=" in line):
+        return
+    told, people, names = {}, {}, {}
+    for line in lines:
+        match line.split(" "):
+            case [time, "frame", number]:
+                told[number] = time
+            case [_, "process", device, process, *_]:
+                names.setdefault((device, process), line.split("name=")[1])
+            case [_, "thread", device, process, thread, pid, tid, *_]:
+                people.setdefault((device, process, thread), f"{pid} {tid} thread={line.split('name=')[1]}")
+    due = []
+    for line in answer(LISTING, capture)[1]:
+        _, number, *thread = line.split()[:5]
+        due.append(f"{line} time={told[number]} {people[tuple(thread)]} process={names[tuple(thread[:2])]}")
+    compare(f"--side of {capture}", answer(LISTING, capture, "--side", side), (0, due), fail)
 
 
-def check_side_begins(room: pathlib.Path, fail: Fail) -> None:
+def check_side_begins(program: pathlib.Path, room: pathlib.Path, fail: Fail) -> None:
     """A side list begins as one of version 1 or 2."""
     capture, side = "samples/acquire.cap", room / "a.side"
     refused = 4, ["listing: the side list is not of version 1 or 2"]
@@ -350,7 +360,7 @@ def check_names(room: pathlib.Path, what: str, payloads: list[tuple[int, int, by
                 (0, [line for line, of in zip(lines, found) if of == name]), fail)
 
 
-def check_interfaces(room: pathlib.Path, fail: Fail) -> None:
+def check_interfaces(program: pathlib.Path, room: pathlib.Path, fail: Fail) -> None:
     """Payloads of `tokens.py`; in all kinds of records and with other codes; and a reply that is one name."""
     made = tokens.payloads()
     due = list(made.values())
@@ -372,7 +382,7 @@ def check_interfaces(room: pathlib.Path, fail: Fail) -> None:
                 [None] * 21, [tokens.MANAGER, *[None] * 6] * 3, fail)
 
 
-def check_services(room: pathlib.Path, fail: Fail) -> None:
+def check_services(program: pathlib.Path, room: pathlib.Path, fail: Fail) -> None:
     """The services that payloads to the manager of names are about, in the table record. The table of their names is
     the same alone as among all tables."""
     made, capture, folder = tokens.services(), room / "services.cap", room / "tables of services"
@@ -392,7 +402,7 @@ def check_services(room: pathlib.Path, fail: Fail) -> None:
 # ---- raw tables
 
 
-def check_columns(fail: Fail) -> None:
+def check_columns(program: pathlib.Path, room: pathlib.Path, fail: Fail) -> None:
     """The rows that listing_tables makes have the columns of the raw tables in schema.sql, by name and in order."""
     made = "".join(path.read_text("utf-8") for path in (ROOT / "crates/listing_tables/src").glob("*.rt"))
     named = re.findall(r"columns! \{(.*?)\}", made, re.DOTALL)
@@ -400,37 +410,35 @@ def check_columns(fail: Fail) -> None:
             set(map(tuple, columns_of_tables().values())), fail)
 
 
-def check_tables(room: pathlib.Path, fail: Fail) -> None:
-    """Compares the raw tables of the stored captures with the listing and the stored report."""
-    for capture in sorted(DRIVER.glob("*/*.cap")):
-        folder = room / capture.parent.name
-        folder.mkdir()
-        compare(f"--tables of {capture}", answer(LISTING, "--tables", folder, capture), (0, []), fail)
-        tables = {path.stem: list(rows_of(path)) for path in folder.iterdir()}
-        report = capture.with_name("report.txt").read_text("utf-8").splitlines()
-        totals = report[1].split()
-        compare(f"{capture}, capture", [tables["capture"][0].get(name) for name in ("frames", "records", "missing")],
-                [int(totals[k]) for k in (1, 3, 7)], fail)
-        compare(f"{capture}, records", [row["place"] for row in tables["record"]],
-                [int(line.split()[0]) for line in answer(LISTING, capture)[1]], fail)
-        heads = {line.split()[0]: line.split() for line in report if not line.startswith(" ")}
-        calls = Counter((row["served"], row["verdict"]) for row in tables["call"])
-        compare(f"{capture}, calls", [calls[0, 1], calls[0, 3], calls[0, 0] + calls[0, 4]],
-                [int(heads["calls"][k]) for k in (3, 5, 7)], fail)
-        compare(f"{capture}, served", [calls[1, 2], calls[1, 4] + calls[1, 3], calls[1, 0]],
-                [int(heads["served"][k]) for k in (3, 5, 7)], fail)
-        unfreed = [row["place"] for row in tables["delivery"] if "freed_by" not in row]
-        at = next(number for number, line in enumerate(report) if line.startswith("buffers "))
-        compare(f"{capture}, unfreed", unfreed,
-                [int(line.split()[0]) for line in report[at + 1:at + 1 + int(heads["buffers"][3])]], fail)
-    for name in ("call", "level"):
-        check_alone(name, capture, folder, fail)
+def check_tables(program: pathlib.Path, room: pathlib.Path, capture: pathlib.Path, fail: Fail) -> None:
+    """Compares the raw tables of a stored capture with the listing and the stored report."""
+    compare(f"--tables of {capture}", answer(LISTING, "--tables", room, capture), (0, []), fail)
+    tables = {path.stem: list(rows_of(path)) for path in room.iterdir()}
+    report = capture.with_name("report.txt").read_text("utf-8").splitlines()
+    totals = report[1].split()
+    compare(f"{capture}, capture", [tables["capture"][0].get(name) for name in ("frames", "records", "missing")],
+            [int(totals[k]) for k in (1, 3, 7)], fail)
+    compare(f"{capture}, records", [row["place"] for row in tables["record"]],
+            [int(line.split()[0]) for line in answer(LISTING, capture)[1]], fail)
+    heads = {line.split()[0]: line.split() for line in report if not line.startswith(" ")}
+    calls = Counter((row["served"], row["verdict"]) for row in tables["call"])
+    compare(f"{capture}, calls", [calls[0, 1], calls[0, 3], calls[0, 0] + calls[0, 4]],
+            [int(heads["calls"][k]) for k in (3, 5, 7)], fail)
+    compare(f"{capture}, served", [calls[1, 2], calls[1, 4] + calls[1, 3], calls[1, 0]],
+            [int(heads["served"][k]) for k in (3, 5, 7)], fail)
+    unfreed = [row["place"] for row in tables["delivery"] if "freed_by" not in row]
+    at = next(number for number, line in enumerate(report) if line.startswith("buffers "))
+    compare(f"{capture}, unfreed", unfreed,
+            [int(line.split()[0]) for line in report[at + 1:at + 1 + int(heads["buffers"][3])]], fail)
+    if capture == CAPTURES[-1]:
+        for name in ("call", "level"):
+            check_alone(name, capture, room, fail)
 
 
 # ---- parts, and the second version
 
 
-def check_forms(room: pathlib.Path, fail: Fail) -> None:
+def check_forms(program: pathlib.Path, room: pathlib.Path, fail: Fail) -> None:
     """A capture cut into two files, and a capture with devices."""
     first, second, third = (write(at, 1, 1, *each(BC_ACQUIRE, at), ENTER) for at in (1, 2, 3))
     for name, data in (("whole", HEADER + first + second + third), ("front", HEADER + first),
@@ -450,7 +458,7 @@ def check_forms(room: pathlib.Path, fail: Fail) -> None:
     compare("another version", answer(LISTING, room / "next"), (2, ["malformed HeaderMagic at 0"]), fail)
 
 
-def check_parts(room: pathlib.Path, fail: Fail) -> None:
+def check_parts(program: pathlib.Path, room: pathlib.Path, fail: Fail) -> None:
     """Each stored capture, cut into a file for each frame, in version 2: the listing is that of the whole capture, and
     so is the last record by its place."""
     runs.at_once(os.cpu_count(), lambda numbered: check_in_parts(room / f"parts-{numbered[0]}", numbered[1], fail),
@@ -540,7 +548,7 @@ def check_cut(program: pathlib.Path, room: pathlib.Path, at: int, parts: list[by
 # ---- words, and files that can't be read
 
 
-def check_words(fail: Fail) -> None:
+def check_words(program: pathlib.Path, room: pathlib.Path, fail: Fail) -> None:
     capture = "samples/reply.cap"
     _, (usage,) = answer(LISTING)
     compare("usage", usage.split()[:3], ["usage:", "listing", "FILE..."], fail)
@@ -565,18 +573,23 @@ def check_words(fail: Fail) -> None:
     compare("a full device", ended, (4, None, b"fault Write\n"), fail)
 
 
+PARTS = [
+    *(Part(f"stored/{stored.name}", check_stored, (stored,)) for stored in STORED),
+    *(Part(f"tables/{capture.parent.name}", check_tables, (capture,)) for capture in CAPTURES),
+    *(Part(f"side/{capture.parent.name}", check_side, (capture,)) for capture in CAPTURES),
+    *parts_of(check_captures, check_narrowed, check_freezes, check_forms, check_parts, check_interfaces, check_services,
+              check_side_begins, check_before_fault, check_columns, check_places, check_words)]
+
+
 def judge(given: argparse.Namespace, room: pathlib.Path, fail: Fail) -> None:
-    check_stored(fail)
-    check_captures(given.programs[0], fail)
-    for part in (check_narrowed, check_freezes, check_forms, check_parts, check_tables, check_interfaces,
-                 check_services, check_side_begins):
-        part(room, fail)
-    check_before_fault(given.programs[0], room / "malformed", fail)
-    check_columns(fail)
-    check_places(fail)
-    check_side(fail)
-    check_words(fail)
+    named = [part for part in PARTS if part.name in given.cases]
+    if given.print:
+        for part in named:
+            if part.play == check_stored:
+                renew_stored(*part.given)
+    else:
+        play(named, given.programs[0], room, fail)
 
 
 if __name__ == "__main__":
-    check(judge)
+    check(judge, lambda: [part.name for part in PARTS], print=FLAG)

@@ -4,7 +4,8 @@ frames make of a rule."""
 import re
 from typing import Iterable, Iterator
 
-from checks.kit.programs import CHECKS, DRIVER, ROOT
+from checks.kit.programs import DRIVER, ROOT
+from checks.viewer.page.common import VERDICTS, verdicts
 from checks.viewer.sessions.cases import Case
 from viewer.rules.thresholds import THRESHOLDS
 
@@ -12,7 +13,6 @@ PAGE = ROOT / "docs/RULES.md"
 RULES = ROOT / "viewer/rules/rule.sql"
 # Real whatever is missing: one record shows it.
 SHOWN_BY_ONE = {"O1"}
-VERDICTS = CHECKS / "recorder/driver/verdicts.txt"
 NAMED = re.compile(r"`([^`]+)`")
 # Thresholds in seconds.
 TIMES = ("LONG", "VERY_LONG")
@@ -58,8 +58,7 @@ def wrong_missing(text: str) -> Iterator[str]:
 
 def stored_rules() -> set[tuple[str, str]]:
     """The scenarios of samples/driver, each with its rules of verdict real or maybe."""
-    lines = [line.split("\t") for line in VERDICTS.read_text("utf-8").splitlines() if not line.startswith("#")]
-    return {(fields[0], rule) for fields in lines for rule in fields[-1].split(",")}
+    return {(fields[0], rule) for fields in verdicts() for rule in fields[-1].split(",")}
 
 
 def wrong_sessions(text: str, cases: Iterable[Case]) -> Iterator[str]:
@@ -75,7 +74,10 @@ def wrong_sessions(text: str, cases: Iterable[Case]) -> Iterator[str]:
 
 
 def faults_of_page(cases: Iterable[Case]) -> Iterator[str]:
-    """What is wrong with the page."""
+    """What is wrong with the page, and with the stored groups that it names."""
     text = PAGE.read_text("utf-8")
     for what in (*wrong_thresholds(text), *wrong_missing(text), *wrong_sessions(text, cases)):
         yield f"docs/RULES.md: {what}"
+    for scenario, why, *group in verdicts():
+        if why not in ("fault", "more"):
+            yield f"{VERDICTS.name}: {scenario}: {' '.join(group)}: it is neither a fault nor more, but {why}"

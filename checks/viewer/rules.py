@@ -4,11 +4,13 @@ docs/RULES.md has the thresholds and, for each rule, a session that gets it; and
 counted, on made-up waits.
 
     checks/run rules                    plays the sessions of sessions/*cases.py, and compares the rules that they get
+    checks/run rules -- CASE..          plays these alone: `heads`, `page`, `waits`, or sessions, as `never_answered` in
+                                        all its forms, or "never_answered wait=200"
+    checks/run rules -- --show CASE..   also prints the findings of these sessions
     checks/run rules -- --edits [EDIT]  also tries wrong rules: each edit of sessions/edits.txt must change what a
                                         session or a scenario of samples/driver gets, or say why it changes nothing; a
                                         line says what tells it. EDIT is a part of the names of some, or several with
                                         commas
-    checks/run rules -- --show CASE     prints the findings of the sessions whose name has this text
 """
 
 import argparse
@@ -19,9 +21,9 @@ import subprocess
 from collections import Counter
 from concurrent.futures import ProcessPoolExecutor, ThreadPoolExecutor
 from itertools import repeat
-from typing import Iterator
+from typing import Callable, Iterable, Iterator
 
-from checks.kit.checking import Fail, check
+from checks.kit.checking import FLAG, Fail, check
 from checks.kit.programs import CHECKS, DRIVER, LISTING, ROOT
 from checks.viewer.edits import Edit, edited, edits_of
 from checks.viewer.heads import faults_of_heads
@@ -154,26 +156,34 @@ def try_edits(room: pathlib.Path, bases: list[bytes], names: str) -> Iterator[st
                 yield f"edit {edit.name}: {told or 'nothing tells it from the right rules'}"
 
 
-def show(bases: list[bytes], text: str) -> None:
-    for one, base in zip(CASES, bases):
-        if text in one.name:
-            print(f"== {one.name}: {one.due}")
-            for row in judged(base).execute("SELECT section, what, place, rule, path, note, n_all, n_good, age, later,"
-                                            " waiting FROM finding ORDER BY id"):
-                print("  ", *row)
+def show(one: Case, database: sqlite3.Connection) -> None:
+    """Prints the findings of a judged case."""
+    print(f"== {one.name}: {one.due}")
+    for row in database.execute("SELECT section, what, place, rule, path, note, n_all, n_good, age, later, waiting"
+                                " FROM finding ORDER BY id"):
+        print("  ", *row)
+
+
+# What is checked beside the sessions, by name.
+BESIDE: dict[str, Callable[[], Iterable[str]]] = {
+    "heads": faults_of_heads, "page": lambda: faults_of_page(CASES), "waits": faults_of_waits}
 
 
 def judge(given: argparse.Namespace, room: pathlib.Path, fail: Fail) -> None:
     build_programs(ROOT)
     raw_tables.loader()
-    for fault in (*faults_of_heads(), *faults_of_page(CASES), *faults_of_waits()):
-        fail(fault)
+    for name, faults in BESIDE.items():
+        if name in given.cases:
+            for fault in faults():
+                fail(fault)
+    sessions = [one for one in CASES if one.name in given.cases]
     with ThreadPoolExecutor(os.cpu_count()) as pool:
-        bases = list(pool.map(made, repeat(room), CASES))
-    if given.show is not None:
-        show(bases, given.show)
-    for one, base in zip(CASES, bases):
-        for fault in faults_of(one, judged(base)):
+        bases = list(pool.map(made, repeat(room), sessions))
+    for one, base in zip(sessions, bases):
+        database = judged(base)
+        if given.show:
+            show(one, database)
+        for fault in faults_of(one, database):
             fail(f"{one.name}: {fault}")
     if given.edits is not None:
         for what in try_edits(room, bases, given.edits):
@@ -181,4 +191,4 @@ def judge(given: argparse.Namespace, room: pathlib.Path, fail: Fail) -> None:
 
 
 if __name__ == "__main__":
-    check(judge, edits={"nargs": "?", "const": ""}, show={})
+    check(judge, lambda: [*BESIDE, *(one.name for one in CASES)], edits={"nargs": "?", "const": ""}, show=FLAG)

@@ -1,6 +1,6 @@
 """Checks the timeline of `./view --trace`.
 
-    checks/run trace [-- PROGRAM]
+    checks/run trace [-- CASE..]   plays these cases alone, as `clock`, `sample/leaks`, or `sample`: all samples
     checks/run trace -- --viewer TRACE_VIEWER FILE..
                                    reads timelines by the importer of chrome://tracing, in Debian's chromium, and prints
                                    what that finds, and what each timeline says of itself; by hand
@@ -60,7 +60,8 @@ from unittest import mock
 from checks.kit.captures import (BC_ACQUIRE, BC_FREE_BUFFER, BC_RELEASE, BC_TRANSACTION, BR_NOOP, BR_REPLY,
                                  BR_TRANSACTION, BR_TRANSACTION_COMPLETE, HEADER, each, each_long, frame, record,
                                  transaction)
-from checks.kit.checking import Fail, check, compare, run_parts
+from checks.kit.cases import Part, parts_of, play
+from checks.kit.checking import Fail, check, compare
 from checks.kit.programs import AUDITOR, DRIVER, ROOT, built_programs
 from checks.viewer.page.common import loaded, on_one_clock, stored, texts_stored, timeline_of, view
 from checks.viewer.timeline.browser import Pictured, make_picture, read_in_chromium
@@ -559,10 +560,15 @@ def check_remembered(folder: pathlib.Path, room: pathlib.Path, fail: Fail) -> No
 # ---- all of it
 
 
-def samples() -> Iterator[tuple[list[pathlib.Path], pathlib.Path | None]]:
-    yield from WITH_FILES.values()
-    yield from (([ROOT / "samples" / name for name in names], None) for names in WITHOUT_SIDE)
-    yield [DRIVER / "ends/capture-1.cap"], None
+def parts() -> Iterator[Part]:
+    for name, files in WITH_FILES.items():
+        yield Part(f"sample/{name}", check_sample, files)
+    for names in WITHOUT_SIDE:
+        yield Part(f"sample/{names[0]}", check_sample, ([ROOT / "samples" / name for name in names], None))
+    yield Part("sample/ends", check_sample, ([DRIVER / "ends/capture-1.cap"], None))
+    yield from parts_of(check_small, check_words, check_malformed, check_hostile, check_clock, check_early,
+                        check_instants_last, check_reused, check_order, check_stopped, check_reader, check_killed,
+                        check_remembered)
 
 
 def picture_of_sample(room: pathlib.Path, viewer: str, picture: pathlib.Path) -> None:
@@ -581,14 +587,11 @@ def judge(given: argparse.Namespace, room: pathlib.Path, fail: Fail) -> None:
     elif given.perfetto:
         ask_perfetto(built_programs(room, given.programs[0]), room, given.perfetto, fail)
     else:
-        folder = built_programs(room, given.programs[0])
-        for files, side in samples():
-            check_sample(folder, room, files, side, fail)
-        run_parts((check_small, check_words, check_malformed, check_hostile, check_clock, check_early,
-                   check_instants_last, check_reused, check_order, check_stopped, check_reader, check_killed,
-                   check_remembered), folder, room, fail)
+        play((part for part in parts() if part.name in given.cases), built_programs(room, given.programs[0]), room,
+             fail)
 
 
 if __name__ == "__main__":
-    check(judge, viewer={"nargs": "+"}, picture={"nargs": 2}, cost={"nargs": "+", "type": int},
+    check(judge, lambda: [part.name for part in parts()], viewer={"nargs": "+"}, picture={"nargs": 2},
+          cost={"nargs": "+", "type": int},
           perfetto={"type": pathlib.Path})

@@ -1,6 +1,8 @@
 """Checks `view`, the page of a capture and its database.
 
-    checks/run view [-- PROGRAM]
+    checks/run view [-- CASE..]      plays these cases alone, as `side`, `sample/leaks`, or `sample`: all samples
+    checks/run view -- --print ..    writes the groups of these samples anew, into checks/recorder/driver/verdicts.txt,
+                                     and prints what changed
     checks/run view -- --browser     checks the page in Debian's chromium, without a window; by hand
     checks/run view -- --edits [EDIT]
                                      tries wrong templates of the page: each edit of page/edits.txt must be refused, and
@@ -61,18 +63,21 @@ It calls the programs of the repository, and takes some 40 seconds on four cores
 """
 
 import argparse
+import contextlib
 import itertools
 import os
 import pathlib
 import tempfile
 from concurrent.futures import ProcessPoolExecutor
 
-from checks.kit.checking import FLAG, Fail, check, failures_of, run_parts
+from checks.kit.cases import Part, parts_of, play, played
+from checks.kit.checking import FLAG, Fail, check
 from checks.kit.programs import DRIVER, ROOT, built_programs, programs
 from checks.viewer.page.against import check_against
 from checks.viewer.page.books import (check_agreement, check_bad_books, check_commands, check_copies,
                                       check_long_books)
 from checks.viewer.page.browser import check_browser
+from checks.viewer.page.common import groups_of, loaded, renew_groups
 from checks.viewer.page.files import (check_again, check_changing, check_malformed, check_names, check_pipes,
                                       check_terminal, check_whole)
 from checks.viewer.page.growth import check_growth
@@ -89,32 +94,58 @@ from checks.viewer.page.wrong import check_edits
 from viewer.database import raw_tables
 
 
-def check_all(folder: pathlib.Path, room: pathlib.Path, fail: Fail) -> None:
+SAMPLES = {path.name: ([path / "capture-1.cap"], path / "capture.side")
+           for path in sorted(DRIVER.iterdir()) if path.is_dir()}
+SAMPLES |= {path.name: ([path], None) for path in sorted(ROOT.glob("samples/*.cap"))}
+SAMPLES |= {"rotated": ([ROOT / "samples/rotated-1.cap", ROOT / "samples/rotated-2.cap"], None)}
+
+# Parts that are played side by side, each in a process of its own; then those that are played one after another, of
+# which the first ones take the scripts that look whether a program must be built.
+SIDE_BY_SIDE = [
+    *(Part(f"sample/{name}", check_sample, of) for name, of in SAMPLES.items()),
+    *(Part(f"cut/{name}/{cut}", check_cuts, (name, cut)) for name in FAULTLESS for cut in range(CUTS)),
+    *(Part(f"libgbinder/{name}", check_libgbinder, (name,)) for name in CAPTURES),
+    *(Part(f"lost/{name}", check_gaps, (name,)) for name, (_, side) in SAMPLES.items() if side),
+    *parts_of(check_malformed, check_pipes, check_names, check_changing, check_again, check_whole, check_terminal)]
+BY_SCRIPTS = parts_of(check_templates, check_words, check_stopped, check_no_engine, check_python, check_version)
+IN_TURN = parts_of(
+    check_side, check_forms, check_no_lists, check_list_of_loader, check_renames, check_last_names, check_files,
+    check_secrets, check_told, check_untimed, check_late, check_hostile, check_methods, check_unnamed, check_services,
+    check_times, check_loader, check_agreement, check_copies, check_bad_books, check_long_books, check_commands,
+    check_stacks, check_growth, check_against)
+
+
+def names() -> list[str]:
+    return [part.name for part in (*SIDE_BY_SIDE, *BY_SCRIPTS, *IN_TURN)]
+
+
+def check_parts(named: list[str], folder: pathlib.Path, room: pathlib.Path, fail: Fail) -> None:
+    """Plays the parts of these names."""
+    def of(parts: list[Part]) -> list[Part]:
+        return [part for part in parts if part.name in named]
     raw_tables.loader()
     built = built_programs(room, (folder / "audit").resolve())
-    samples = [([path / "capture-1.cap"], path / "capture.side") for path in sorted(DRIVER.iterdir()) if path.is_dir()]
-    samples += [([path], None) for path in sorted(ROOT.glob("samples/*.cap"))]
-    samples += [([ROOT / "samples/rotated-1.cap", ROOT / "samples/rotated-2.cap"], None)]
     with ProcessPoolExecutor(os.cpu_count()) as pool:
-        jobs = [pool.submit(failures_of, check_sample, built, room / f"sample-{number}", files, side)
-                for number, (files, side) in enumerate(samples)]
-        jobs += [pool.submit(failures_of, check_cuts, built, room, *which)
-                 for which in itertools.product(FAULTLESS, range(CUTS))]
-        jobs += [pool.submit(failures_of, check_libgbinder, built, room, name) for name in CAPTURES]
-        jobs += [pool.submit(failures_of, check_gaps, built, room, path.parent.name)
-                 for path in DRIVER.glob("*/capture.side")]
-        jobs += [pool.submit(failures_of, run_parts, (part,), built, room) for part in (
-            check_malformed, check_pipes, check_names, check_changing, check_again, check_whole, check_terminal)]
-        check_templates(fail)
-        run_parts((check_words, check_stopped, check_no_engine, check_python, check_version), folder, room, fail)
-        run_parts((check_side, check_forms, check_no_lists, check_list_of_loader, check_renames, check_last_names,
-                   check_files, check_secrets, check_told, check_untimed, check_late, check_hostile, check_methods,
-                   check_unnamed, check_services, check_times, check_loader, check_agreement, check_copies,
-                   check_bad_books, check_long_books, check_commands, check_stacks, check_growth, check_against),
-                  built, room, fail)
+        jobs = [pool.submit(played, part, built, room) for part in of(SIDE_BY_SIDE)]
+        play(of(BY_SCRIPTS), folder, room, fail)
+        play(of(IN_TURN), built, room, fail)
         for job in jobs:
             for what in job.result():
                 fail(what)
+
+
+def groups_of_sample(folder: pathlib.Path, room: pathlib.Path, name: str) -> list[tuple[str, ...]]:
+    with contextlib.closing(loaded(folder, room / f"{name}.db", *SAMPLES[name])) as database:
+        return groups_of(database)
+
+
+def renew_verdicts(named: list[str], folder: pathlib.Path, room: pathlib.Path) -> None:
+    """Writes the stored groups of these samples anew, and prints what changed."""
+    scenarios = [name for name, (_, side) in SAMPLES.items() if side and f"sample/{name}" in named]
+    raw_tables.loader()
+    with ProcessPoolExecutor(os.cpu_count()) as pool:
+        groups = pool.map(groups_of_sample, itertools.repeat(folder), itertools.repeat(room), scenarios)
+        renew_groups(dict(zip(scenarios, groups)))
 
 
 def judge(given: argparse.Namespace, room: pathlib.Path, fail: Fail) -> None:
@@ -123,9 +154,11 @@ def judge(given: argparse.Namespace, room: pathlib.Path, fail: Fail) -> None:
         check_browser(programs(room, given.programs[0]), room, fail)
     elif given.edits is not None:
         check_edits(built_programs(room, given.programs[0]), room, given.edits, fail)
+    elif given.print:
+        renew_verdicts(given.cases, built_programs(room, given.programs[0]), room)
     else:
-        check_all(programs(room, given.programs[0]), room, fail)
+        check_parts(given.cases, programs(room, given.programs[0]), room, fail)
 
 
 if __name__ == "__main__":
-    check(judge, browser=FLAG, edits={"nargs": "?", "const": ""})
+    check(judge, names, browser=FLAG, edits={"nargs": "?", "const": ""}, print=FLAG)

@@ -1,6 +1,7 @@
 """Checks the stored captures of the real driver.
 
-    checks/run stored [-- PROGRAM]      PROGRAM is the auditor; without it, it takes the built one
+    checks/run stored [-- CASE..]       plays these captures alone, as `leaks`
+    checks/run stored -- --print ..     writes the stored reports of these anew, and prints what changed
 
 Each folder in samples/driver has a capture, its side list, the driver's books and the report. The auditor and the
 second reading must both write this report, and the listing must have as many records. The report and the books are
@@ -9,9 +10,10 @@ compared as for a guest. If all is well it prints nothing. Otherwise each differ
 
 import subprocess
 
-from checks.kit.checking import check
+from checks.kit.checking import FLAG, check
 from checks.kit.programs import DRIVER, LISTING
 from checks.kit.second_reading import reading_of_parts
+from checks.kit.stored import renew
 from checks.recorder.driver.compare import Scenario, explained, row_of, unfound
 
 
@@ -31,18 +33,24 @@ def faults_of(scenario, reasons):
             yield "not explained: " + " ".join(row)
 
 
+def names():
+    return [path.name for path in sorted(DRIVER.iterdir()) if path.is_dir()]
+
+
 def judge(given, _, fail):
-    scenarios = [Scenario(given.programs[0], path) for path in sorted(DRIVER.iterdir()) if path.is_dir()]
+    scenarios = [Scenario(given.programs[0], DRIVER / name) for name in given.cases]
     if not scenarios:
         fail(f"{DRIVER} has no captures")
     reasons = explained()
     for scenario in scenarios:
+        if given.print:
+            renew(scenario.folder / "report.txt", scenario.text)
         for fault in faults_of(scenario, reasons):
             fail(f"{scenario.folder.name}: {fault}")
-    for driver, section, tried, found in unfound(scenarios):
+    for driver, section, tried, found in () if given.named else unfound(scenarios):
         if not tried or tried != found:
             fail(f"wrong books of the driver in {driver}, {section}: tried {tried}, found {found}")
 
 
 if __name__ == "__main__":
-    check(judge)
+    check(judge, names, print=FLAG)

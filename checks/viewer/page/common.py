@@ -8,6 +8,7 @@ import sqlite3
 
 from checks.kit.programs import CHECKS, DRIVER
 from checks.kit.runs import answer
+from checks.kit.stored import renew
 from checks.viewer.sessions.session import Session
 from viewer.database import loading
 from viewer.database.sqlite import open_database
@@ -78,9 +79,35 @@ def groups_of(database: sqlite3.Connection) -> list[tuple[str, ...]]:
     return sorted(found)
 
 
+# The groups of the stored captures: scenario, why, and what `groups_of` has of a group.
+VERDICTS = CHECKS / "recorder/driver/verdicts.txt"
+
+
+def verdicts() -> list[list[str]]:
+    return [line.split("\t") for line in VERDICTS.read_text("utf-8").splitlines() if not line.startswith("#")]
+
+
 def groups_due(scenario: str) -> list[tuple[str, ...]]:
     """The groups of a stored capture. One of the driver in Rust, NAME-rust, has those of NAME, or lines of its own."""
-    lines = (CHECKS / "recorder/driver/verdicts.txt").read_text("utf-8").splitlines()
-    rows = [line.split("\t") for line in lines if not line.startswith("#")]
+    rows = verdicts()
     name = scenario if any(row[0] == scenario for row in rows) else scenario.removesuffix("-rust")
     return sorted(tuple(row[2:]) for row in rows if row[0] == name)
+
+
+def renew_groups(came: dict[str, list[tuple[str, ...]]]) -> None:
+    """Writes the groups of these scenarios anew, where they differ. A group of a verdict, kind and path that was there
+    keeps its reason; a new one has `?`, in place of which somebody must say `fault` or `more`."""
+    rows = verdicts()
+    why = {(row[0], row[2], row[3], row[6]): row[1] for row in rows}
+    new = {name: [[name, why.get((name, group[0], group[1], group[4]), "?"), *group] for group in groups]
+           for name, groups in came.items() if groups != groups_due(name)}
+    # The lines of a scenario stay where its first one was.
+    lines = [line for line in VERDICTS.read_text("utf-8").splitlines() if line.startswith("#")]
+    told: set[str] = set()
+    for name, *rest in [*rows, *([name] for name in new)]:
+        if name not in new:
+            lines.append("\t".join([name, *rest]))
+        elif name not in told:
+            lines += map("\t".join, new[name])
+            told.add(name)
+    renew(VERDICTS, "".join(f"{line}\n" for line in lines))

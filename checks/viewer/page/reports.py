@@ -237,7 +237,6 @@ def proved_due(report: str) -> set[str]:
 def check_sample(folder: pathlib.Path, room: pathlib.Path, files: list[pathlib.Path], side: pathlib.Path | None,
                  fail: Fail) -> None:
     """Checks the database and the page of a good capture."""
-    room.mkdir()
     name = " ".join(str(path.relative_to(ROOT)) for path in files)
     made, shown = room / "made.db", room / "made.html"
     report = subprocess.run([folder / "audit", "report", *files], capture_output=True, encoding="utf-8").stdout

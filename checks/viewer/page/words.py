@@ -56,7 +56,7 @@ def check_words(folder: pathlib.Path, room: pathlib.Path, fail: Fail) -> None:
     check_columns(room / "d.db", fail)
 
 
-def check_templates(fail: Fail) -> None:
+def check_templates(_: pathlib.Path, __: pathlib.Path, fail: Fail) -> None:
     """All markup of the page is in its templates, and what they show is escaped but for its style and script."""
     page = ROOT / "viewer/page"
     made = [f"{path.name}: {line.strip()}" for path in page.glob("*.py")
