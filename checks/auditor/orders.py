@@ -8,6 +8,7 @@ What must hold in a folder with a library and a program:
 - After crates/build has built the program, `rt ci` finds no source that no check reads: it stops at a source whose
   layout is not that of `rt fmt`, and with --whole it passes.
 - With --whole: after `rt ci` has passed and was noted, crates/build proves nothing, whether it has built before or not.
+  If the program is changed then, crates/build proves the program alone, over the library of `rt ci`.
 - What was kept for a repository that is gone is removed by the next build, wherever that is.
 """
 
@@ -43,6 +44,10 @@ build: low is proved, crate 1 of 2
 build: little is proved, crate 2 of 2
 build: built crates/little/out/little
 """
+BUILT_AGAIN = """\
+build: little is proved, crate 2 of 2
+build: built crates/little/out/little
+"""
 
 
 class Repository:
@@ -50,8 +55,8 @@ class Repository:
 
     def __init__(self, room: pathlib.Path) -> None:
         self.folder, self.cache = room / "repository", room / "cache"
-        self.library = self.folder / "crates/low/src/lib.rt"
-        for path, text in (self.library, LIBRARY), (self.folder / "crates/little/src/main.rt", PROGRAM):
+        self.library, self.program = self.folder / "crates/low/src/lib.rt", self.folder / "crates/little/src/main.rt"
+        for path, text in (self.library, LIBRARY), (self.program, PROGRAM):
             path.parent.mkdir(parents=True)
             path.write_text(text, "utf-8")
         (self.folder / "crates.txt").write_text("low:\nlittle: low\n", "utf-8")
@@ -103,6 +108,8 @@ def judge(given: argparse.Namespace, room: pathlib.Path, fail: Fail) -> None:
         second = Repository(room / "second")
         second.check(fail)
         second.build("", "a build after rt ci", fail)
+        second.program.write_text(PROGRAM.replace("_number", "_seven"), "utf-8")
+        second.build(BUILT_AGAIN, "a build after rt ci and a change of the program", fail)
     first.refuse_layout(fail)
 
 
