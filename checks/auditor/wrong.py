@@ -1,45 +1,54 @@
-"""Tries wrong bodies, many in one check, on a copy of the tree, and says at which goals they are refused.
+"""Tries wrong bodies, many in one check, and says at which goals they are refused.
 
     checks/run wrong -- CRATE EDIT..       tries these edits of a crate
-    checks/run wrong -- --all [CRATE..]    tries those in `must-fail/` of these crates, or of all: each must be refused
-                                           at the goal that it names
+    checks/run wrong -- --all [CRATE..]    tries those stored for these crates, or for all, as `.ci/run` does: each must
+                                           be refused at the goal that it names
     checks/run wrong -- --fill [CRATE..]   the same, and writes a goal into each of these that names none
 
+The wrong bodies of a crate are stored in its folder `wrong/`. Those of four crates, whose proofs are the cheapest, are
+in `must-fail/`, where `rt ci` tries them too.
+
 EDIT is a file in the form of those in `must-fail/`, or a folder with such files, from anywhere: those of an older
-commit come from `git archive COMMIT crates/CRATE/must-fail | tar x -C FOLDER`. An edit names its goal in a line that
-`rt` does not read, with the function as `rt check` names it after the crate:
+commit come from `git archive COMMIT crates/CRATE/wrong | tar x -C FOLDER`. An edit names its goal in a line that `rt`
+does not read, with the function as `rt check` names it after the crate:
 
     # goal: returns-clause-each of answers::open_files
 
-Edits of different functions go into one check, which proves these functions alone. An edit is refused if a function
-that it changes reads `no proof` or `not proved` by itself. If that function only calls another such function, the edit
-is tried once more without the other. An edit of no function, for example of a constant, has a check of its own, of the
-whole crate.
+Edits of different functions go into one check, which proves these functions and those that they call, over the
+libraries that `rt ci` or crates/build has kept of the crates below; a library that is not kept is made first. An edit
+is refused if a function that it changes reads `no proof` or `not proved` by itself. Whatever else comes of an edit
+beside others, it is tried once more alone: the other function may be one that it calls, or keep the crate from being
+read. An edit of no function, for example of a constant or of a definition, has a check of its own, of the whole crate;
+a lemma that is not proved then is a goal too, of each function that has no proof by itself.
 
 A body that is refused only because its proof names what the function no longer has shows nothing about a clause, and
 counts as not refused: keep the names, or mend the proof in the edit.
 
 For each edit a line says what came of it, with the goals that were left. The status is 1 if an edit was not refused, or
-not at the goal that it names, or with --all names none; 64 for another command line. A crate takes as many checks as
-the function with most edits has edits, on top of what earlier checks on this machine kept: about a minute each.
-`.ci/run` only asks that each edit in `must-fail/` is refused, wherever.
+not at the goal that it names, or with --all names none; 64 for another command line. As many checks run at a time as
+there are processors and memory. A crate takes as many checks as the function with most edits has edits.
 """
 
+import contextlib
 import pathlib
 import re
 import shutil
-import subprocess
 import sys
+import tempfile
 import time
-from typing import NamedTuple
+from concurrent.futures import FIRST_COMPLETED, Future, ThreadPoolExecutor, wait
+from typing import Iterator, NamedTuple
 
 from checks.kit.checking import own_room
-from checks.kit.programs import ROOT
+from checks.kit.programs import ROOT, edits_of
+from checks.kit.proving import Libraries
 
 ITEM = re.compile(r"^( {0,4})(?:pub(?:\([a-z]+\))? )?(?:(?:const|final|ghost|unsafe) )*"
                   r"(fn|struct|enum|impl|trait|const|static|use|type|mod)\b ?(\w*)", re.MULTILINE)
 FN = re.compile(r"^fn (\S+): (.*)$", re.MULTILINE)
 CALLS = re.compile(r"it calls|it passes|a call of")
+# A declaration that is refused in a file of lemmas, which belongs to no function.
+LEMMA = re.compile(r"^(?:\./)?proofs/[^/\s]+\.antt:\S+ error: `([^`]*)`(.*)", re.MULTILINE)
 LOST = re.compile(r"has no field|is not in scope")
 # How the line of a function with no proof file names the goals that were left.
 OPEN = re.compile(r"did not prove ((?:`[^`]+`(?:, | and )?)+)")
@@ -59,6 +68,17 @@ class Edit(NamedTuple):
     path: pathlib.Path
     pairs: list[tuple[str, str, str]]
     goal: Goal | None
+
+
+class Stack(NamedTuple):
+    """Edits of a crate that go into one check, each with the functions that it changes, and the files with them."""
+    crate: str
+    edits: list[tuple[Edit, set[str]]]
+    texts: dict[str, str]
+
+    @property
+    def functions(self) -> list[str]:
+        return sorted(set().union(*(changed for _, changed in self.edits)))
 
 
 class Verdict(NamedTuple):
@@ -112,7 +132,7 @@ def modules_of(file: str) -> list[str]:
 
 def homes_of(folder: pathlib.Path) -> dict[str, list[str]]:
     """For each type of a crate the modules that it is in."""
-    homes = {}
+    homes: dict[str, list[str]] = {}
     for path in sorted((folder / "src").rglob("*.rt")):
         for it in ITEM.finditer(path.read_text("utf-8")):
             if it[2] in ("struct", "enum") and not it[1]:
@@ -137,9 +157,9 @@ def words_of(text: str) -> list[str]:
 
 def owner_of(head: str) -> tuple[str, str]:
     """From the head of an impl or a trait: the name that `rt` gives it; and for an impl without a trait the type."""
-    word, rest = re.match(r"(?:pub(?:\([a-z]+\))? )?(impl|trait)\b *(.*)", head, re.DOTALL).groups()
+    _, word, rest = re.split(r"^(?:pub(?:\([a-z]+\))? )?(impl|trait)\b *", head, maxsplit=1)
     if word == "trait":
-        return re.match(r"\w+", rest)[0], ""
+        return re.split(r"\W", rest)[0], ""
     end = closed_at(rest, 0)
     parameters = set(re.findall(r"(?:^<|, *)(?:const )?(\w+)", rest[:end]))
     of, _, type_name = re.split(r"\bwhere\b", rest[end:])[0].strip().rpartition(" for ")
@@ -173,7 +193,7 @@ def goals_of(function: str, said: str, lines: tuple[str, int, int]) -> tuple[dic
     """The goals of a function that were left, each with what a note on its line says: those of its proof files, and
     those that notes on its lines name. And those of its proof files that were left because of a name that the function
     no longer has."""
-    *folders, name = map(re.escape, function.split("::"))
+    *folders, name = (re.escape(it) for it in function.split("::"))
     # Functions that call one another have one folder.
     folder = "/".join([*folders, rf"(?:{name}|(?:\S*\+)?\+{name}(?:\+\S*)?)"])
     found, lost = {}, []
@@ -210,40 +230,59 @@ def sources_of(folder: pathlib.Path, texts: dict[str, str]) -> dict[str, str]:
     return texts | {it: (folder / it).read_text("utf-8") for it in paths if it not in texts}
 
 
-def stacked(edits: list[Edit], folder: pathlib.Path) -> tuple[list[tuple[Edit, set[str]]], list[Edit], dict[str, str]]:
-    """As many edits as fit into one check, with their functions; the edits that are left; the files with these
-    edits."""
-    taken, left, texts, names = [], [], {}, set()
+def stacked(crate: str, edits: list[Edit]) -> tuple[Stack, list[Edit]]:
+    """As many edits of a crate as fit into one check, and those that are left."""
+    taken: list[tuple[Edit, set[str]]] = []
+    left: list[Edit] = []
+    texts: dict[str, str] = {}
+    names: set[str] = set()
     for edit in edits:
-        found = applied(edit, texts, folder)
+        found = applied(edit, texts, folder_of(crate))
         if found and not (found[1] & names) and (not taken or found[1] and taken[0][1]):
             texts, changed = found
             names |= changed
             taken.append((edit, changed))
         else:
             left.append(edit)
-    return taken, left, texts
+    return Stack(crate, taken, texts), left
 
 
-def check(crate: str, copy: pathlib.Path, texts: dict[str, str], names: set[str]) -> str:
-    """What `rt check` says of the copied crate with these files: of these functions, or of all if there are none, or if
-    it has another name for one of them."""
-    folder = copy / "crates" / crate
-    were = {file: (folder / file).read_text("utf-8") for file in texts}
-    for file, text in texts.items():
-        (folder / file).write_text(text, "utf-8")
-    said = checked(folder, [word for name in sorted(names) for word in ("--only", name)])
-    if names and not FN.search(said):
-        said = checked(folder, [])
-    for file, text in were.items():
-        (folder / file).write_text(text, "utf-8")
+def stacks_of(crate: str, edits: list[Edit]) -> tuple[list[Stack], list[Edit]]:
+    """Edits of a crate as stacks, and those that can't be applied."""
+    stacks = []
+    while edits:
+        stack, edits = stacked(crate, edits)
+        if not stack.edits:
+            break
+        stacks.append(stack)
+    return stacks, edits
+
+
+def folder_of(crate: str) -> pathlib.Path:
+    return ROOT / "crates" / crate
+
+
+def checked(stack: Stack, libraries: Libraries, room: pathlib.Path) -> str:
+    """What the prover says of a copy of the crate with these edits: of the functions that they change, or of all
+    functions if they change none, or if it has another name for one that is alone."""
+    with own_copy(stack, room) as copy:
+        said = libraries.check(stack.crate, copy, stack.functions)
+        if len(stack.edits) == 1 and stack.functions and not FN.search(said):
+            said = libraries.check(stack.crate, copy, [])
     return said
 
 
-def checked(folder: pathlib.Path, words: list[str]) -> str:
-    ended = subprocess.run(["rt", "check", *words], cwd=folder, stdin=subprocess.DEVNULL, stdout=subprocess.PIPE,
-                           stderr=subprocess.STDOUT, encoding="utf-8", errors="replace")
-    return ended.stdout
+@contextlib.contextmanager
+def own_copy(stack: Stack, room: pathlib.Path) -> Iterator[pathlib.Path]:
+    """A folder with the sources of a crate, with these edits."""
+    with tempfile.TemporaryDirectory(dir=room) as made:
+        copy = pathlib.Path(made)
+        for part in ("src", "specs", "proofs"):
+            if (folder_of(stack.crate) / part).is_dir():
+                shutil.copytree(folder_of(stack.crate) / part, copy / part)
+        for file, text in stack.texts.items():
+            (copy / file).write_text(text, "utf-8")
+        yield copy
 
 
 def judged(crate: str, changed: set[str], said: str, sources: dict[str, str], homes: dict[str, list[str]]) -> Verdict:
@@ -255,12 +294,22 @@ def judged(crate: str, changed: set[str], said: str, sources: dict[str, str], ho
     lacking = {it: what for it, what in told.items() if re.match(r"no proof|not proved", what)}
     by_itself = {it: what for it, what in lacking.items() if not CALLS.search(what)}
     if not changed:
-        each = {it: it for it in by_itself}
-        return refused_at(each, by_itself, said, sources, homes) if each else Verdict("proved", "")
+        return refused_anywhere(by_itself, said, sources, homes) if by_itself else Verdict("proved", "")
     ours = {it: edited_of(it, changed) for it in lacking if edited_of(it, changed)}
     if ours:
         return refused_at(ours, by_itself, said, sources, homes)
     return Verdict("proved", "" if changed & told.keys() else f"no line of {', '.join(changed)}")
+
+
+def refused_anywhere(by_itself: dict[str, str], said: str, sources: dict[str, str],
+                     homes: dict[str, list[str]]) -> Verdict:
+    """What is said of an edit of no function: a lemma that is not proved any more is a goal of each function that has
+    no proof by itself."""
+    lemmas = [(name, why) for name, why in LEMMA.findall(said) if not LOST.search(why)]
+    verdict = refused_at({it: it for it in by_itself}, by_itself, said, sources, homes)
+    goals = [Goal(name, function) for function in by_itself for name, _ in lemmas]
+    shown = f"; lemmas: {', '.join(name for name, _ in lemmas)}" if lemmas else ""
+    return verdict._replace(why=verdict.why + shown, goals=verdict.goals + goals)
 
 
 def refused_at(ours: dict[str, str], by_itself: dict[str, str], said: str, sources: dict[str, str],
@@ -318,45 +367,48 @@ def tell(crate: str, edit: Edit, verdict: Verdict, how: str) -> bool:
     return well
 
 
-def tried(crate: str, copy: pathlib.Path, edits: list[Edit], how: str) -> int:
-    """Tries the edits of a crate, and returns how many are not as they must be."""
-    folder, missed, left, again = copy / "crates" / crate, 0, edits, []
-    homes = homes_of(folder)
-    while left:
-        taken, rest, texts = stacked(left, folder)
-        if not taken:
-            for edit in left:
-                print(f"{crate}/{edit.path.stem}: NOT APPLIED: an old text is not there exactly once", flush=True)
-            missed, left, again = missed + len(left), again, []
-            continue
-        began, were = time.monotonic(), len(again)
-        said = check(crate, copy, texts, set().union(*(changed for _, changed in taken)))
-        print(f"-- {crate}: {len(taken)} in one check, {time.monotonic() - began:.0f} s", flush=True)
-        for edit, changed in taken:
-            verdict = judged(crate, changed, said, sources_of(folder, texts), homes)
-            if verdict.kind in ("calls", "unread") and len(taken) > 1:
-                again.append(edit)
-            else:
-                missed += not tell(crate, edit, verdict, how)
-        # If a check said nothing of any edit, one of them is checked alone.
-        if len(again) - were == len(taken):
-            rest = [again.pop()] + rest if not rest else rest
-        left, again = (rest, again) if rest else (again, [])
-    return missed
+class Tried(NamedTuple):
+    """What came of a stack, and how many seconds its check took."""
+    stack: Stack
+    verdicts: list[Verdict]
+    seconds: float
 
 
-def copied(copy: pathlib.Path) -> None:
-    """Copies what a check reads."""
-    for name in ("crates", "crates.txt", "HANDLES"):
-        if (ROOT / name).is_dir():
-            shutil.copytree(ROOT / name, copy / name, ignore=shutil.ignore_patterns("out", "must-fail", "data"))
+def tried(stack: Stack, libraries: Libraries, room: pathlib.Path) -> Tried:
+    began, folder = time.monotonic(), folder_of(stack.crate)
+    said = checked(stack, libraries, room)
+    sources, homes = sources_of(folder, stack.texts), homes_of(folder)
+    verdicts = [judged(stack.crate, changed, said, sources, homes) for _, changed in stack.edits]
+    return Tried(stack, verdicts, time.monotonic() - began)
+
+
+def judge_stack(ended: Tried, how: str) -> tuple[int, list[Stack]]:
+    """Says what came of each edit of a stack: returns how many are not as they must be, and those to be tried alone."""
+    crate, missed, alone = ended.stack.crate, 0, []
+    print(f"-- {crate}: {len(ended.verdicts)} in one check, {ended.seconds:.0f} s", flush=True)
+    for (edit, _), verdict in zip(ended.stack.edits, ended.verdicts):
+        is_refused = verdict.kind == "refused" and edit.goal in (None, *verdict.goals)
+        if is_refused or len(ended.verdicts) == 1:
+            missed += not tell(crate, edit, verdict, how)
         else:
-            shutil.copy(ROOT / name, copy / name)
+            alone += stacks_of(crate, [edit])[0]
+    return missed, alone
 
 
-def stored(crate: str) -> list[pathlib.Path]:
-    """The edits in the crate's `must-fail/`."""
-    return sorted((ROOT / "crates" / crate / "must-fail").glob("*.edit"))
+def try_all(stacks: list[Stack], libraries: Libraries, how: str) -> int:
+    """Tries all stacks, several at a time, the largest crates first. Returns how many edits are not as they must be."""
+    missed = 0
+    with own_room() as room, ThreadPoolExecutor(libraries.checks_at_once()) as pool:
+        def start(stack: Stack) -> "Future[Tried]":
+            return pool.submit(tried, stack, libraries, room)
+        running = {start(it) for it in sorted(stacks, key=lambda it: -libraries.size(it.crate))}
+        while running:
+            ended, running = wait(running, return_when=FIRST_COMPLETED)
+            for one in ended:
+                more, alone = judge_stack(one.result(), how)
+                missed += more
+                running |= {start(it) for it in alone}
+    return missed
 
 
 def asked(words: list[str]) -> tuple[str, dict[str, list[pathlib.Path]]] | None:
@@ -365,7 +417,8 @@ def asked(words: list[str]) -> tuple[str, dict[str, list[pathlib.Path]]] | None:
     how = words[0] if words[:1] in (["--all"], ["--fill"]) else ""
     crates = sorted(it.name for it in (ROOT / "crates").iterdir())
     if how:
-        edits = {it: stored(it) for it in words[1:] or crates if words[1:] or stored(it)}
+        stored = {it: edits_of(folder_of(it)) for it in words[1:] or crates}
+        edits = {it: paths for it, paths in stored.items() if paths or words[1:]}
     else:
         paths = [it for word in words[1:] for it in (sorted(pathlib.Path(word).glob("*.edit")) or [pathlib.Path(word)])]
         edits = {it: paths for it in words[:1]}
@@ -390,10 +443,19 @@ def main() -> int:
         print(__doc__.split("\n\n")[1], file=sys.stderr)
         return 64
     how, edits = wanted
-    read = {crate: [read_edit(it) for it in paths] for crate, paths in edits.items()}
-    with own_room() as copy:
-        copied(copy)
-        missed = sum(tried(crate, copy, these, how) for crate, these in read.items())
+    stacks, missed = [], 0
+    for crate, paths in edits.items():
+        more, lost = stacks_of(crate, [read_edit(it) for it in paths])
+        stacks += more
+        missed += len(lost)
+        for edit in lost:
+            print(f"{crate}/{edit.path.stem}: NOT APPLIED: an old text is not there exactly once", flush=True)
+    try:
+        with Libraries.below(edits) as libraries:
+            missed += try_all(stacks, libraries, how)
+    except Libraries.Stopped as stopped:
+        print(f"checks/wrong: {stopped}", file=sys.stderr)
+        return 1
     return 1 if missed else 0
 
 

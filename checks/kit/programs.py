@@ -22,6 +22,11 @@ DRIVER = ROOT / "samples/driver"
 SMALL = [*sorted(CASES.glob("*.cap")), *sorted(ROOT.glob("samples/*.cap"))]
 
 
+def edits_of(crate: pathlib.Path) -> list[pathlib.Path]:
+    """The wrong bodies that are stored for a crate. `rt ci` tries those in `must-fail/` too."""
+    return sorted(it for folder in ("must-fail", "wrong") for it in (crate / folder).glob("*.edit"))
+
+
 def compiled(room: pathlib.Path, source: str, *options: str) -> pathlib.Path:
     """Compiles a C file of checks/ to a program, or to a library to preload. Returns its path."""
     made = room / pathlib.Path(source).stem

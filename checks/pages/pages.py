@@ -18,7 +18,7 @@ What must hold:
 - The options that a page names are those of `--help` of the programs, and of the checks.
 - Each crate's page begins with a caller: lines of code that stand in a file of a crate above, or in a file of the crate
   itself if no other crate uses it.
-- The wrong bodies in a crate's page are those in its must-fail/, each of which names the goal at which it is refused.
+- The wrong bodies in a crate's page are those stored for it, each of which names the goal at which it is refused.
 - docs/PROMISES.md names each wrong body of each crate and no others, in its tables only names that are in the sources,
   and the sizes of what is trusted, up to a tenth. README.md has the number of wrong bodies.
 - README.md has the figures that docs/MEASURED.md has on the blind test and on the second recorder.
@@ -31,7 +31,7 @@ import shutil
 import subprocess
 
 from checks.kit.checking import check
-from checks.kit.programs import ROOT, SMALL, folder_of, linked
+from checks.kit.programs import ROOT, SMALL, edits_of, folder_of, linked
 from checks.kit.runs import answer
 from checks.pages import callers, codes, definitions, figures, named_options, promises, sources, tables
 
@@ -184,7 +184,7 @@ def wrong_changes(page, program):
 def wrong_bodies(page):
     """The wrong bodies in a crate's page that do not exist, each with its line; those that the page leaves out; and
     those that name no goal."""
-    edits = {it.stem: it.read_text("utf-8") for it in page.parent.glob("must-fail/*.edit")}
+    edits = {it.stem: it.read_text("utf-8") for it in edits_of(page.parent)}
     there, told, section = edits.keys(), set(), ""
     for number, line in enumerate(page.read_text("utf-8").splitlines(), 1):
         section = line if line.startswith("## ") else section

@@ -7,15 +7,14 @@ import re
 import subprocess
 from typing import Callable, Iterator
 
-from checks.kit.programs import ROOT
+from checks.kit.programs import ROOT, edits_of
 
 PAGE = ROOT / "docs/PROMISES.md"
 README = ROOT / "README.md"
 CRATES = ROOT / "crates"
-EDITS = "*/must-fail/*.edit"
 NAMED = re.compile(r"`([^`]+)`")
-# What is called on this page and is no name of the sources: a column of a table, a lifetime, a file.
-OTHER = re.compile(r"'\w+|must-fail/.*")
+# What is called on this page and is no name of the sources: a lifetime.
+OTHER = re.compile(r"'\w+")
 
 
 def rows(text: str) -> Iterator[tuple[int, list[str]]]:
@@ -28,9 +27,14 @@ def rows(text: str) -> Iterator[tuple[int, list[str]]]:
 # ---- wrong bodies
 
 
+def stored() -> list[pathlib.Path]:
+    """The wrong bodies of all crates."""
+    return [it for crate in sorted(CRATES.iterdir()) for it in edits_of(crate)]
+
+
 def wrong_bodies(text: str) -> Iterator[tuple[int, str]]:
     """The wrong bodies in the last column that no crate has, and those of crates that no row names."""
-    there, told = {it.stem: it.parent.parent.name for it in CRATES.glob(EDITS)}, set()
+    there, told = {it.stem: it.parent.parent.name for it in stored()}, set()
     for number, cells in rows(text):
         for name in NAMED.findall(cells[-1]) if len(cells) == 3 else ():
             if re.fullmatch(r"[a-z0-9]+(-[a-z0-9]+)+", name):
@@ -131,14 +135,14 @@ def wrong_count(text: str, what: str, pattern: str, count: int) -> Iterator[tupl
 def wrong_counts(text: str) -> Iterator[tuple[int, str]]:
     """The numbers of crates and of wrong bodies that are not so."""
     yield from wrong_count(text, "crates of `./audit`", r"in (\d+) crates", len(below("binder_audit")))
-    yield from wrong_count(text, "wrong bodies", r"(\d+) changes of the code", len(list(CRATES.glob(EDITS))))
+    yield from wrong_count(text, "wrong bodies", r"(\d+) changes of the code", len(stored()))
 
 
 def wrong(page: pathlib.Path) -> Iterator[tuple[int, str]]:
     """What is wrong with the page, with its line."""
     text = page.read_text("utf-8")
     if page == README:
-        yield from wrong_count(text, "wrong bodies", r"(\d+) wrong changes of the code", len(list(CRATES.glob(EDITS))))
+        yield from wrong_count(text, "wrong bodies", r"(\d+) wrong changes of the code", len(stored()))
     if page == PAGE:
         checks: tuple[Callable[[str], Iterator[tuple[int, str]]], ...] = (
             wrong_bodies, wrong_names, wrong_sizes, wrong_counts)
