@@ -1,7 +1,6 @@
 """Numbers as words: for the page, and for the notes of the rules."""
 
 import errno
-import re
 # As hashlib has it, which loads OpenSSL too: that takes longer than all keys of a small capture.
 from _blake2 import blake2s
 
@@ -53,34 +52,6 @@ def code_name(code: int | None) -> str | None:
     if not all(ord("0") <= one <= ord("z") for one in letters):
         return str(code)
     return ("HIDL_" if first == HIDL else "") + bytes(letters).decode()
-
-
-# A service, and an interface in brackets, after a node or a handle.
-OBJECT = r"(?: (?!of )[\w$.:@/-]*[\w$.@/-](?: or others)?)?(?: \([\w$.:@]+(?: or others)?\))?"
-
-
-# What differs, with a text that a path has then, and what takes its place: in this order. To look for a text first
-# takes less time than an expression that does not fit.
-DIFFERS = (
-    (" node 0x", re.compile(rf"(?<!^) node 0x[0-9a-f]+{OBJECT}"), ""),
-    ("handle ", re.compile(rf"^handle (0x)?[0-9a-f]+{OBJECT}"), "handles"),
-    ("node ", re.compile(rf"^node (0x)?[0-9a-f]+{OBJECT}"), "nodes"),
-    ("cookie ", re.compile(rf"^cookie (0x)?[0-9a-f]+{OBJECT}"), "cookies"),
-    ("address 0x", re.compile(r"^address 0x[0-9a-f]+"), "addresses"),
-    ("handle ", re.compile(rf"\bhandle [0-9]+{OBJECT}"), "a handle"))
-
-
-def likeness(path: str, *processes: str | None) -> str:
-    """A path without what differs if one cause is seen in several processes: the processes' numbers, nodes with their
-    services and interfaces, handles, cookies and addresses. `processes` are what a process is called in the path, and
-    its name, in turns."""
-    for who, name in zip(processes[::2], processes[1::2]):
-        if who and who in path:  # To compile an expression for each process takes longer.
-            path = re.sub(rf"(?<!\S){re.escape(who)}(?!\w)", lambda _: name or "a process", path)
-    for text, expression, alike in DIFFERS:
-        if text in path:
-            path = expression.sub(alike, path)
-    return path
 
 
 def defect_key(kind: str, who: str, path: str) -> str:

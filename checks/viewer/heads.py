@@ -21,7 +21,8 @@ VIEWER = ROOT / "viewer"
 QUERIES, VIEWS, FUNCTIONS = VIEWER / "page/queries", raw_tables.FOLDER / "views.sql", judging.FOLDER / "judging.py"
 
 MAKES = {sqlite3.SQLITE_CREATE_TABLE: "tables", sqlite3.SQLITE_CREATE_TEMP_TABLE: "temporary tables",
-         sqlite3.SQLITE_CREATE_VIEW: "views", sqlite3.SQLITE_CREATE_INDEX: "indexes",
+         sqlite3.SQLITE_CREATE_VIEW: "views", sqlite3.SQLITE_CREATE_TEMP_VIEW: "temporary views",
+         sqlite3.SQLITE_CREATE_INDEX: "indexes",
          sqlite3.SQLITE_CREATE_TEMP_INDEX: "indexes"}
 CHANGES = (sqlite3.SQLITE_INSERT, sqlite3.SQLITE_UPDATE, sqlite3.SQLITE_DELETE)
 
@@ -47,6 +48,7 @@ class Watched:
         self.uses: dict[pathlib.Path, set[str]] = defaultdict(set)
         self.makes: dict[pathlib.Path, dict[str, list[str]]] = defaultdict(lambda: defaultdict(list))
         self.maker: dict[str, pathlib.Path] = {}
+        self.views: list[str] = []
 
     def __getattr__(self, name: str) -> object:
         return getattr(self.database, name)
@@ -73,7 +75,7 @@ class Watched:
         return answer
 
     def is_view(self, name: str | None) -> bool:
-        return self.maker.get(name or "") == VIEWS
+        return name in self.views
 
     def take(self, path: pathlib.Path) -> None:
         """Notes what the last statement did. What a view reads is no matter of a statement that reads the view. Of what
@@ -83,6 +85,8 @@ class Watched:
             if action in MAKES and not first.startswith("sqlite_"):
                 self.makes[path][MAKES[action]].append(first)
                 self.maker[first] = path
+                if MAKES[action].endswith("views"):
+                    self.views.append(first)
             elif action == sqlite3.SQLITE_READ and not second:
                 bare.add(first)
             elif action == sqlite3.SQLITE_READ:
@@ -93,18 +97,22 @@ class Watched:
                 used.add(first)
                 if first.startswith("raw_"):
                     raise SystemExit(f"checks/rules: {path}: it changes {first}, which has what ./listing wrote")
-            elif action == sqlite3.SQLITE_FUNCTION and self.maker.get(second) == FUNCTIONS:
+            elif action == sqlite3.SQLITE_FUNCTION and not self.is_view(within) \
+                    and self.maker.get(second) == FUNCTIONS:
                 used.add(second)
         self.uses[path] |= used | bare - inside
 
     def look_into_views(self) -> None:
-        """Notes what the views read, as a matter of their file."""
-        for view in self.makes[VIEWS]["views"]:
+        """Notes what the views read and call, as a matter of their file."""
+        for view in self.views:
             self.execute(f"SELECT * FROM {view}")
+            path = self.maker[view]
             read = [seen[1:] for seen in self.seen if seen[0] == sqlite3.SQLITE_READ]
             bare = {table for table, column, _ in read if not column}
-            self.uses[VIEWS] |= {table for table, column, within in read if column and within == view}
-            self.uses[VIEWS] |= bare - {table for table, column, _ in read if column}
+            self.uses[path] |= {table for table, column, within in read if column and within == view}
+            self.uses[path] |= bare - {table for table, column, _ in read if column}
+            self.uses[path] |= {name for action, _, name, within in self.seen if action == sqlite3.SQLITE_FUNCTION
+                                and within == view and self.maker.get(name) == FUNCTIONS}
 
     def head(self, path: pathlib.Path) -> str:
         """The lines that the head of a file must have."""

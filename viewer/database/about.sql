@@ -53,6 +53,7 @@ INSERT INTO about VALUES
   ('finding_head', 'inferred', 'which group a finding is in'),
   ('finding_stack', 'inferred', 'the stacks that tell of a finding, the first one by n first, and whose they are'),
   ('finding', 'inferred', 'a row of the report, or a oneway send that never came, with the rule that judged it'),
+  ('way', 'inferred', 'the ways by which handles came: with calls of a code, or in replies to a code'),
   ('finding_group', 'inferred', 'findings of one path in one line: n of all'),
   ('rule', 'inferred', 'the rules: id, verdict, and one sentence of why; fault, if it names what its section does not'),
   ('program', 'side', 'what a process is called in each capture, and its device'),

@@ -14,7 +14,7 @@
 --   book_open, book_stats, disagreement, side_call, side_pc, side_map, side_unstacked, symbol, capture, report,
 --   finding; indexes: side_process_of_pid, side_thread_of_tid
 
-PRAGMA user_version = 7;
+PRAGMA user_version = 8;
 
 -- ---- raw tables: the rows that `./listing --tables` writes, column by column
 --
@@ -348,8 +348,45 @@ CREATE TABLE report(id INTEGER PRIMARY KEY, section TEXT NOT NULL, place INTEGER
 -- n_all is NULL where a path is not counted: for handles that are let go of or that no delivery gave, for nodes,
 -- requests, deaths, clears, frees and flags, and for replies that are sent. later counts calls no deeper than the
 -- finding itself; for what is neither a call nor its buffer, it counts write frames. culprit is NULL if it is upid.
-CREATE TABLE finding(id INTEGER PRIMARY KEY, report INTEGER, section TEXT NOT NULL, what TEXT NOT NULL, place INTEGER,
-  seq INTEGER, upid INTEGER NOT NULL, utid INTEGER, handle INTEGER, code INTEGER, ptr INTEGER, cookie INTEGER,
-  generation INTEGER, target INTEGER, path TEXT, n_all INTEGER, n_good INTEGER, longest_seq INTEGER, longest INTEGER,
-  age_seq INTEGER, age INTEGER, later INTEGER, lead INTEGER, waiting INTEGER, rule TEXT, note TEXT,
-  culprit INTEGER) STRICT;
+-- path is the text of relation, code and the columns from about on, which paths.sql fills; texts.sql makes it, and until
+-- then it is NULL.
+CREATE TABLE finding(
+  id INTEGER PRIMARY KEY,
+  report INTEGER,         -- its row in report
+  section TEXT NOT NULL,
+  what TEXT NOT NULL,
+  place INTEGER,
+  seq INTEGER,
+  upid INTEGER NOT NULL,
+  utid INTEGER,
+  handle INTEGER,
+  code INTEGER,
+  ptr INTEGER,
+  cookie INTEGER,
+  generation INTEGER,
+  target INTEGER,         -- the process that its handle leads to
+  path TEXT,
+  n_all INTEGER,
+  n_good INTEGER,
+  longest_seq INTEGER,
+  longest INTEGER,
+  age_seq INTEGER,
+  age INTEGER,
+  later INTEGER,
+  lead INTEGER,           -- the finding with which it is one
+  waiting INTEGER,
+  rule TEXT,
+  note TEXT,
+  culprit INTEGER,
+  relation TEXT,          -- how it belongs to the call or the thing that it is about, by RELATIONS of paths.py
+  about INTEGER,          -- the process of the object, or with a minus that of a handle of it
+  node INTEGER,           -- the ptr of the object, or that handle; or an address
+  interface TEXT,         -- of the call, or of the object
+  others INTEGER,         -- 1 if some name another interface
+  method TEXT,
+  service TEXT,
+  way INTEGER,
+  giver INTEGER,          -- who handed over what came with calls
+  status INTEGER,         -- what the call was answered with
+  calls TEXT              -- those that used up a pool
+) STRICT;

@@ -4,7 +4,7 @@ import sqlite3
 from typing import Iterator, NamedTuple
 
 from viewer.defects.changes import GONE, GROWN, NEW, WORSE, Comparison
-from viewer.defects.known import known_in, unseen_lines
+from viewer.defects.known_keys import known_in, unseen_lines
 from viewer.defects.seen import RANKS, Defect, defects_of, seen_in
 from viewer.malformed import Fault
 

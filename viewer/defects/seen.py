@@ -12,7 +12,7 @@ QUERY = pathlib.Path(__file__).resolve().parents[1] / "page/queries/defects.sql"
 RANKS = {"real": 1, "maybe": 2, "explained": 3}
 
 # The version of the database's layout.
-LAYOUT = 7
+LAYOUT = 8
 
 
 class Defect(NamedTuple):

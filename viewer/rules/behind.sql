@@ -1,7 +1,7 @@
 -- W4: listeners that fall behind, which are findings of their own, one for each node: oneway sends to it wait longer
 -- and longer.
--- needs: database/schema.sql: finding, raw_delivery, raw_record, raw_send, raw_thread, side_time; nodes.sql: node_of,
---   who; ages.sql: last, process_life; rule.sql: lossy; judging.py: call_name, counted, duration, service_name
+-- needs: database/schema.sql: finding, raw_delivery, raw_record, raw_send, raw_thread, side_time; nodes.sql: node_of;
+--   ages.sql: last, process_life; rule.sql: lossy; judging.py: counted, duration
 -- makes: temporary tables: oneway_wait, slow_wait, by_quarter, not_come, behind; indexes: slow_wait_of, not_come_of
 
 -- How long each oneway send waited for its delivery, or if it did not come, for the end of its receiver. Which of those
@@ -45,9 +45,8 @@ SELECT z.upid, z.ptr, z.cookie, (SELECT place FROM slow_wait s WHERE s.came
 FROM by_quarter a JOIN by_quarter z USING (upid, ptr, cookie)
 WHERE a.quarter = 1 AND z.quarter = 4 AND z.n >= :ENOUGH AND z.least > max(:VERY_LONG, :OLD * a.median)
   AND (z.upid, z.ptr, z.cookie) NOT IN (SELECT upid, ptr, cookie FROM behind);
-INSERT INTO finding(section, what, place, seq, upid, utid, code, ptr, cookie, path, rule, note)
-SELECT 'queues', 'behind', b.place, r.seq, b.upid, r.utid, r.code, b.ptr, b.cookie,
-  call_name(r.code, b.upid, b.ptr) || ' at ' || w.who || printf(' node 0x%x', b.ptr) || service_name(b.upid, b.ptr),
+INSERT INTO finding(section, what, place, seq, upid, utid, code, ptr, cookie, relation, about, node, rule, note)
+SELECT 'queues', 'behind', b.place, r.seq, b.upid, r.utid, r.code, b.ptr, b.cookie, 'at', b.upid, b.ptr,
   'W4', 'one waited ' || duration(b.wait) || ', an earlier one ' || duration(b.quickest)
     || iif(b.missing, '; ' || counted(b.missing, 'send') || ' did not come', '')
-FROM behind b JOIN raw_record r USING (place) JOIN who w USING (upid);
+FROM behind b JOIN raw_record r USING (place);

@@ -1,7 +1,7 @@
 -- A, C, T, U: calls and served calls that are open.
--- needs: database/schema.sql: finding, raw_call, raw_delivery, raw_thread, side_time; nodes.sql: who; facts.sql:
---   from_before; ages.sql: ended, last, life, old; waits.sql: full_pool, lock_ring, pool, ring, step, waited, waits,
---   waits_for; rule.sql: lossy; pools.sql: full_wait; judging.py: counted, duration
+-- needs: database/schema.sql: finding, raw_call, raw_delivery, raw_thread, side_time; nodes.sql: who; records.sql:
+--   from_before; paths.sql: path_of; ages.sql: ended, last, life, old; waits.sql: full_pool, lock_ring, pool, ring,
+--   step, waited, waits, waits_for; rule.sql: lossy; pools.sql: full_wait; judging.py: counted, duration
 -- makes: temporary tables: keeps_busy
 
 -- A: one finding with an open call.
@@ -58,8 +58,8 @@ WHERE rule IS NULL AND section IN ('calls', 'served') AND what = 'open' AND n_go
 -- Several calls of one path that all wait longer than any that came to a good end are no chance.
 UPDATE finding SET rule = 'U6' WHERE rule IS NULL AND section IN ('calls', 'served') AND what = 'open' AND later = 0
   AND age IS NOT NULL AND finding.id NOT IN (SELECT id FROM old)
-  AND finding.id NOT IN (SELECT id FROM (SELECT id, count(*) OVER (PARTITION BY section, path) AS n FROM finding
-      WHERE rule IS NULL AND section IN ('calls', 'served') AND what = 'open' AND n_good >= :ENOUGH
+  AND finding.id NOT IN (SELECT id FROM (SELECT id, count(*) OVER (PARTITION BY section, code, about, node) AS n
+      FROM finding WHERE rule IS NULL AND section IN ('calls', 'served') AND what = 'open' AND n_good >= :ENOUGH
         AND age > max(:VERY_LONG, :USUAL * longest)) WHERE n >= :OFTEN);
 UPDATE finding SET rule = 'C9' WHERE rule IS NULL AND id IN (SELECT id FROM lock_ring);
 UPDATE finding SET rule = 'B1' WHERE rule IS NULL AND section = 'books';
@@ -80,7 +80,7 @@ UPDATE finding SET note = iif(waiting > 0, counted(waiting, 'waits', 'wait') || 
         (SELECT iif(t.last_seq <= d.seq, ', and thread ' || t.thread || ' has done nothing since', '')
           FROM raw_thread t JOIN raw_call d ON d.place = w.delivery WHERE t.utid = w.server), '') END
   || coalesce((SELECT '; in a ring with ' || n.called || ' of ' || o.who || ', ' || q.path
-    FROM lock_ring l JOIN waits n ON n.id = l.next JOIN finding q ON q.id = l.next JOIN who o ON o.upid = n.upid
+    FROM lock_ring l JOIN waits n ON n.id = l.next JOIN path_of q ON q.id = l.next JOIN who o ON o.upid = n.upid
     WHERE l.id = finding.id), '')
 FROM waits w WHERE w.id = finding.id AND rule IN ('B1', 'C3', 'C4', 'C5', 'C6', 'C8', 'C9', 'U2');
 UPDATE finding SET rule = 'C4' WHERE rule IS NULL AND section = 'served' AND what = 'open';

@@ -1,8 +1,8 @@
 -- E9, E10: calls in which their server ended, several times. What ended once while it served a call may have been ended
 -- from outside (E3); and what ends several times as soon as it gets a call, is ended by that call.
 -- needs: database/schema.sql: finding, raw_call, raw_delivery, raw_record, raw_send, raw_thread, side_time;
---   database/views.sql: process; nodes.sql: who; ages.sql: last, process_life; rule.sql: lossy; failures.sql: failure;
---   judging.py: likeness
+--   database/views.sql: process; paths.sql: finding_names; ages.sql: last, process_life; rule.sql: lossy; failures.sql:
+--   failure
 -- makes: temporary tables: ended_alone, serving, fell; indexes: ended_alone_upid, serving_upid
 
 -- The processes that ended by themselves, as far as times tell: neither with the recording, nor right after another.
@@ -21,15 +21,15 @@ CREATE UNIQUE INDEX temp.serving_upid ON serving(upid);
 -- The calls that failed because of such an end, and were the only one that the process served. If only their thread
 -- ended, the call failed before. A process that is started again has the same name, and its calls the same interface.
 CREATE TEMP TABLE fell AS
-SELECT f.id, p.name, likeness(f.path, w.who, p.name) AS path, coalesce(a.ended - y.ts <= :LONG, 0) AS soon
-FROM finding f JOIN failure e USING (id) JOIN raw_send s ON s.place = e.place
+SELECT f.id, p.name, f.code, n.interface, coalesce(a.ended - y.ts <= :LONG, 0) AS soon
+FROM finding f JOIN finding_names n USING (id) JOIN failure e USING (id) JOIN raw_send s ON s.place = e.place
   JOIN raw_delivery d ON d.place = s.delivery JOIN raw_thread t ON t.utid = d.utid
   JOIN ended_alone a ON a.upid = t.upid JOIN serving v ON v.upid = t.upid
-  JOIN process p ON p.upid = t.upid JOIN who w ON w.upid = t.upid JOIN raw_record r ON r.place = e.reply
+  JOIN process p ON p.upid = t.upid JOIN raw_record r ON r.place = e.reply
   JOIN side_time x ON x.seq = r.seq LEFT JOIN side_time y ON y.seq = d.seq
 WHERE f.rule = 'E3' AND s.certain AND v.n = 1 AND a.ended - x.ts <= :LONG;
 UPDATE finding SET rule = iif(o.soon AND o.n_soon >= :OFTEN, 'E10', 'E9'),
   note = coalesce(o.name, 'its server') || ' ended so ' || o.n || ' times'
 FROM (SELECT id, name, soon, count(*) OVER one_path AS n, sum(soon) OVER one_path AS n_soon
-  FROM fell WINDOW one_path AS (PARTITION BY path)) o
+  FROM fell WINDOW one_path AS (PARTITION BY name, code, interface)) o
 WHERE o.id = finding.id AND o.n >= :OFTEN;

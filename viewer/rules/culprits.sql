@@ -22,5 +22,8 @@ FROM (SELECT q.upid AS sender, i.target,
 WHERE rule = 'E5' AND e.id = finding.id AND r.flags & :TF_ONE_WAY AND c.nth = 1
   AND (c.sender, c.target) = (finding.upid, finding.target);
 -- If several processes get the same status, the one that answers with it.
-UPDATE finding SET culprit = target WHERE rule = 'R1'
-  AND path IN (SELECT path FROM finding WHERE rule = 'R1' GROUP BY path HAVING count(DISTINCT upid) > 1);
+UPDATE finding SET culprit = target
+FROM (SELECT code, way, about, node, status FROM finding WHERE rule = 'R1' GROUP BY 1, 2, 3, 4, 5
+  HAVING count(DISTINCT upid) > 1) p
+WHERE rule = 'R1' AND p.code = finding.code AND p.way IS finding.way AND p.about IS finding.about
+  AND p.node IS finding.node AND p.status IS finding.status;

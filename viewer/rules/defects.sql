@@ -11,7 +11,7 @@
 -- If any of that changes, the last number in this file, `prints`, rises: keys with another one are not compared.
 -- needs: database/schema.sql: call_interface, capture, finding, method, object_interface; database/views.sql: call,
 --   delivery, device, handle, interface, process, record, send, status; nodes.sql: node_of; rule.sql: rule; groups.sql:
---   titled, traffic; judging.py: defect_key, status_name
+--   titled, traffic; judging.py: defect_key, path_text, status_name
 -- makes: tables: program, call_text, defect, finding_defect; temporary tables: came_by, matter, told; indexes:
 --   finding_of_defect
 
@@ -60,26 +60,19 @@ WHERE f.rule IN ('H5', 'H8', 'H9', 'H10');
 -- ptr the handle. Which oneway send finds no space at a receiver is chance: no code says it.
 CREATE TEMP TABLE matter AS
 SELECT f.id, f.section, f.what, f.place, f.rule, f.upid AS own, coalesce(f.culprit, f.upid) AS causes,
-  iif(f.rule = 'E5' AND f.culprit NOTNULL, NULL, coalesce(w.code, f.code)) AS code,
-  coalesce(w.upid, iif(f.is_own, f.upid, coalesce(f.target, -f.upid))) AS upid,
-  coalesce(w.ptr, iif(f.is_own OR f.target NOTNULL, f.ptr, f.handle)) AS ptr,
+  iif(f.rule = 'E5' AND f.culprit NOTNULL OR f.section = 'frees', NULL, coalesce(w.code, f.code)) AS code,
+  coalesce(w.upid, f.about, f.target, -f.upid) AS upid,
+  coalesce(w.ptr, f.node, iif(f.about > 0 OR f.target NOTNULL, f.ptr, f.handle)) AS ptr,
   iif(w.id IS NULL, f.target, w.other) AS other, iif(w.id IS NULL, f.handle, w.handle) AS handle,
-  CASE WHEN w.reply THEN 'given by replies to' WHEN NOT w.reply THEN 'given by calls of'
+  CASE
+    WHEN w.reply THEN 'given by replies to'
+    WHEN NOT w.reply THEN 'given by calls of'
     WHEN f.rule = 'E5' AND f.culprit NOTNULL THEN 'no space at'
-    WHEN f.section = 'answers' OR f.section IN ('calls', 'refused', 'oneway', 'spam', 'strays', 'objects')
-      AND f.generation NOTNULL OR f.section = 'books' THEN 'to'
-    WHEN f.section IN ('calls', 'refused', 'oneway', 'spam') THEN 'a reply'
-    WHEN f.section = 'objects' THEN 'a reply to'
-    WHEN f.section = 'buffers' AND f.what = 'BR_REPLY' THEN 'reply to'
-    WHEN f.section = 'buffers' AND (SELECT oneway FROM delivery d WHERE d.place = f.place) THEN 'oneway'
-    WHEN f.section IN ('buffers', 'served', 'pools', 'queues') THEN 'at'
-    WHEN f.section IN ('handles', 'requests', 'deaths', 'clears', 'freezes', 'freeze_clears')
-      THEN iif(f.handle IS NULL, 'cookie', 'handle')
-    WHEN f.section = 'nodes' THEN 'node' WHEN f.section = 'frees' THEN 'address' END AS how
-FROM (SELECT *, section IN ('served', 'nodes', 'pools', 'queues') OR section = 'buffers' AND what <> 'BR_REPLY'
-    OR section = 'objects' AND generation IS NULL AS is_own FROM finding WHERE lead IS NULL) f
-  JOIN rule r ON r.id = f.rule LEFT JOIN came_by w ON w.id = f.id
-WHERE r.verdict <> 'normal';
+    WHEN f.section = 'frees' THEN 'address'
+    WHEN f.relation = 'given' THEN 'handle'
+    ELSE f.relation END AS relation
+FROM finding f JOIN rule r ON r.id = f.rule LEFT JOIN came_by w ON w.id = f.id
+WHERE f.lead IS NULL AND r.verdict <> 'normal';
 
 -- What a call is called: by interface and method, or if no table has its method by interface and code.
 CREATE TABLE call_text(code INTEGER, upid INTEGER, ptr INTEGER, interface TEXT, method TEXT, call TEXT NOT NULL,
@@ -97,17 +90,14 @@ FROM (SELECT code, upid, ptr FROM matter WHERE code NOTNULL AND ptr NOTNULL
 -- ---- the parts of a key
 
 CREATE TEMP TABLE told AS
-SELECT id, kind || coalesce(' (' || answer || ')', '') AS kind, who, own_call AS call, CASE how
-    WHEN 'to' THEN call || ' to ' || other || coalesce(': ' || status, '')
-    WHEN 'no space at' THEN 'oneway to ' || other
-    WHEN 'a reply to' THEN coalesce('a reply to ' || call, 'a reply')
-    WHEN 'reply to' THEN coalesce('reply to ' || call || ' of ' || other, 'reply to no call')
-    WHEN 'oneway' THEN 'oneway ' || call || ' at ' || own
-    WHEN 'at' THEN call || ' at ' || own
-    WHEN 'given by replies to' THEN how || ' ' || call || ' of ' || other
-    WHEN 'given by calls of' THEN how || ' ' || call || ' from ' || other
-    WHEN 'handle' THEN handle || object WHEN 'node' THEN 'node' || object ELSE how END AS path
-FROM (SELECT m.id, m.how, c.program || ' on ' || c.device AS who, p.program AS own, t.call,
+SELECT id, kind || coalesce(' (' || answer || ')', '') AS kind, who, own_call AS call,
+  path_text(relation,
+    CASE WHEN relation IN ('handle', 'node', 'cookie', 'address') THEN thing WHEN relation = 'no space at' THEN ''
+      WHEN relation <> 'a reply' THEN call END,
+    CASE WHEN relation IN ('handle', 'node') THEN object WHEN relation IN ('at', 'oneway at') THEN own
+      WHEN relation NOT IN ('a reply to', 'cookie', 'address') THEN other END,
+    status) AS path
+FROM (SELECT m.id, m.relation, c.program || ' on ' || c.device AS who, p.program AS own, t.call,
     iif(m.causes IN (m.own, m.other), t.call, NULL) AS own_call,
     coalesce(r.fault, k.of_section) AS kind,
     CASE WHEN m.section = 'calls' AND m.what = 'failed' THEN (SELECT e.kind FROM call c
@@ -115,9 +105,9 @@ FROM (SELECT m.id, m.how, c.program || ' on ' || c.device AS who, p.program AS o
       WHEN m.section = 'refused' THEN m.what END AS answer,
     (SELECT status_name(s.value) FROM call c JOIN status s ON s.place = c.closer WHERE m.section = 'answers'
       AND c.place = m.place) AS status,
-    iif(m.handle = 0, 'handle 0', 'handle') AS handle,
+    iif(m.relation = 'handle' AND m.handle = 0, 'handle 0', m.relation) AS thing,
     coalesce(o.program, iif(m.handle = 0, 'handle 0', 'handle')) AS other,
-    coalesce(', ' || o.program, '') || coalesce(' (' || i.name || ')', '') AS object
+    iif(m.relation = 'handle', coalesce(', ' || o.program, ''), '') || coalesce(' (' || i.name || ')', '') AS object
   FROM matter m JOIN rule r ON r.id = m.rule JOIN titled k USING (rule, section, what)
     JOIN program p ON p.upid = m.own JOIN program c ON c.upid = m.causes
     LEFT JOIN program o ON o.upid = m.other LEFT JOIN call_text t ON (t.code, t.upid, t.ptr) = (m.code, m.upid, m.ptr)

@@ -1,6 +1,6 @@
 -- E: calls and sends that failed, and oneway sends that may be spam.
 -- needs: database/schema.sql: finding, raw_call, raw_delivery, raw_record, raw_send, raw_thread, side_time; nodes.sql:
---   node_of, who; facts.sql: told_death; judging.py: counted
+--   node_of, who; records.sql: told_death; judging.py: counted
 -- makes: temporary tables: failure, too_late, got_call, in_freeze, refused_first, in_the_way; indexes: failure_of,
 --   got_call_by, in_freeze_of
 

@@ -1,6 +1,6 @@
 -- F: frees.
 -- needs: database/schema.sql: book_buffer, finding, raw_delivery, raw_record, raw_thread; database/views.sql: came_to,
---   delivery, sent_to; ages.sql: begun, process_life; rule.sql: lossy; judging.py: call_name
+--   delivery, sent_to; ages.sql: begun, process_life; rule.sql: lossy
 -- makes: temporary tables: freed, begun_free; indexes: freed_address
 
 CREATE TEMP TABLE freed AS
@@ -9,11 +9,15 @@ SELECT t.upid, r.address, d.place, d.freed_by FROM raw_delivery d JOIN raw_recor
 WHERE EXISTS (SELECT 1 FROM finding WHERE section = 'frees') AND d.freed_by IS NOT NULL
   AND r.address IN (SELECT x.address FROM finding f JOIN raw_record x USING (place) WHERE f.section = 'frees');
 CREATE INDEX temp.freed_address ON freed(upid, address, place);
-UPDATE finding SET rule = 'F1', note = 'at ' || d.freed_by,
-  path = iif(d.kind = 'BR_REPLY', 'reply to ', '') || coalesce(
-    (SELECT call_name(v.code, v.upid, v.ptr) FROM came_to v WHERE v.place = d.place),
-    (SELECT call_name(v.code, v.upid, v.ptr) FROM sent_to v WHERE v.place = d.call), call_name(d.code, NULL, NULL),
-    'code ?')
+UPDATE finding SET
+  rule = 'F1',
+  note = 'at ' || d.freed_by,
+  relation = iif(d.kind = 'BR_REPLY', 'freed reply to', 'freed'),
+  code = d.code,
+  about = coalesce((SELECT v.upid FROM came_to v WHERE v.place = d.place),
+    (SELECT v.upid FROM sent_to v WHERE v.place = d.call)),
+  node = coalesce((SELECT v.ptr FROM came_to v WHERE v.place = d.place),
+    (SELECT v.ptr FROM sent_to v WHERE v.place = d.call))
 FROM raw_record x, delivery d
 WHERE rule IS NULL AND finding.section = 'frees' AND x.place = finding.place AND d.freed_by < finding.place
   AND d.place = (SELECT e.place FROM freed e WHERE e.upid = finding.upid AND e.address = x.address

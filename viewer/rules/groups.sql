@@ -1,9 +1,10 @@
 -- Findings in groups, and who talks to whom: what the page shows first.
 -- needs: database/schema.sql: finding, raw_call, raw_delivery, raw_generation, raw_record, raw_send, side_time;
---   database/views.sql: process; nodes.sql: node_of, who; facts.sql: given; rule.sql: rule; causes.sql: led_by;
---   judging.py: counted, likeness, without_methods
--- makes: tables: title, finding_head, finding_group, traffic; temporary tables: titled, known_as, named, ranked,
---   common, paths; indexes: titled_kind, known_as_of, head_of_group, ranked_group, common_of, paths_of
+--   database/views.sql: process; nodes.sql: node_of, who; names.sql: call_named, code_named; paths.sql: given, way;
+--   rule.sql: rule; causes.sql: led_by; judging.py: bare_name, call_words, counted, path_text, short_name, status_name
+-- makes: tables: title, finding_head, finding_group, traffic; temporary tables: titled, alike_name, alike_way, named,
+--   ranked, common, paths; indexes: titled_kind, alike_name_of, alike_way_of, head_of_group, ranked_group, common_of,
+--   paths_of
 
 -- The title of a finding: by its rule, or by its section and what it is in that section.
 CREATE TABLE title(rule TEXT, section TEXT, what TEXT, title TEXT NOT NULL) STRICT;
@@ -51,25 +52,60 @@ SELECT k.rule, k.section, k.what,
 FROM (SELECT DISTINCT rule, section, what FROM finding WHERE rule NOTNULL AND lead IS NULL) k;
 CREATE UNIQUE INDEX temp.titled_kind ON titled(rule, section, what);
 
--- What processes are called in paths, and their names.
-CREATE TEMP TABLE known_as AS SELECT w.upid, w.who, p.name FROM who w JOIN process p USING (upid);
-CREATE UNIQUE INDEX temp.known_as_of ON known_as(upid);
+-- What a process is called in paths that are alike: by its name, without its number.
+CREATE TEMP TABLE alike_name AS SELECT upid, coalesce(name, 'a process') AS name FROM process;
+CREATE UNIQUE INDEX temp.alike_name_of ON alike_name(upid);
+-- And a way.
+CREATE TEMP TABLE alike_way AS
+SELECT n.*, path_text(iif(reply, 'given by replies to', 'given by calls of'),
+  call_words(code, short_name(interface), others, method), iif(reply, other, NULL)) AS path
+FROM (
+  SELECT
+    w.id,
+    w.reply,
+    w.code,
+    coalesce(c.interface, b.interface) AS interface,
+    c.others,
+    coalesce(c.method, b.method) AS method,
+    iif(w.about > 0, (SELECT name FROM alike_name a WHERE a.upid = w.about), 'a handle') AS other
+  FROM way w LEFT JOIN call_named c ON (c.code, c.upid, c.ptr) = (w.code, w.about, w.node)
+    LEFT JOIN code_named b ON c.code IS NULL AND b.code = w.code) n;
+CREATE UNIQUE INDEX temp.alike_way_of ON alike_way(id);
 
 -- The group of each finding, named by its leading finding: an open call leads its served end and its buffer.
 CREATE TABLE finding_head(id INTEGER PRIMARY KEY, grp INTEGER NOT NULL) STRICT;
 CREATE TEMP TABLE named AS
-SELECT f.id, f.path, likeness(f.path, t.who, t.name, q.who, q.name, s.who, s.name) AS likeness, f.rule,
-  v.sender AS giver,
+SELECT
+  f.id,
+  f.rule,
   CASE r.verdict WHEN 'real' THEN 1 WHEN 'maybe' THEN 2 WHEN 'explained' THEN 3 ELSE 4 END AS rank,
-  k.title
+  k.title,
+  f.path,
+  v.sender AS giver,
+  -- A way stands for what came so.
+  CASE WHEN f.relation <> 'given' THEN f.relation WHEN w.reply THEN 'given by replies to' ELSE 'given by calls of' END
+    AS relation,
+  iif(f.relation = 'given', w.code, f.code) AS code,
+  iif(f.relation = 'given', w.interface, f.interface) AS interface,
+  iif(f.relation = 'given', w.others, f.others) AS others,
+  iif(f.relation = 'given', w.method, f.method) AS method,
+  f.calls,
+  iif(f.section = 'answers', status_name(f.status), NULL) AS status,
+  CASE
+    WHEN f.relation = 'given' THEN iif(w.reply, w.other, (SELECT name FROM alike_name a WHERE a.upid = f.giver))
+    WHEN f.relation IN ('to', 'reply to', 'at', 'oneway at') AND f.way NOTNULL THEN 'objects ' || w.path
+    WHEN f.relation IN ('to', 'reply to', 'at', 'oneway at') OR f.relation = 'handle' AND f.about > 0
+    THEN iif(f.about > 0, (SELECT name FROM alike_name a WHERE a.upid = f.about), 'a handle') END AS other
 FROM finding f JOIN rule r ON r.id = f.rule JOIN titled k USING (rule, section, what)
-  LEFT JOIN known_as t ON t.upid = f.target LEFT JOIN known_as q ON q.upid = f.upid
   LEFT JOIN given v ON v.generation = f.generation AND f.rule IN ('H5', 'H6', 'H8', 'H9', 'H10')
-  LEFT JOIN known_as s ON s.upid = v.sender
+  LEFT JOIN alike_way w ON w.id = f.way
 WHERE f.lead IS NULL;
--- What is real and what is maybe on like paths is one group, with the strongest verdict of its findings.
+-- What is real and what is maybe on like paths is one group, with the strongest verdict of its findings. Methods and
+-- packages do not tell paths apart.
 INSERT INTO finding_head
-SELECT id, min(id) OVER (PARTITION BY title, without_methods(likeness), max(rank, 2)) FROM named;
+SELECT id, min(id) OVER (PARTITION BY title, max(rank, 2), relation, iif(relation IN ('handle', 'node'), NULL, code),
+  iif(relation IN ('handle', 'node'), NULL, bare_name(interface)), calls, other, status)
+FROM named;
 INSERT INTO finding_head
 SELECT f.id, h.grp FROM finding f JOIN finding_head h ON h.id = f.lead;
 CREATE INDEX head_of_group ON finding_head(grp);
@@ -81,7 +117,17 @@ CREATE UNIQUE INDEX temp.ranked_group ON ranked(grp);
 
 -- What the paths of a group have in common; and if its handles came from several processes, how many these are.
 CREATE TEMP TABLE common AS
-SELECT h.grp, iif(min(n.likeness) = max(n.likeness), n.likeness, without_methods(n.likeness))
+SELECT
+  h.grp,
+  coalesce(path_text(
+    n.relation,
+    CASE n.relation WHEN 'handle' THEN 'handles' WHEN 'node' THEN 'nodes' WHEN 'cookie' THEN 'cookies'
+      WHEN 'address' THEN 'addresses' WHEN 'a reply' THEN NULL
+      ELSE coalesce(n.calls, iif(count(DISTINCT call_words(n.code, short_name(n.interface), n.others, n.method)) = 1,
+        call_words(n.code, short_name(n.interface), n.others, n.method),
+        call_words(n.code, bare_name(n.interface), 0, NULL))) END,
+    iif(n.relation = 'handle', ', ', '') || n.other,
+    n.status), '')
   || iif(count(DISTINCT n.giver) > 1, ' (' || count(DISTINCT n.giver) || ' processes)', '') AS likeness
 FROM named n JOIN finding_head h USING (id) GROUP BY 1;
 CREATE UNIQUE INDEX temp.common_of ON common(grp);

@@ -1,7 +1,7 @@
 -- H1, H2: handles that nobody gave, and references let go of more often than taken; H6, H7: what the driver's books of
 -- the beginning have of these.
 -- needs: database/schema.sql: book_handle, book_node, finding, raw_delivery, raw_generation, raw_record, raw_thread,
---   report; facts.sql: given, given_way; ages.sql: begun, process_life; judging.py: counted, number_in
+--   report; paths.sql: given, given_way, way_path; ages.sql: begun, process_life; judging.py: counted, number_in
 -- makes: temporary tables: unseen, handle_row, held_before, let_go_again, again_way, too_often; indexes:
 --   let_go_again_of
 
@@ -78,6 +78,6 @@ FROM finding f JOIN report r ON r.id = f.report
   LEFT JOIN book_handle k ON (k.moment, k.upid, k.handle) = ('begin', f.upid, f.handle)
 WHERE f.rule = 'H2' AND f.section = 'handles';
 UPDATE finding SET note = coalesce(note || '; ', '') || counted(o.n, 'time') || ' too often'
-  || coalesce('; ' || o.way || ': ' || a.n || ' of '
+  || coalesce('; ' || (SELECT path FROM way_path w WHERE w.id = o.way) || ': ' || a.n || ' of '
     || (SELECT sum(w.n) FROM given_way w WHERE (w.upid, w.way) = (a.upid, a.way)) || ' that came so', '')
 FROM too_often o LEFT JOIN again_way a USING (upid, way) WHERE o.id = finding.id;

@@ -3,22 +3,25 @@
 import functools
 import pathlib
 import sqlite3
+from typing import Callable
 
 from viewer.database.report import number_of
 from viewer.database.sqlite import named_numbers, statements_of
 from viewer.rules import waiting
-from viewer.rules.names import Names
+from viewer.rules.names import Names, short_of
+from viewer.rules.paths import call_words, name_words, object_words, path_text, thing_words
 from viewer.rules.thresholds import THRESHOLDS
-from viewer.units import counted, defect_key, duration_of, likeness, status_name
+from viewer.units import LETTERS, counted, defect_key, duration_of, status_name
 
 FOLDER = pathlib.Path(__file__).resolve().parent
 
 # The files that judge the rows of the report, in order. The first rule that fits a finding decides.
-JUDGING = ("nodes.sql", "names.sql", "freeze_facts.sql", "facts.sql", "late.sql", "ages.sql", "waits.sql", "rule.sql",
+JUDGING = ("nodes.sql", "names.sql", "freeze_facts.sql", "records.sql", "paths.sql", "counts.sql",
+           "late.sql", "ages.sql", "waits.sql", "rule.sql",
            "pools.sql", "calls.sql", "used_up.sql", "failures.sql", "crashes.sql", "limits.sql", "answers.sql",
-           "strays.sql", "buffers.sql", "handles.sql", "ways.sql", "held.sql", "requests.sql", "deaths.sql",
+           "strays.sql", "buffers.sql", "handles.sql", "ways.sql", "references.sql", "requests.sql", "deaths.sql",
            "freezes.sql", "frees.sql", "objects.sql", "oneway.sql", "behind.sql", "missing.sql", "culprits.sql",
-           "causes.sql", "groups.sql", "defects.sql", "stacks.sql")
+           "causes.sql", "texts.sql", "groups.sql", "defects.sql", "stacks.sql")
 
 
 # Most statements look at the findings of some sections, and a capture may have very many of others. Without statistics
@@ -32,20 +35,22 @@ BY_SECTION = ("CREATE INDEX finding_of_section ON finding(section)", "ANALYZE fi
 NO_LONGER = ("DROP INDEX finding_of_section", "DROP TABLE sqlite_stat1")
 
 
+# The functions of which texts and keys are made.
+WORDS: dict[str, Callable] = {
+    "duration": duration_of, "counted": counted, "status_name": status_name, "defect_key": defect_key,
+    "path_text": path_text, "call_words": call_words, "object_words": object_words, "name_words": name_words,
+    "thing_words": thing_words, "bare_name": lambda name: name and short_of(name)}
+
+
 def judge(database: sqlite3.Connection, folder: pathlib.Path = FOLDER) -> None:
     """Gives each finding its verdict. In the statements `:BR_REPLY` is the number of that name, and `:LONG` a
-    threshold. They make texts by `duration(nanoseconds)`, `counted(n, 'row')` and `status_name(number)`, alike ones by
-    `likeness(path, ..)`, keys by `defect_key(kind, who, path)`, and look into a row of the report by
-    `number_in(section, text, column)`. After names.sql, `call_name(code, upid, ptr)` names a call,
-    `service_name(upid, ptr)` and `object_name(upid, ptr)` an object, and `without_methods(path)` takes methods and
-    packages out."""
-    database.create_function("duration", 1, duration_of, deterministic=True)
-    database.create_function("counted", -1, counted, deterministic=True)
-    database.create_function("likeness", -1, functools.lru_cache(4096)(likeness), deterministic=True)
+    threshold. They make texts by the functions of WORDS, and after names.sql by `call_name(code, upid, ptr)`, the name
+    of a call. `short_name(interface)` is what an interface is called, and `bare_name(interface)` without its package,
+    even if there is another one of that name."""
+    for name, function in WORDS.items():
+        database.create_function(name, -1, functools.lru_cache(4096)(function), deterministic=True)
     database.create_function("number_in", 3, number_of, deterministic=True)
-    database.create_function("status_name", 1, status_name, deterministic=True)
-    database.create_function("defect_key", 3, functools.lru_cache(4096)(defect_key), deterministic=True)
-    numbers = {**named_numbers(database), **THRESHOLDS}
+    numbers = {**named_numbers(database), **THRESHOLDS, "FIRST_LETTERS": LETTERS.start, "LAST_LETTERS": LETTERS[-1]}
     for statement in BY_SECTION:
         database.execute(statement)
     for name in JUDGING:
@@ -58,8 +63,6 @@ def judge(database: sqlite3.Connection, folder: pathlib.Path = FOLDER) -> None:
         if name == "names.sql":
             names_of = Names(database)
             database.create_function("call_name", 3, names_of.call, deterministic=True)
-            database.create_function("without_methods", 1, names_of.without_methods, deterministic=True)
-            database.create_function("service_name", 2, names_of.service, deterministic=True)
-            database.create_function("object_name", 2, names_of.object, deterministic=True)
+            database.create_function("short_name", 1, names_of.short.get, deterministic=True)
     for statement in NO_LONGER:
         database.execute(statement)

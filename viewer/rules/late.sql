@@ -30,5 +30,7 @@ WHERE finding.section = 'nodes' AND p.id = finding.report
       finding.cookie));
 -- Buffers that came then do not count in their paths.
 UPDATE finding SET n_all = n_all - l.n
-FROM (SELECT path, count(*) AS n FROM finding WHERE section = 'buffers' AND rule = 'L1' GROUP BY path) l
-WHERE section = 'buffers' AND rule IS NULL AND l.path = finding.path;
+FROM (SELECT relation, code, about, node, count(*) AS n FROM finding WHERE section = 'buffers' AND rule = 'L1'
+  GROUP BY 1, 2, 3, 4) l
+WHERE section = 'buffers' AND rule IS NULL AND l.relation = finding.relation AND l.code IS finding.code
+  AND l.about = finding.about AND l.node IS finding.node;

@@ -5,11 +5,11 @@ The interface is what calls say in their data, and the service what is said to t
 the interface and of the code, by the files of `--methods`, and by a few that are built in."""
 
 import functools
-import re
 import sqlite3
 
 from viewer.methods.known import BINDER
-from viewer.units import LETTERS, code_name
+from viewer.rules.paths import call_words, name_text
+from viewer.units import LETTERS
 
 
 def short_of(name: str) -> str:
@@ -42,9 +42,7 @@ class Names:
     def text_of(self, interface: str, code: int, others: bool) -> tuple[str, bool]:
         """An interface with the method of a code, and whether that is known."""
         method = self.methods.get((interface, code))
-        more = " or others" if others else ""
-        return (self.short[interface] + more if method is None else f"{self.short[interface]}.{method}{more}",
-                method is not None)
+        return name_text(self.short[interface], others, method), method is not None
 
     def named(self, code: int, upid: int | None, ptr: int | None, own: int | None = None) -> tuple[str, bool] | None:
         """What a call is called: with its method, or only its interface; None if neither is known. `own`: what the data
@@ -58,8 +56,10 @@ class Names:
         """The name of a call with its code: `IHello.sayHello (code 1)`, `IHello code 1` or `code 1`."""
         if code is None:
             return None
-        told, name = f"code {code_name(code)}", self.named(code, upid, ptr, own)
-        return told if name is None else f"{name[0]} ({told})" if name[1] else f"{name[0]} {told}"
+        interface, others = (own, 0) if own is not None else self.called.get((code, upid, ptr), (None, 0))
+        full = self.full[interface] if interface is not None else \
+            BINDER if code in LETTERS and (BINDER, code) in self.methods else None
+        return call_words(code, self.short.get(full), others, self.methods.get((full, code)))
 
     def meant(self, code: int, upid: int | None, ptr: int | None, own: int | None = None
               ) -> tuple[str | None, str | None]:
@@ -68,14 +68,6 @@ class Names:
         full = self.full[interface] if interface is not None else \
             BINDER if code in LETTERS and (BINDER, code) in self.methods else None
         return full, self.methods.get((full, code))
-
-    def without_methods(self, path: str) -> str:
-        """A path in which calls are named by interface and code alone, without packages: what is alike in AIDL and in
-        HIDL, in two versions, and with a table of methods or without."""
-        if self.full:
-            path = re.sub(r"([\w$.:@]+)\.[\w$]+(?: or others)? \((code \S+)\)", r"\1 \2", path)
-            path = re.sub(r"([\w$.:@]+)(?: or others)? code ", lambda found: f"{short_of(found[1])} code ", path)
-        return path
 
     def field(self, code: int, own: int | None) -> str:
         """The name of a call as a field in a line of its record."""
@@ -93,16 +85,3 @@ class Names:
         """An object by service and interface, as far as they are known: `activity (android.app.IActivityManager)`."""
         service, interface = self.services.get((upid, ptr), ""), self.interface(upid, ptr)
         return f"{service} ({interface})" if service and interface else service or interface
-
-    def service(self, upid: int | None, ptr: int | None) -> str:
-        """What follows an object in the path of a call: the service that it is, if it is one."""
-        service = self.services.get((upid, ptr))
-        return "" if service is None else f" {service}"
-
-    def object(self, upid: int | None, ptr: int | None) -> str:
-        """What follows an object in a path: the service that it is, and its interface in brackets, if they are
-        known."""
-        if (upid, ptr) not in self.objects:
-            return self.service(upid, ptr)
-        interface, others = self.objects[upid, ptr]
-        return f"{self.service(upid, ptr)} ({self.short[self.full[interface]]}{' or others' if others else ''})"

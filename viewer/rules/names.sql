@@ -1,8 +1,9 @@
 -- Which interfaces calls name: those of each code at each node, and those of each node; and under which names nodes are
 -- registered as services.
--- needs: database/schema.sql: call_interface, object_interface, object_service, raw_call, raw_generation, raw_object,
---   raw_record, raw_thread; database/views.sql: came_to, interface, sent_to, service; nodes.sql: node_of
--- makes: temporary tables: naming, told_name, to_manager, is_service
+-- needs: database/schema.sql: call_interface, method, object_interface, object_service, raw_call, raw_generation,
+--   raw_object, raw_record, raw_thread; database/views.sql: came_to, interface, sent_to, service; nodes.sql: node_of
+-- makes: temporary tables: naming, told_name, to_manager, is_service, call_named, code_named, object_named,
+--   service_named; indexes: call_named_of, code_named_of, object_named_of, service_named_of
 
 -- How many records of each code and node name an interface; of a handle whose node is not known, its process with a
 -- minus in place of the node's, and the handle in place of its ptr. The driver knows a node of a process by its ptr.
@@ -77,3 +78,25 @@ FROM (SELECT upid, ptr, service, min(registered) AS registered, count(*) AS n,
       ORDER BY min(registered) IS NULL, min(registered), count(*) DESC, min(place)) AS nth
   FROM is_service GROUP BY 1, 2, 3)
 WHERE nth = 1;
+
+-- ---- the names by what is called
+
+-- The names of a call: of each code at a node, and of a code that all objects answer alike.
+CREATE TEMP TABLE call_named AS
+SELECT c.code, c.upid, c.ptr, i.name AS interface, c.others > 0 AS others, m.method
+FROM call_interface c JOIN interface i ON i.id = c.interface
+  LEFT JOIN method m ON (m.interface, m.code) = (i.name, c.code);
+CREATE UNIQUE INDEX temp.call_named_of ON call_named(code, upid, ptr);
+CREATE TEMP TABLE code_named AS
+SELECT code, interface, method FROM method
+WHERE interface = 'android.os.IBinder' AND code BETWEEN :FIRST_LETTERS AND :LAST_LETTERS;
+CREATE UNIQUE INDEX temp.code_named_of ON code_named(code);
+-- The names of an object: its interface, and the service that it is.
+CREATE TEMP TABLE object_named AS
+SELECT o.upid, o.ptr, i.name AS interface, o.others > 0 AS others
+FROM object_interface o JOIN interface i ON i.id = o.interface;
+CREATE UNIQUE INDEX temp.object_named_of ON object_named(upid, ptr);
+CREATE TEMP TABLE service_named AS
+SELECT o.upid, o.ptr, s.name AS service, o.others > 0 AS others
+FROM object_service o JOIN service s ON s.id = o.service;
+CREATE UNIQUE INDEX temp.service_named_of ON service_named(upid, ptr);

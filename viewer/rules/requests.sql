@@ -1,6 +1,6 @@
 -- D1, D2, D5: requests for deaths.
 -- needs: database/schema.sql: book_handle, finding, raw_generation, raw_record, side_handle; database/views.sql:
---   process; facts.sql: dead_record; ages.sql: begun
+--   process; records.sql: dead_record; ages.sql: begun
 -- makes: temporary tables: knows_handle, still_held, second_request; indexes: second_request_of
 
 -- A process that was met in mid-life may hold the handle from before. Of one that a flight recorder met in a file that

@@ -2,7 +2,7 @@
 -- call that wrote its record. A record that was read has no stack of its own, and what libbinder has to say of handles
 -- and buffers its threads write later, in whatever call comes next.
 -- needs: database/schema.sql: finding, raw_call, raw_delivery, raw_generation, raw_object, raw_record, raw_send,
---   raw_thread, side_call; freeze_facts.sql: freeze_record; facts.sql: dead_record
+--   raw_thread, side_call; freeze_facts.sql: freeze_record; records.sql: dead_record
 -- makes: tables: finding_stack; temporary tables: tells
 
 CREATE TEMP TABLE tells AS

@@ -1,7 +1,7 @@
 -- Q: pools that are used up, which are findings of their own, one for each server.
 -- needs: database/schema.sql: finding, raw_call, raw_delivery, raw_record, raw_send, raw_thread, side_time; nodes.sql:
 --   who; ages.sql: process_life; waits.sql: holder, step; pools.sql: full_wait, kept_by, kept_by_method, kept_for;
---   judging.py: counted, duration, service_name
+--   judging.py: counted, duration
 -- makes: temporary tables: usual_wait, told_by_call, used_up
 
 -- The median of the waits of all calls to these servers.
@@ -29,12 +29,12 @@ FROM full_wait w LEFT JOIN usual_wait u USING (server)
 WHERE w.server NOT IN (SELECT server FROM told_by_call)
 GROUP BY w.server;
 -- Named are the method that kept its loopers longest, and those that took their share, too.
-INSERT INTO finding(section, what, place, seq, upid, utid, code, ptr, path, waiting, rule, note, culprit)
-SELECT 'pools', 'used up', m.place, r.seq, u.server, m.utid, m.code, m.ptr,
+INSERT INTO finding(section, what, place, seq, upid, utid, code, ptr, relation, about, node, calls, waiting, rule,
+  note, culprit)
+SELECT 'pools', 'used up', m.place, r.seq, u.server, m.utid, m.code, m.ptr, 'at', u.server,
+  iif(m.ns > :NEARLY_ALL * m.whole, m.ptr, NULL),
   (SELECT group_concat(call, ', ') FROM (SELECT o.call FROM kept_by_method o WHERE o.server = u.server
-      AND (o.nth = 1 OR o.ns >= (1 - :NEARLY_ALL) * o.whole) ORDER BY o.nth LIMIT :NAMED))
-    || ' at ' || w.who || iif(m.ns > :NEARLY_ALL * m.whole, coalesce(printf(' node 0x%x', m.ptr)
-      || service_name(u.server, m.ptr), ''), ''),
+      AND (o.nth = 1 OR o.ns >= (1 - :NEARLY_ALL) * o.whole) ORDER BY o.nth LIMIT :NAMED)),
   u.n, iif(u.is_real, 'Q1', 'Q2'),
   counted(u.n, 'call') || ' waited up to ' || duration(u.longest)
     || coalesce(' (the median is ' || duration(u.usual) || ')', '') || ' for '
@@ -45,4 +45,4 @@ SELECT 'pools', 'used up', m.place, r.seq, u.server, m.utid, m.code, m.ptr,
       GROUP BY c.upid ORDER BY n DESC, c.upid LIMIT :NAMED))
     || coalesce('; the loopers wait for ' || (SELECT who FROM who WHERE upid = k.upid), ''), k.upid
 FROM used_up u JOIN kept_by_method m ON m.server = u.server AND m.nth = 1 JOIN raw_record r ON r.place = m.place
-  JOIN who w ON w.upid = u.server LEFT JOIN kept_for k ON k.server = u.server AND k.ns >= :NEARLY_ALL * m.whole;
+  LEFT JOIN kept_for k ON k.server = u.server AND k.ns >= :NEARLY_ALL * m.whole;

@@ -1,7 +1,7 @@
 -- The ways by which handles came of which a process keeps several: how long it held those that it let go of, and
 -- whether it uses those that it keeps.
 -- needs: database/schema.sql: raw_generation, raw_process, raw_record, raw_send, side_time; nodes.sql: manager,
---   node_of; facts.sql: given, given_way; ages.sql: last, process_life
+--   node_of; paths.sql: given, given_way; ages.sql: last, process_life
 -- makes: temporary tables: kept_way, recorded, of_way, had_before, earlier, let_go, kept_handle; indexes: recorded_of,
 --   of_way_generation, had_before_of, earlier_of, let_go_of, kept_handle_of
 

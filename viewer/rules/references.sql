@@ -1,8 +1,8 @@
 -- H3 to H11, T, U: references to handles and nodes that are held, and those that are balanced.
--- needs: database/schema.sql: finding, raw_generation, raw_record, raw_thread, side_time; nodes.sql: who; facts.sql:
---   given, given_way, told_death; ages.sql: ended, last, leaving, process_life; waits.sql: waits; rule.sql: lossy;
---   handles.sql: handle_row; ways.sql: earlier, kept_handle, kept_way, let_go, of_way, recorded; judging.py: counted,
---   duration
+-- needs: database/schema.sql: finding, raw_generation, raw_record, raw_thread, side_time; nodes.sql: who; records.sql:
+--   told_death; paths.sql: given, given_way, thing_path, way_path; ages.sql: ended, last, leaving, process_life;
+--   waits.sql: waits; rule.sql: lossy; handles.sql: handle_row; ways.sql: earlier, kept_handle, kept_way, let_go,
+--   of_way, recorded; judging.py: counted, duration
 -- makes: temporary tables: mourned, dead_way, taken_again, reference_change, most_held, more_references, nearly_all,
 --   growing, cache, overdue, kept_elsewhere; indexes: taken_again_of, most_held_of, more_references_of, cache_of
 
@@ -20,7 +20,7 @@ WHERE rule IS NULL AND m.id = finding.id AND m.long;
 CREATE TEMP TABLE dead_way AS
 SELECT v.upid, v.way, count(*) AS n FROM finding f JOIN given v USING (generation)
 WHERE f.rule = 'H3' AND v.way NOTNULL GROUP BY 1, 2;
-UPDATE finding SET note = note || '; ' || d.way || ': ' || d.n || ' of '
+UPDATE finding SET note = note || '; ' || (SELECT path FROM way_path w WHERE w.id = d.way) || ': ' || d.n || ' of '
   || (SELECT sum(w.n) FROM given_way w WHERE (w.upid, w.way) = (d.upid, d.way)) || ' that came so'
 FROM given v JOIN dead_way d USING (upid, way) WHERE rule = 'H3' AND v.generation = finding.generation;
 -- The most that a generation that is held had at once, if one thread took and let go of all. Records of several threads
@@ -98,7 +98,7 @@ WHERE rule IS NULL AND section = 'handles' AND what = 'held' AND k.generation = 
 CREATE TEMP TABLE overdue AS
 SELECT f.id, k.way, count(*) OVER (PARTITION BY k.way) AS of, l.n || ' others were let go of, each within '
     || iif(l.longest IS NULL, counted(l.longest_seq, 'frame'), duration(l.longest)) AS told
-FROM finding f JOIN kept_handle k USING (generation) JOIN let_go l USING (way)
+FROM finding f JOIN kept_handle k USING (generation) JOIN let_go l ON l.way = k.way
 WHERE f.rule IS NULL AND f.section = 'handles' AND f.what = 'held' AND l.n >= :MANY AND NOT k.in_use
   AND coalesce(k.idle > max(:LONG, :OLD * l.longest), k.idle_seq > :OLD * l.longest_seq);
 UPDATE finding SET rule = 'H8', note = o.told FROM overdue o WHERE o.id = finding.id AND o.of >= :OFTEN;
@@ -118,8 +118,11 @@ SELECT w.id AS way, (SELECT group_concat(who || ' keeps ' || kept || ' of ' || n
     WHERE o.way = w.way AND o.sender = w.sender AND o.upid <> w.upid ORDER BY o.n DESC, o.upid LIMIT :NAMED)) AS told
 FROM kept_way w;
 -- What is said of a whole way.
-UPDATE finding SET code = g.code,
-  path = g.way || iif(g.reply, '', ' from ' || (SELECT who FROM who WHERE who.upid = g.sender)),
+UPDATE finding SET
+  code = g.code,
+  relation = 'given',
+  way = g.way,
+  giver = iif(g.reply, NULL, g.sender),
   note = nullif(ltrim(coalesce(note, '') || coalesce('; ' || w.told, '') || coalesce('; ' || e.told, ''), '; '), '')
 FROM kept_handle k JOIN given g USING (generation) LEFT JOIN growing w ON w.way = k.way
   LEFT JOIN kept_elsewhere e ON g.reply AND e.way = k.way
@@ -133,7 +136,8 @@ WHERE rule IS NULL AND section = 'nodes' AND h.id = finding.id AND h.more;
 -- way.
 UPDATE finding SET rule = 'H7' FROM handle_row h
 WHERE rule IS NULL AND h.id = finding.id AND h.what = 'balanced' AND NOT h.more;
-UPDATE finding SET rule = 'H6', path = g.way, note = path || coalesce((SELECT '; ' || c.used || ' of ' || c.n
+UPDATE finding SET rule = 'H6', relation = 'given', way = g.way,
+  note = (SELECT path FROM thing_path t WHERE t.id = finding.id) || coalesce((SELECT '; ' || c.used || ' of ' || c.n
     || ' that are kept are in use, and their number does not grow' FROM kept_handle k JOIN cache c USING (way)
   WHERE k.generation = finding.generation), '')
 FROM given g
