@@ -198,7 +198,8 @@ class Section(NamedTuple):
 
 
 def text_of(document: str) -> str:
-    return (ROOT / f"docs/{document}.md").read_text("utf-8")
+    """A page of docs/, without comments."""
+    return re.sub(r"^<!--.*-->\n", "", (ROOT / f"docs/{document}.md").read_text("utf-8"), flags=re.MULTILINE)
 
 
 def begin_of(document: str) -> str:

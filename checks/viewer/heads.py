@@ -120,7 +120,12 @@ class Watched:
                  sorted(name for name in self.uses[path] if self.maker.get(name) == maker)
                  for maker in dict.fromkeys([*self.files.values(), FUNCTIONS]) if maker != path}
         makes = {kind: self.makes[path][kind] for kind in dict.fromkeys([*MAKES.values(), "columns"])}
-        return f"{lines_of('needs', needs)}\n{lines_of('makes', makes)}"
+        return f"{lines_of('needs', needs)}\n{after_of(path)}{lines_of('makes', makes)}"
+
+
+def after_of(path: pathlib.Path) -> str:
+    """The line by which a file says after which others it runs; nothing if it has none."""
+    return "".join(line for line in path.read_text("utf-8").splitlines(keepends=True) if line.startswith("-- after: "))
 
 
 def lines_of(word: str, names: dict[str, list[str]]) -> str:

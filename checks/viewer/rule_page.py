@@ -1,59 +1,116 @@
-"""docs/RULES.md: its thresholds have their values, the sessions that it names get their rules, and it says what missing
-frames make of a rule."""
+"""docs/RULES.md: its tables are those that the files of rules make, the sessions that it names get their rules, and it
+says what missing frames make of a rule.
 
+    checks/run rule_page                says which lines of the page are not those that the files of rules make
+    checks/run rule_page -- --print     writes the tables of the page anew, and prints what changed"""
+
+import argparse
+import difflib
 import re
 from typing import Iterable, Iterator
 
+from checks.kit.checking import FLAG, check
 from checks.kit.programs import DRIVER, ROOT
 from checks.viewer.page.common import VERDICTS, verdicts
 from checks.viewer.sessions.cases import Case
-from viewer.rules.thresholds import THRESHOLDS
+from viewer.rules.catalogue import FOLDER, Rule, catalogue_of
+from viewer.rules.thresholds import TABLE, in_words, value_of
+from viewer.rules.verdicts import RANKS
 
 PAGE = ROOT / "docs/RULES.md"
-RULES = ROOT / "viewer/rules/rule.sql"
 # Real whatever is missing: one record shows it.
 SHOWN_BY_ONE = {"O1"}
 NAMED = re.compile(r"`([^`]+)`")
-# Thresholds in seconds.
-TIMES = ("LONG", "VERY_LONG")
+
+# ---- the tables
+
+# A table is made of what the line before it says.
+MADE = re.compile(r"^<!-- (rules|thresholds)((?: [A-Z])*) -->\n(?:\|.*\n)*", re.MULTILINE)
+OF_RULES = ("rule", "verdict", "the page says", "look next at", "thresholds", "a session that meets it")
+OF_THRESHOLDS = ("name", "value", "meaning")
 
 
-def rows(text: str) -> Iterator[list[str]]:
-    """The rows of the tables of rules: rule, verdict, sentence, thresholds and session."""
-    for line in text.splitlines():
-        if re.match(r"\| [A-Z]\d+ \| ", line):
-            yield [cell.strip() for cell in line.strip("|").split("|")]
+def table_of(head: Iterable[str], rows: Iterable[Iterable[str]]) -> Iterator[str]:
+    """The lines of a table."""
+    for cells in (head, ["---" for _ in head], *rows):
+        line = " | ".join(cells)
+        yield f"|{line.replace(' | ', '|')}|\n" if cells and line.startswith("---") else \
+            re.sub(r" {2,}", " ", f"| {line} |") + "\n"
 
 
-def value_of(name: str) -> str:
-    """A threshold as the page shows it."""
-    value = THRESHOLDS[name]
-    return f"{value / 1_000_000_000:g} s" if name in TIMES else f"{value:g}"
+def rules_in(letters: Iterable[str]) -> list[Rule]:
+    """The rules of these letters."""
+    return [rule for letter in letters for rule in catalogue_of(FOLDER).rules if rule.letter == letter]
+
+
+def cells_of(rule: Rule) -> list[str]:
+    """The row of a rule."""
+    names = filter(None, rule.fields.get("rests on", "").split(", "))
+    return [rule.id, rule.verdict, rule.said, rule.fields.get("next", ""), ", ".join(f"`{name}`" for name in names),
+            rule.fields.get("met by", "")]
+
+
+def table_in(found: re.Match) -> str:
+    """What a table has to be, with the line before it."""
+    head, rows = (OF_RULES, map(cells_of, rules_in(found[2].split()))) if found[1] == "rules" else \
+        (OF_THRESHOLDS, ([f"`{name}`", value_of(name), in_words(threshold.meaning)] for name, threshold in TABLE.items()
+                         if threshold.meaning))
+    return found[0].partition("\n")[0] + "\n" + "".join(table_of(head, rows))
+
+
+def made(text: str) -> str:
+    """The page with the tables that it has to have."""
+    return MADE.sub(table_in, text)
+
+
+def stale(text: str) -> Iterator[str]:
+    """The first line of a table that is another one than the files of rules make, and rules that no table has."""
+    for number, (line, due) in enumerate(zip(text.splitlines(), made(text).splitlines()), 1):
+        if line != due:
+            yield f"{number}: checks/run rule_page -- --print writes {due!r}"
+            break
+    there = {letter for found in MADE.finditer(text) for letter in found[2].split()}
+    yield from (f"no table has the rules {letter}" for letter in
+                sorted({rule.letter for rule in catalogue_of(FOLDER).rules} - there))
+
+
+# ---- what the files of rules say
+
+
+def wrong_rules(rules: list[Rule]) -> Iterator[str]:
+    """Rules that say too little, or name what there is not."""
+    ids = [rule.id for rule in rules]
+    for rule in rules:
+        names = list(filter(None, rule.fields.get("rests on", "").split(", ")))
+        told = re.findall(r"\{(\w+)\}", rule.sentence)
+        becomes = rule.fields.get("where frames are missing")
+        where = f"viewer/rules/{rule.file}: {rule.id}"
+        yield from (f"{where}: no threshold {name}" for name in {*names, *told} - TABLE.keys())
+        yield from (f"{where}: its sentence has {name}, on which it does not rest" for name in {*told} - {*names})
+        if ids.count(rule.id) > 1:
+            yield f"{where}: there is another rule of that name"
+        if RANKS[rule.verdict] <= RANKS["maybe"] and "next" not in rule.fields:
+            yield f"{where}: it does not say where to look next"
+        if rule.verdict == "real" and becomes is None and rule.id not in SHOWN_BY_ONE:
+            yield f"{where}: real, and it does not say what missing frames make of it"
+        if becomes is not None and becomes not in ids:
+            yield f"{where}: no rule {becomes}"
 
 
 def wrong_thresholds(text: str) -> Iterator[str]:
-    """Thresholds that the page leaves out, that have another value there, or that no statement has."""
-    for name, value in re.findall(r"^\| `([A-Z_]+)` \| ([^|]+) \|", text, re.MULTILINE):
-        if name not in THRESHOLDS or value.strip() != value_of(name):
-            yield f"{name} is {value_of(name) if name in THRESHOLDS else 'no threshold'}, not {value.strip()}"
+    """Thresholds that the page does not name."""
     told = set(NAMED.findall(text))
-    yield from (f"nothing of the threshold {name}" for name in THRESHOLDS if name not in told)
-    for rule, _, _, names, _ in rows(text):
-        yield from (f"{rule}: no threshold {name}" for name in NAMED.findall(names) if name not in THRESHOLDS)
+    yield from (f"nothing of the threshold {name}" for name in TABLE if name not in told)
 
 
 def wrong_missing(text: str) -> Iterator[str]:
-    """Rules of which the page says something else than the table in rule.sql: what missing frames make of them. Each
-    rule that is real must be in that table, but those that one record shows."""
-    rules, _, table = RULES.read_text("utf-8").partition("INSERT INTO if_missing VALUES")
-    due = dict(re.findall(r"\('(\w+)', '(\w+)'\)", table))
+    """Rules of which the page says something else than their files: what missing frames make of them."""
+    due = {rule.id: rule.fields["where frames are missing"] for rule in catalogue_of(FOLDER).rules
+           if "where frames are missing" in rule.fields}
     told = {rule: becomes for becomes, named in re.findall(r"^  - (\w+) in place of (.*)$", text, re.MULTILINE)
             for rule in re.findall(r"[A-Z]\d+", named.partition(", and where")[0].partition(". ")[0])}
     yield from (f"{rule}: missing frames make it {due.get(rule, rule)}, not {told.get(rule, rule)}"
                 for rule in sorted(due.keys() | told.keys()) if due.get(rule) != told.get(rule))
-    real = set(re.findall(r"\('(\w+)', 'real',", rules))
-    yield from (f"{rule}: real, and rule.sql does not say what missing frames make of it"
-                for rule in sorted(real - due.keys() - SHOWN_BY_ONE))
 
 
 def stored_rules() -> set[tuple[str, str]]:
@@ -61,23 +118,42 @@ def stored_rules() -> set[tuple[str, str]]:
     return {(fields[0], rule) for fields in verdicts() for rule in fields[-1].split(",")}
 
 
-def wrong_sessions(text: str, cases: Iterable[Case]) -> Iterator[str]:
+def wrong_sessions(cases: Iterable[Case]) -> Iterator[str]:
     """Rules whose session is none, or does not get the rule."""
     small = {(one.name.split()[0], word.partition(":")[0]) for one in cases for word in one.due.split()}
     stored = stored_rules()
-    for rule, _, _, _, session in rows(text):
+    for rule in catalogue_of(FOLDER).rules:
+        session = rule.fields.get("met by", "")
         found = re.match(r"`([\w-]+)(\(\))?`", session)
-        if found is None or (found[1], rule) not in (small if found[2] else stored):
-            yield f"{rule}: not the rule of {session or 'a session'}"
+        if found is None or (found[1], rule.id) not in (small if found[2] else stored):
+            yield f"viewer/rules/{rule.file}: {rule.id}: not the rule of {session or 'a session'}"
         elif not found[2] and not (DRIVER / found[1]).is_dir():
-            yield f"{rule}: no capture {found[1]}"
+            yield f"viewer/rules/{rule.file}: {rule.id}: no capture {found[1]}"
 
 
 def faults_of_page(cases: Iterable[Case]) -> Iterator[str]:
-    """What is wrong with the page, and with the stored groups that it names."""
+    """What is wrong with the page, with what the files of rules say, and with the stored groups that they name."""
     text = PAGE.read_text("utf-8")
-    for what in (*wrong_thresholds(text), *wrong_missing(text), *wrong_sessions(text, cases)):
+    for what in (*stale(text), *wrong_thresholds(text), *wrong_missing(text)):
         yield f"docs/RULES.md: {what}"
+    yield from wrong_rules(catalogue_of(FOLDER).rules)
+    yield from wrong_sessions(cases)
     for scenario, why, *group in verdicts():
         if why not in ("fault", "more"):
             yield f"{VERDICTS.name}: {scenario}: {' '.join(group)}: it is neither a fault nor more, but {why}"
+
+
+def judge(given: argparse.Namespace, *_: object) -> Iterator[str]:
+    if given.print:
+        text = PAGE.read_text("utf-8")
+        new = made(text)
+        PAGE.write_text(new, "utf-8")
+        print("".join(difflib.unified_diff(text.splitlines(True), new.splitlines(True), "before", "docs/RULES.md")),
+              end="")
+    else:
+        from checks.viewer.sessions.every import CASES
+        yield from faults_of_page(CASES)
+
+
+if __name__ == "__main__":
+    check(judge, print=FLAG)

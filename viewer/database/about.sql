@@ -55,7 +55,8 @@ INSERT INTO about VALUES
   ('finding', 'inferred', 'a row of the report, or a oneway send that never came, with the rule that judged it'),
   ('way', 'inferred', 'the ways by which handles came: with calls of a code, or in replies to a code'),
   ('finding_group', 'inferred', 'findings of one path in one line: n of all'),
-  ('rule', 'inferred', 'the rules: id, verdict, and one sentence of why; fault, if it names what its section does not'),
+  ('rule', 'inferred', 'the rules: id, verdict, and one sentence of why; fault, if it names what its section does not;'
+    || ' next, where to look next'),
   ('program', 'side', 'what a process is called in each capture, and its device'),
   ('call_text', 'inferred', 'what a call is called in each capture: interface and method, or the code'),
   ('defect', 'inferred', 'what is wrong, which process causes it, on which path; id is the same in another capture'),

@@ -5,11 +5,12 @@ import sqlite3
 from typing import NamedTuple
 
 from viewer.files import Stopped, state_of
+from viewer.rules import verdicts
 
 QUERY = pathlib.Path(__file__).resolve().parents[1] / "page/queries/defects.sql"
 
-# The verdicts of defects, the strongest first.
-RANKS = {"real": 1, "maybe": 2, "explained": 3}
+# The verdicts of defects: what is normal is none.
+RANKS = {verdict: rank for verdict, rank in verdicts.RANKS.items() if verdict != "normal"}
 
 # The version of the database's layout.
 LAYOUT = 8
@@ -44,6 +45,7 @@ class Defect(NamedTuple):
 
 def defects_of(database: sqlite3.Connection) -> dict[str, Defect]:
     """The defects by their keys."""
+    database.create_function("rank_of", 1, verdicts.RANKS.get, deterministic=True)
     return {row[0]: Defect(*row) for row in database.execute(QUERY.read_text("utf-8"))}
 
 

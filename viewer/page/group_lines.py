@@ -14,9 +14,7 @@ def group_lines(database: sqlite3.Connection) -> Iterator[str]:
     """A line for each group, its fields separated by tabs: verdict, kind, n, all, device, process, path, rule, note,
     the names of the processes, which are those that cause it, and the keys of the defects."""
     for number, *fields in database.execute(
-            "SELECT grp, verdict, title, n, n_all, path, rules, note FROM finding_group"
-            " ORDER BY CASE verdict WHEN 'real' THEN 1 WHEN 'maybe' THEN 2 WHEN 'explained' THEN 3 ELSE 4 END,"
-            " waiting DESC, rules GLOB 'C[389]*' DESC, n DESC, first, grp").fetchall():
+            "SELECT grp, verdict, title, n, n_all, path, rules, note FROM finding_group ORDER BY nth").fetchall():
         verdict, title, n, n_all, path, rules, note = fields
         of = database.execute("SELECT DISTINCT p.device, p.process, p.name FROM finding_head h JOIN finding f"
                               " USING (id) JOIN process p ON p.upid = coalesce(f.culprit, f.upid)"

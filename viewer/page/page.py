@@ -19,6 +19,7 @@ from viewer.page.groups import FINDINGS, Groups
 from viewer.page.head import head_of
 from viewer.page.plots import growths_of
 from viewer.page.texts import pieces_of, title_of
+from viewer.rules.verdicts import VERDICTS
 from viewer.units import code_name, counted, duration_of
 
 FOLDER = pathlib.Path(__file__).resolve().parent
@@ -48,7 +49,7 @@ def asked_of(capture: Capture, shown: Shown) -> dict[str, object]:
     groups = Groups(capture, shown.marks)
     return {"who": capture.who, "names": capture.names, "rules": capture.rules, "command": capture.command,
             "asked": capture.rows, "count": capture.count, "groups": groups.of, "left": groups.left, "most": FINDINGS,
-            "columns_of": columns_of, "growths": lambda: growths_of(capture),
+            "all_verdicts": VERDICTS, "columns_of": columns_of, "growths": lambda: growths_of(capture),
             "has_stacks": groups.stacks.are_there, "gone": shown.gone}
 
 
@@ -90,7 +91,7 @@ def refuse_other(files: list[str], path: pathlib.Path) -> None:
 def counts_in(database: sqlite3.Connection) -> str:
     """How many groups a page has of which verdict, as in its four counts."""
     counts = dict(database.execute("SELECT verdict, count(*) FROM finding_group GROUP BY 1"))
-    return ", ".join(f"{counts.get(verdict, 0)} {verdict}" for verdict in ("real", "maybe", "explained", "normal"))
+    return ", ".join(f"{counts.get(verdict, 0)} {verdict}" for verdict in VERDICTS)
 
 
 def write(database: sqlite3.Connection, files: list[str], path: pathlib.Path, shown: Shown | None = None) -> None:

@@ -2,6 +2,7 @@
 -- Times are used if the side list has them, and frames otherwise.
 -- needs: database/schema.sql: book, book_opening, capture, finding, raw_call, raw_capture, raw_delivery, raw_frame,
 --   raw_record, raw_thread, side_lost, side_time; database/views.sql: process, thread; late.sql: late
+-- after: counts.sql
 -- makes: temporary tables: last, process_life, begun, life, written, usual, old, ended, leaving; indexes:
 --   life_of_process, begun_process, life_of_thread, old_finding, ended_finding, leaving_finding
 

@@ -2,7 +2,21 @@
 -- and longer.
 -- needs: database/schema.sql: finding, raw_delivery, raw_record, raw_send, raw_thread, side_time; nodes.sql: node_of;
 --   ages.sql: last, process_life; rule.sql: lossy; judging.py: counted, duration
+-- after: used_up.sql
 -- makes: temporary tables: oneway_wait, slow_wait, by_quarter, not_come, behind; indexes: slow_wait_of, not_come_of
+
+-- ---- what findings are called
+
+-- queues are called: oneway sends that wait longer and longer
+
+-- ---- the rules
+
+-- W4 maybe: Its receiver falls behind: sends to one object wait longer and longer, at last over {VERY_LONG}.
+--   next: how long the receiver takes for each send, and how often they are sent
+--   rests on: VERY_LONG, OLD, ENOUGH
+--   met by: `falls_behind()`: a listener takes one event every 170 ms
+
+-- ---- what they say of which finding
 
 -- How long each oneway send waited for its delivery, or if it did not come, for the end of its receiver. Which of those
 -- that wait for one node a delivery belongs to may be a guess, which keeps their order, as the driver does.

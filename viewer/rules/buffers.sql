@@ -1,7 +1,13 @@
 -- T, U: buffers.
 -- needs: database/schema.sql: finding, raw_delivery, raw_record, raw_send, raw_thread; nodes.sql: node_of; ages.sql:
 --   ended, leaving, old; judging.py: counted
+-- after: calls.sql
 -- makes: temporary tables: kept_path, kept_reply, freed_reply; indexes: kept_path_of
+
+-- ---- what findings are called
+
+-- buffers BR_REPLY are called: replies never freed
+-- buffers are called: received transactions never freed
 
 UPDATE finding SET rule = 'T1' WHERE rule IS NULL AND section = 'buffers'
   AND (later = 0 AND finding.id IN (SELECT id FROM ended) OR finding.id IN (SELECT id FROM leaving));

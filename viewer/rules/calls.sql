@@ -1,8 +1,63 @@
 -- A, C, T, U: calls and served calls that are open.
 -- needs: database/schema.sql: finding, raw_call, raw_delivery, raw_thread, side_time; nodes.sql: who; records.sql:
---   from_before; paths.sql: path_of; ages.sql: ended, last, life, old; waits.sql: full_pool, lock_ring, pool, ring,
---   step, waited, waits, waits_for; rule.sql: lossy; pools.sql: full_wait; judging.py: counted, duration
+--   from_before; paths.sql: path_of; ages.sql: ended, last, life, old; rule.sql: lossy; waits.sql: full_pool,
+--   lock_ring, pool, ring, step, waited, waits, waits_for; pools.sql: full_wait; judging.py: counted, duration
 -- makes: temporary tables: keeps_busy
+
+-- ---- what findings are called
+
+-- calls open are called: calls without an answer
+-- calls crossed are called: calls closed by what is no answer
+-- served open are called: served calls not replied
+-- served crossed are called: served calls closed by what is no reply
+-- books are called: calls open throughout
+
+-- ---- the rules
+
+-- B1 maybe: Open throughout, by the driver's books of beginning and end: a long poll, or it hangs.
+--   next: whether the call waits for an event; else what the server's thread does, by its stack
+--   met by: `open_throughout()`
+-- C1 maybe: It was answered over {LONG} before the end of its thread, which has not read the answer.
+--   next: why the caller's thread went on without reading, and ended
+--   rests on: LONG
+--   met by: `unread`: a client never reads a reply
+-- C2 explained: It was answered, and its thread had not read the answer yet.
+--   rests on: LONG
+--   met by: `answer_unread()`: the reply is 50 ms old at the end
+-- C3 real: Each waits for the other: the calls go round in a ring.
+--   next: the call that closes the ring: its process calls a process that it serves meanwhile
+--   rests on: OLD, LONG
+--   met by: `embrace`: two processes call each other
+--   where frames are missing: M2
+--   ring: yes
+-- C4 maybe: It was delivered, and not replied.
+--   next: what the server's thread has done since it got the call
+--   met by: `hung`: a service never replies
+-- C5 maybe: No answer, and no delivery that fits.
+--   next: whether the server takes calls at all, and which objects its handles lead to
+--   met by: `hangs_nowhere()`: a call to a handle whose node is not known
+-- C6 real: It keeps a thread busy in a pool that has no free thread, and sends wait there.
+--   next: what the server's thread has done since it got the call; then how many threads the pool has
+--   rests on: VERY_LONG, OLD, LONG
+--   met by: `hello-stuck`: the only looper never comes back from `waitForever`
+--   title: calls that keep a pool busy
+--   where frames are missing: M2
+-- C7 explained: It waits for another call, or for a pool that is busy with others.
+--   rests on: OLD, LONG
+--   met by: `others_queue()`: two calls wait for a service whose only looper hangs
+-- C8 real: A ring over processes, mostly of locks, for over {OLD} times as long as others of its path took.
+--   next: the locks that the threads of the ring hold while they call
+--   rests on: ENOUGH, OLD, LONG
+--   met by: `ring_of_locks()`: each of two services serves a call of the other one, and does nothing more
+--   where frames are missing: M2
+--   ring: yes
+-- C9 maybe: A ring over processes, mostly of locks: each keeps a call for which the next one waits.
+--   next: the locks that the threads of the ring hold while they call
+--   rests on: OLD, LONG
+--   met by: `ring_of_locks()`, with two earlier calls of each path
+--   ring: yes
+
+-- ---- what they say of which finding
 
 -- A: one finding with an open call.
 UPDATE finding SET rule = 'A1', lead = w.id FROM waits w

@@ -1,5 +1,6 @@
 -- One cause is one finding: what a process does about the death of another one, or leaves undone, is told once.
 -- needs: database/schema.sql: finding
+-- after: missing.sql
 -- makes: temporary tables: of_death, led_by
 
 -- What tells of a death, the strongest first: sends to the dead, a death of which the process acknowledges hardly any,

@@ -1,9 +1,25 @@
 -- E9, E10: calls in which their server ended, several times. What ended once while it served a call may have been ended
 -- from outside (E3); and what ends several times as soon as it gets a call, is ended by that call.
 -- needs: database/schema.sql: finding, raw_call, raw_delivery, raw_record, raw_send, raw_thread, side_time;
---   database/views.sql: process; paths.sql: finding_names; ages.sql: last, process_life; rule.sql: lossy; failures.sql:
---   failure
+--   database/views.sql: process; paths.sql: finding_names; ages.sql: last, process_life; failures.sql: failure;
+--   rule.sql: lossy
 -- makes: temporary tables: ended_alone, serving, fell; indexes: ended_alone_upid, serving_upid
+
+-- ---- the rules
+
+-- E9 maybe: Its server ended while it served this and nothing else, {OFTEN} times or more.
+--   next: why the server ended: its log at the place of the error reply
+--   rests on: OFTEN, LONG, VERY_LONG
+--   met by: `ends_while_it_serves()`: a service ends 110 ms after it got a call, three times
+--   fault: calls in which the server ended
+-- E10 real: Its server ended within {LONG} of getting this, and served nothing else, {OFTEN} times or more.
+--   next: the crash of the server in this method: its log, and the data of the call
+--   rests on: OFTEN, LONG, VERY_LONG
+--   met by: `ends_while_it_serves()`: a service crashes in one method
+--   fault: calls in which the server ended
+--   where frames are missing: M3
+
+-- ---- what they say of which finding
 
 -- The processes that ended by themselves, as far as times tell: neither with the recording, nor right after another.
 CREATE TEMP TABLE ended_alone AS

@@ -1,5 +1,6 @@
 -- Which process causes a finding, where the capture shows that it is another one than the one that has the finding.
--- needs: database/schema.sql: finding, raw_record; waits.sql: waits; failures.sql: failure, in_freeze, in_the_way
+-- needs: database/schema.sql: finding, raw_record; failures.sql: failure, in_freeze, in_the_way; waits.sql: waits
+-- after: missing.sql
 -- makes: nothing
 
 -- Of an open call, the process that should answer it. In a ring, the call that nobody got is a matter of its caller,

@@ -1,7 +1,32 @@
 -- D3, D4, D6, D8, T, U: deaths and clears.
 -- needs: database/schema.sql: finding; records.sql: dead_record; paths.sql: given, way_path; ages.sql: begun, ended,
 --   leaving, old, process_life; rule.sql: lossy
+-- after: requests.sql
 -- makes: temporary tables: balance, begun_death; indexes: balance_at
+
+-- ---- what findings are called
+
+-- deaths unacknowledged are called: deaths not acknowledged
+-- deaths stray are called: acknowledgements of no death
+-- clears unconfirmed are called: clears not confirmed
+-- clears stray are called: confirmations of no clear
+
+-- ---- the rules
+
+-- D3 explained: The driver waits for the acknowledgement of the death, or of the freeze.
+--   met by: `death()`
+-- D4 maybe: It answers nothing.
+--   next: where the process has the cookie from, and whether it answers twice
+--   met by: `ack-twice`: a death is acknowledged twice
+-- D6 explained: Enough earlier deaths, or clears, had this cookie.
+--   met by: `cookie_again()`: two requests have one cookie
+-- D8 real: {OFTEN} or more, and nearly all of its process, are not acknowledged while their threads went on.
+--   next: the thread that reads deaths: it has to acknowledge each
+--   rests on: OFTEN, NEARLY_ALL
+--   met by: `deaths_not_acknowledged()`: a service acknowledges none of three deaths
+--   where frames are missing: M1
+
+-- ---- what they say of which finding
 
 UPDATE finding SET rule = 'D3', note = 'the one at ' || d.place FROM finding d
 WHERE finding.rule IS NULL AND finding.section = 'clears' AND finding.what = 'unconfirmed' AND +d.section = 'deaths'

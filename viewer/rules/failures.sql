@@ -1,8 +1,59 @@
 -- E: calls and sends that failed, and oneway sends that may be spam.
 -- needs: database/schema.sql: finding, raw_call, raw_delivery, raw_record, raw_send, raw_thread, side_time; nodes.sql:
 --   node_of, who; records.sql: told_death; judging.py: counted
+-- after: late.sql
 -- makes: temporary tables: failure, too_late, got_call, in_freeze, refused_first, in_the_way; indexes: failure_of,
 --   got_call_by, in_freeze_of
+
+-- ---- what findings are called
+
+-- calls failed are called: calls that failed
+-- refused are called: sends that were refused
+-- spam are called: oneway sends that may be spam
+
+-- ---- the rules
+
+-- E1 real: Sent to an object of whose death the process had been told: repeatedly, or over {VERY_LONG} later.
+--   next: what the process does when it is told of the death: it keeps the handle and goes on
+--   rests on: VERY_LONG
+--   met by: `dead-user`: three calls after BR_DEAD_BINDER
+--   where frames are missing: M3
+-- E2 maybe: Sent to an object that had ended, as BR_DEAD_REPLY had told: repeatedly, or over {VERY_LONG} later.
+--   next: what the process does with BR_DEAD_REPLY: it keeps the handle and goes on
+--   rests on: VERY_LONG
+--   met by: `dead_reply_before()`
+-- E3 explained: The process, or the thread, that serves it ended.
+--   met by: `news_during_calls()`: two calls were under way when the server ended
+-- E4 maybe: The process that serves it was frozen.
+--   next: who froze the process, and whether it should have been frozen
+--   rests on: OFTEN
+--   met by: `goes_on_calling_the_frozen()`: three calls of one thread in one freeze
+-- E5 real: The driver refused it.
+--   next: the size and the objects of the call, and the note: what was in the way at the receiver
+--   met by: `too-large`: a call with more data than fits
+--   where frames are missing: M3
+-- E6 real: The driver took the call, and could not deliver the call or its reply.
+--   next: the reply, and the file descriptors that the receiver has open
+--   met by: `descriptors`: the receiver can't open the file descriptor of a call
+--   where frames are missing: M3
+-- E7 maybe: The driver warns: much of the space of the receiver for oneway sends holds what this process sent.
+--   next: how often the process sends, and how long the receiver takes for each
+--   met by: `spam()`
+-- E8 explained: The process that serves it was frozen then, and was thawed later.
+--   met by: `frozen()`: the service gets a call later
+-- E11 real: Sent {TOO_MANY} times or more, for over {VERY_LONG}, to an object that had ended, as BR_DEAD_REPLY had
+--     told.
+--   next: what the process does with BR_DEAD_REPLY: it keeps the handle and goes on
+--   rests on: TOO_MANY, VERY_LONG
+--   met by: `dead_reply_before()`: ten calls in 1.1 s
+--   where frames are missing: M3
+-- E12 real: Its thread called what was frozen {TOO_MANY} times or more, for over {VERY_LONG}.
+--   next: what the process does with BR_FROZEN_REPLY: it calls again at once
+--   rests on: TOO_MANY, VERY_LONG
+--   met by: `goes_on_calling_the_frozen()`: ten calls in 1.2 s
+--   where frames are missing: M3
+
+-- ---- what they say of which finding
 
 -- The error reply that closed a failed call or refused a send: its kind, and the send.
 CREATE TEMP TABLE failure AS

@@ -3,6 +3,24 @@
 --   delivery, sent_to; ages.sql: begun, process_life; rule.sql: lossy
 -- makes: temporary tables: freed, begun_free; indexes: freed_address
 
+-- ---- what findings are called
+
+-- frees are called: frees of what was not delivered
+
+-- ---- the rules
+
+-- F1 real: Freed before.
+--   next: the first free, whose place is in the note: both have the address from one delivery
+--   met by: `twice`: three buffers are freed twice
+--   fault: buffers freed twice
+--   where frames are missing: M1
+-- F2 real: An address that was never delivered to it.
+--   next: where the process has the address from
+--   met by: `errors`
+--   where frames are missing: M1
+
+-- ---- what they say of which finding
+
 CREATE TEMP TABLE freed AS
 SELECT t.upid, r.address, d.place, d.freed_by FROM raw_delivery d JOIN raw_record r USING (place)
   JOIN raw_thread t ON t.utid = d.utid

@@ -3,6 +3,23 @@
 --   freeze_dropped, freeze_record; ages.sql: begun, ended, last, leaving, old, process_life; rule.sql: lossy
 -- makes: temporary tables: freeze_told, freeze_news, begun_freeze; indexes: freeze_told_of, freeze_news_of
 
+-- ---- what findings are called
+
+-- freezes unacknowledged are called: freeze notifications not acknowledged
+-- freezes stray are called: acknowledgements of no freeze notification
+-- freeze_clears unconfirmed are called: clears of freeze notifications not confirmed
+-- freeze_clears stray are called: confirmations of no clear of a freeze notification
+
+-- ---- the rules
+
+-- D7 real: Not acknowledged, so the driver holds back the next change, of which others were told.
+--   next: the thread that read the notification: it has to acknowledge
+--   rests on: LONG
+--   met by: `others_are_told()`
+--   where frames are missing: M1
+
+-- ---- what they say of which finding
+
 -- What was dropped: by a process that was met in mid-life, only if it did not hold the handle from before.
 UPDATE finding SET rule = iif((SELECT known FROM process_life p WHERE p.upid = finding.upid), 'D1', 'P1')
 FROM freeze_dropped d JOIN raw_record r ON r.place = d.end LEFT JOIN side_time z ON z.seq = r.seq

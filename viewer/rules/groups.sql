@@ -1,47 +1,13 @@
 -- Findings in groups, and who talks to whom: what the page shows first.
 -- needs: database/schema.sql: finding, raw_call, raw_delivery, raw_generation, raw_record, raw_send, side_time;
 --   database/views.sql: process; nodes.sql: node_of, who; names.sql: call_named, code_named; paths.sql: given, way;
---   rule.sql: rule; causes.sql: led_by; judging.py: bare_name, call_words, counted, path_text, short_name, status_name
--- makes: tables: title, finding_head, finding_group, traffic; temporary tables: titled, alike_name, alike_way, named,
---   ranked, common, paths; indexes: titled_kind, alike_name_of, alike_way_of, head_of_group, ranked_group, common_of,
---   paths_of
+--   rule.sql: rule, title; causes.sql: led_by; judging.py: bare_name, call_words, counted, path_text, rank_of,
+--   short_name, status_name
+-- after: texts.sql
+-- makes: tables: finding_head, finding_group, traffic; temporary tables: titled, alike_name, alike_way, named, ranked,
+--   common, paths; indexes: titled_kind, alike_name_of, alike_way_of, head_of_group, ranked_group, common_of, paths_of
 
--- The title of a finding: by its rule, or by its section and what it is in that section.
-CREATE TABLE title(rule TEXT, section TEXT, what TEXT, title TEXT NOT NULL) STRICT;
-INSERT INTO title VALUES
-  (NULL, 'calls', 'open', 'calls without an answer'), (NULL, 'calls', 'failed', 'calls that failed'),
-  (NULL, 'calls', 'crossed', 'calls closed by what is no answer'), (NULL, 'served', 'open', 'served calls not replied'),
-  (NULL, 'served', 'crossed', 'served calls closed by what is no reply'), (NULL, 'strays', NULL, 'closers of no call'),
-  (NULL, 'refused', NULL, 'sends that were refused'), (NULL, 'handles', NULL, 'references held'),
-  (NULL, 'handles', 'balanced', 'references, balanced'), (NULL, 'nodes', NULL, 'own objects held by others'),
-  (NULL, 'nodes', 'balanced', 'own objects, balanced'), (NULL, 'buffers', 'BR_REPLY', 'replies never freed'),
-  (NULL, 'buffers', NULL, 'received transactions never freed'),
-  (NULL, 'frees', NULL, 'frees of what was not delivered'),
-  (NULL, 'requests', NULL, 'requests for deaths'), (NULL, 'deaths', 'unacknowledged', 'deaths not acknowledged'),
-  (NULL, 'deaths', 'stray', 'acknowledgements of no death'), (NULL, 'clears', 'unconfirmed', 'clears not confirmed'),
-  (NULL, 'clears', 'stray', 'confirmations of no clear'),
-  (NULL, 'freezes', 'unacknowledged', 'freeze notifications not acknowledged'),
-  (NULL, 'freezes', 'stray', 'acknowledgements of no freeze notification'),
-  (NULL, 'freeze_clears', 'unconfirmed', 'clears of freeze notifications not confirmed'),
-  (NULL, 'freeze_clears', 'stray', 'confirmations of no clear of a freeze notification'),
-  (NULL, 'objects', NULL, 'bad objects'),
-  (NULL, 'flags', NULL, 'unknown flags'), (NULL, 'answers', NULL, 'calls answered with an error'),
-  (NULL, 'spam', NULL, 'oneway sends that may be spam'), (NULL, 'oneway', NULL, 'oneway sends that never came'),
-  ('H1', 'handles', NULL, 'handles that nobody gave'), ('H2', 'handles', NULL, 'references let go too often'),
-  ('H2', 'nodes', NULL, 'references given back too often'),
-  ('H3', 'handles', NULL, 'references to an object told dead'),
-  ('H4', 'handles', NULL, 'references taken more than once'), ('H5', 'handles', NULL, 'references kept'),
-  ('H8', 'handles', NULL, 'references kept'), ('H9', 'handles', NULL, 'references kept'),
-  ('H10', 'handles', NULL, 'references kept'), ('H11', 'handles', NULL, 'references taken more than once'),
-  ('U4', 'nodes', NULL, 'references never acknowledged'), ('U6', 'nodes', NULL, 'references not acknowledged yet'),
-  ('T1', 'nodes', NULL, 'references not acknowledged yet'), ('F1', 'frees', NULL, 'buffers freed twice'),
-  ('C6', NULL, NULL, 'calls that keep a pool busy'), ('S1', NULL, NULL, 'sends that were refused'),
-  ('S2', NULL, NULL, 'replies without a call'), (NULL, 'pools', NULL, 'pools that calls use up'),
-  (NULL, 'books', NULL, 'calls open throughout'), ('E9', NULL, NULL, 'calls in which the server ended'),
-  ('E10', NULL, NULL, 'calls in which the server ended'),
-  (NULL, 'queues', NULL, 'oneway sends that wait longer and longer');
-
--- The same for each kind of finding that there is; and its title without what its rule says.
+-- The title of each kind of finding that there is; and its title without what its rule says.
 CREATE TEMP TABLE titled AS
 SELECT k.rule, k.section, k.what,
   (SELECT t.title FROM title t WHERE (t.rule IS NULL OR t.rule = k.rule)
@@ -78,7 +44,7 @@ CREATE TEMP TABLE named AS
 SELECT
   f.id,
   f.rule,
-  CASE r.verdict WHEN 'real' THEN 1 WHEN 'maybe' THEN 2 WHEN 'explained' THEN 3 ELSE 4 END AS rank,
+  rank_of(r.verdict) AS rank,
   k.title,
   f.path,
   v.sender AS giver,
@@ -111,8 +77,13 @@ SELECT f.id, h.grp FROM finding f JOIN finding_head h ON h.id = f.lead;
 CREATE INDEX head_of_group ON finding_head(grp);
 
 CREATE TEMP TABLE ranked AS
-SELECT grp, min(rank) AS rank, group_concat(rule) AS rules
-FROM (SELECT DISTINCT h.grp, n.rank, n.rule FROM named n JOIN finding_head h USING (id) ORDER BY 1, 2, 3) GROUP BY grp;
+SELECT grp, min(rank) AS rank, max(iif(nth = 1, verdict, NULL)) AS verdict, max(iif(nth = 1, ring, NULL)) AS ring,
+  group_concat(rule) AS rules
+FROM (
+  SELECT *, row_number() OVER (PARTITION BY grp ORDER BY rank, rule) AS nth
+  FROM (SELECT DISTINCT h.grp, n.rank, n.rule, r.verdict, r.ring FROM named n JOIN finding_head h USING (id)
+    JOIN rule r ON r.id = n.rule) ORDER BY grp, nth)
+GROUP BY grp;
 CREATE UNIQUE INDEX temp.ranked_group ON ranked(grp);
 
 -- What the paths of a group have in common; and if its handles came from several processes, how many these are.
@@ -140,12 +111,26 @@ FROM (SELECT h.grp, n.path, max(f.n_all) AS n_all FROM named n JOIN finding_head
 CREATE UNIQUE INDEX temp.paths_of ON paths(grp);
 
 -- A group has n findings of the n_all of its paths; those that are led do not count. Its rules begin with those of its
--- strongest verdict. Its note is that of its first finding. Who is who causes it.
-CREATE TABLE finding_group(grp INTEGER PRIMARY KEY, verdict TEXT NOT NULL, title TEXT NOT NULL, path TEXT NOT NULL,
-  n INTEGER NOT NULL, n_all INTEGER, processes INTEGER NOT NULL, who TEXT NOT NULL, first INTEGER, last INTEGER,
-  waiting INTEGER NOT NULL, rules TEXT NOT NULL, note TEXT) STRICT;
+-- strongest verdict. Its note is that of its first finding. Who is who causes it. The groups are shown in the order of
+-- nth: the strongest verdict first, then those for which most wait, rings before others, then the largest.
+CREATE TABLE finding_group(
+  grp INTEGER PRIMARY KEY,
+  verdict TEXT NOT NULL,
+  title TEXT NOT NULL,
+  path TEXT NOT NULL,
+  n INTEGER NOT NULL,
+  n_all INTEGER,
+  processes INTEGER NOT NULL,
+  who TEXT NOT NULL,
+  first INTEGER,        -- its first place
+  last INTEGER,         -- its last place
+  waiting INTEGER NOT NULL,
+  rules TEXT NOT NULL,
+  note TEXT,
+  nth INTEGER
+) STRICT;
 INSERT INTO finding_group
-SELECT h.grp, CASE k.rank WHEN 1 THEN 'real' WHEN 2 THEN 'maybe' WHEN 3 THEN 'explained' ELSE 'normal' END, n.title,
+SELECT h.grp, k.verdict, n.title,
   iif(min(iif(f.lead IS NULL, f.path, NULL)) = max(iif(f.lead IS NULL, f.path, NULL)), n.path, o.likeness)
     || iif(count(DISTINCT iif(f.lead IS NULL, f.upid, NULL)) > 1 AND (n.rule IN ('H5', 'H8', 'H9', 'H10')
       OR min(iif(f.lead IS NULL, f.path, NULL)) <> max(iif(f.lead IS NULL, f.path, NULL))),
@@ -154,10 +139,14 @@ SELECT h.grp, CASE k.rank WHEN 1 THEN 'real' WHEN 2 THEN 'maybe' WHEN 3 THEN 'ex
   count(DISTINCT iif(f.lead IS NULL, coalesce(f.culprit, f.upid), NULL)),
   group_concat(DISTINCT iif(f.lead IS NULL, (SELECT who FROM who w WHERE w.upid = coalesce(f.culprit, f.upid)), NULL)),
   min(iif(f.lead IS NULL, f.place, NULL)), max(iif(f.lead IS NULL, f.place, NULL)),
-  coalesce(max(f.waiting), 0), k.rules, NULL
+  coalesce(max(f.waiting), 0), k.rules, NULL, NULL
 FROM finding_head h JOIN finding f USING (id) JOIN named n ON n.id = h.grp JOIN ranked k ON k.grp = h.grp
   JOIN common o ON o.grp = h.grp LEFT JOIN paths s ON s.grp = h.grp
 GROUP BY h.grp;
+UPDATE finding_group SET nth = o.nth
+FROM (SELECT g.grp, row_number() OVER (ORDER BY k.rank, g.waiting DESC, k.ring DESC, g.n DESC, g.first, g.grp) AS nth
+  FROM finding_group g JOIN ranked k USING (grp)) o
+WHERE o.grp = finding_group.grp;
 UPDATE finding_group SET note = (SELECT f.note FROM finding_head h JOIN finding f USING (id)
   WHERE h.grp = finding_group.grp AND f.lead IS NULL AND f.note <> '' ORDER BY f.place LIMIT 1);
 -- And what else came of the deaths that its findings tell of.

@@ -5,6 +5,23 @@
 -- makes: temporary tables: unseen, handle_row, held_before, let_go_again, again_way, too_often; indexes:
 --   let_go_again_of
 
+-- ---- the rules
+
+-- H1 real: A handle that no delivery gave it.
+--   next: where the process has the number from: a handle of another process, or one that it let go of
+--   met by: `errors`: a release of handle 78, which the client has not
+--   fault: handles that nobody gave
+--   where frames are missing: M1
+-- H2 real: Let go, or given back, more often than taken.
+--   next: the code that lets go of it: by the way in the note, if there is one
+--   met by: `errors`: one release too many
+--   fault: references let go, or given back, too often
+--   title of handles: references let go too often
+--   title of nodes: references given back too often
+--   where frames are missing: M1
+
+-- ---- what they say of which finding
+
 -- The first delivery to a process of which it is not known which objects it had: its data are not in the capture.
 CREATE TEMP TABLE unseen AS
 SELECT t.upid, min(d.place) AS place

@@ -8,20 +8,15 @@ from typing import Callable
 from viewer.database.report import number_of
 from viewer.database.sqlite import named_numbers, statements_of
 from viewer.rules import waiting
+from viewer.rules.catalogue import FOLDER, catalogue_of, files_in_order, fill
 from viewer.rules.names import Names, short_of
 from viewer.rules.paths import call_words, name_words, object_words, path_text, thing_words
 from viewer.rules.thresholds import THRESHOLDS
+from viewer.rules.verdicts import RANKS
 from viewer.units import LETTERS, counted, defect_key, duration_of, status_name
 
-FOLDER = pathlib.Path(__file__).resolve().parent
-
 # The files that judge the rows of the report, in order. The first rule that fits a finding decides.
-JUDGING = ("nodes.sql", "names.sql", "freeze_facts.sql", "records.sql", "paths.sql", "counts.sql",
-           "late.sql", "ages.sql", "waits.sql", "rule.sql",
-           "pools.sql", "calls.sql", "used_up.sql", "failures.sql", "crashes.sql", "limits.sql", "answers.sql",
-           "strays.sql", "buffers.sql", "handles.sql", "ways.sql", "references.sql", "requests.sql", "deaths.sql",
-           "freezes.sql", "frees.sql", "objects.sql", "oneway.sql", "behind.sql", "missing.sql", "culprits.sql",
-           "causes.sql", "texts.sql", "groups.sql", "defects.sql", "stacks.sql")
+JUDGING = files_in_order(FOLDER)
 
 
 # Most statements look at the findings of some sections, and a capture may have very many of others. Without statistics
@@ -39,7 +34,7 @@ NO_LONGER = ("DROP INDEX finding_of_section", "DROP TABLE sqlite_stat1")
 WORDS: dict[str, Callable] = {
     "duration": duration_of, "counted": counted, "status_name": status_name, "defect_key": defect_key,
     "path_text": path_text, "call_words": call_words, "object_words": object_words, "name_words": name_words,
-    "thing_words": thing_words, "bare_name": lambda name: name and short_of(name)}
+    "thing_words": thing_words, "rank_of": RANKS.get, "bare_name": lambda name: name and short_of(name)}
 
 
 def judge(database: sqlite3.Connection, folder: pathlib.Path = FOLDER) -> None:
@@ -57,6 +52,8 @@ def judge(database: sqlite3.Connection, folder: pathlib.Path = FOLDER) -> None:
         database.execute("BEGIN")
         for statement in statements_of(folder / name):
             database.execute(statement, numbers)
+        if name == "rule.sql":
+            fill(database, catalogue_of(folder))
         if name == "waits.sql":
             waiting.count(database, THRESHOLDS["POOLS"])
         database.execute("COMMIT")

@@ -3,6 +3,7 @@
 -- later. So a finding that comes of such a frame says nothing (L1).
 -- needs: database/schema.sql: capture, finding, raw_call, raw_delivery, raw_frame, raw_record, raw_send, raw_thread,
 --   report, side_time; judging.py: number_in
+-- after: counts.sql
 -- makes: temporary tables: late; indexes: late_frame
 
 CREATE TEMP TABLE late AS

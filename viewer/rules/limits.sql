@@ -2,7 +2,8 @@
 -- process of the pool, and how much of the receiver's space for oneway sends was free. The driver in Rust hands calls
 -- and oneway sends only to threads that have said that they take calls.
 -- needs: database/schema.sql: book_stats, finding, raw_thread; database/views.sql: device, process; ages.sql:
---   process_life; waits.sql: full_pool, holder, loop, queued, waits; rule.sql: lossy; judging.py: counted
+--   process_life; rule.sql: lossy; waits.sql: full_pool, holder, loop, queued, waits; judging.py: counted
+-- after: calls.sql, failures.sql
 -- makes: temporary tables: pool_limit, no_looper
 
 CREATE TEMP TABLE pool_limit AS

@@ -1,5 +1,6 @@
 -- M: what is no longer real, or not told at all, where frames are missing.
 -- needs: database/schema.sql: finding, raw_record, raw_thread; nodes.sql: node_of; rule.sql: if_missing, lossy
+-- after: the rules
 -- makes: temporary tables: half_known
 
 -- The paths that a process takes of which frames are missing: how long calls took there, and how many replies were

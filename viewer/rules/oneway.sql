@@ -1,7 +1,26 @@
 -- W, E3, U1: oneway sends that never came, and the buffers that they wait for.
 -- needs: database/schema.sql: finding, raw_delivery, raw_record, raw_thread, side_time; ages.sql: ended, old,
 --   process_life; rule.sql: lossy; limits.sql: no_looper
+-- after: buffers.sql
 -- makes: temporary tables: last_oneway
+
+-- ---- what findings are called
+
+-- oneway are called: oneway sends that never came
+
+-- ---- the rules
+
+-- W1 explained: Dropped for a newer one (TF_UPDATE_TXN).
+--   met by: `oneway_never_came()`, with TF_UPDATE_TXN
+-- W2 explained: It waits for the oneway delivery before it to be freed.
+--   rests on: LONG
+--   met by: `oneway_after_another()`
+-- W3 maybe: Sent and confirmed, and never seen to come.
+--   next: what the receiver does: whether its threads take what is sent
+--   rests on: OLD, LONG
+--   met by: `oneway`: a reader leaves three sends unread
+
+-- ---- what they say of which finding
 
 UPDATE finding SET rule = 'W1' WHERE rule IS NULL AND section = 'oneway'
   AND (SELECT flags & :TF_UPDATE_TXN FROM raw_record r WHERE r.place = finding.place);

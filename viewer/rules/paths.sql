@@ -4,6 +4,7 @@
 --   database/views.sql: delivery, status; nodes.sql: manager, node_of, who; names.sql: call_named, code_named,
 --   object_named, service_named; judging.py: call_words, name_words, object_words, path_text, short_name, status_name,
 --   thing_words
+-- after: records.sql
 -- makes: tables: way; temporary tables: given_by, given, given_way, object_of, answered, way_named; temporary views:
 --   way_path, finding_names, thing_path, path_of; indexes: given_generation, given_way_of, object_of_generation,
 --   answered_of, way_named_of

@@ -1,7 +1,7 @@
 -- Pools that are used up: calls that waited long for their delivery, while all loopers of their server were busy, and
 -- what kept these busy.
 -- needs: database/schema.sql: finding, raw_call, raw_delivery, raw_record, raw_send, raw_thread, side_time;
---   database/views.sql: came_to, sent_to; ages.sql: last, life; waits.sql: queued; rule.sql: lossy; judging.py:
+--   database/views.sql: came_to, sent_to; ages.sql: last, life; rule.sql: lossy; waits.sql: queued; judging.py:
 --   call_name
 -- makes: temporary tables: long_wait, looper_says, pool_looper, busy, full_wait, full_time, kept_by, kept_by_method,
 --   kept_for; indexes: pool_looper_of, busy_at, full_wait_of

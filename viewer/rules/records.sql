@@ -2,6 +2,7 @@
 -- which node its handle leads to.
 -- needs: database/schema.sql: book_open, finding, raw_call, raw_delivery, raw_generation, raw_record, raw_send,
 --   raw_thread, report; database/views.sql: delivery, status; nodes.sql: node_of
+-- after: freeze_facts.sql
 -- makes: temporary tables: from_before, dead_record, told_death, asked; indexes: dead_cookie, dead_handle, dead_place,
 --   told_generation, asked_node
 

@@ -1,10 +1,64 @@
 -- H3 to H11, T, U: references to handles and nodes that are held, and those that are balanced.
 -- needs: database/schema.sql: finding, raw_generation, raw_record, raw_thread, side_time; nodes.sql: who; records.sql:
 --   told_death; paths.sql: given, given_way, thing_path, way_path; ages.sql: ended, last, leaving, process_life;
---   waits.sql: waits; rule.sql: lossy; handles.sql: handle_row; ways.sql: earlier, kept_handle, kept_way, let_go,
+--   handles.sql: handle_row; rule.sql: lossy; waits.sql: waits; ways.sql: earlier, kept_handle, kept_way, let_go,
 --   of_way, recorded; judging.py: counted, duration
 -- makes: temporary tables: mourned, dead_way, taken_again, reference_change, most_held, more_references, nearly_all,
 --   growing, cache, overdue, kept_elsewhere; indexes: taken_again_of, most_held_of, more_references_of, cache_of
+
+-- ---- what findings are called
+
+-- handles are called: references held
+-- handles balanced are called: references, balanced
+-- nodes are called: own objects held by others
+-- nodes balanced are called: own objects, balanced
+
+-- ---- the rules
+
+-- H3 maybe: Still held long after its death was told.
+--   next: what the process does when it is told of the death: its proxy of the object stays
+--   rests on: VERY_LONG, LONG, OFTEN
+--   met by: `mourned`: handles of three dead clients
+--   fault: references to an object told dead
+-- H4 maybe: Taken more than once, and still held.
+--   next: the code that takes it: each acquire needs a release
+--   met by: `sessions`: three of six references are kept
+--   fault: references taken more than once
+-- H5 maybe: Nearly all handles that came this way from one process are kept.
+--   next: what the process does with what it gets this way: nothing lets go of it
+--   rests on: MANY, NEARLY_ALL, MOST
+--   met by: `hello-sessions`: a client keeps six sessions
+--   fault: references kept
+-- H6 normal: Still held, and nothing says that this is too long.
+--   met by: `cache()`: most kept handles are in use
+-- H7 normal: Taken and let go of.
+--   met by: `handles_and_nodes()`
+-- H8 maybe: Kept, and not used, for over {OLD} times as long as any handle of its way that was let go of.
+--   next: what became different for those that are kept: an error, or a caller that left
+--   rests on: MANY, OFTEN, OLD, LONG, LATELY
+--   met by: `one_in_ten()`: one handle of ten is kept
+--   fault: references kept
+--   where frames are missing: M1
+-- H9 maybe: Its process holds more and more that came this way, up to the end.
+--   next: what the process does with what it gets this way, and whether its number has a bound
+--   rests on: MANY, GROWTH, LATELY
+--   met by: `more_and_more()`: a leak of used handles
+--   fault: references kept
+--   where frames are missing: M1
+-- H10 real: {TOO_MANY} or more that came this way are kept and not used, and they become more up to the end.
+--   next: what the process does with what it gets this way: nothing lets go of it
+--   rests on: TOO_MANY, MANY, NEARLY_ALL, GROWTH, LATELY
+--   met by: `more_and_more()`: a client keeps three more in each quarter
+--   fault: references kept
+--   where frames are missing: M2
+-- H11 real: {TOO_MANY} or more references to it were taken and not let go of, and they become more up to the end.
+--   next: the code that takes it again and again: each acquire needs a release
+--   rests on: TOO_MANY, GROWTH, LATELY
+--   met by: `more_references()`: eight more in the last half
+--   fault: references taken more than once
+--   where frames are missing: H4
+
+-- ---- what they say of which finding
 
 -- The proxies of the dead go with the next collection of garbage: one is held for long after :VERY_LONG, and several
 -- after :LONG.

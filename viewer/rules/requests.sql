@@ -3,6 +3,24 @@
 --   process; records.sql: dead_record; ages.sql: begun
 -- makes: temporary tables: knows_handle, still_held, second_request; indexes: second_request_of
 
+-- ---- what findings are called
+
+-- requests are called: requests for deaths
+
+-- ---- the rules
+
+-- D1 explained: Nothing of the handle is held any more: the driver has dropped the request.
+--   met by: `request_left()`: the handle is released
+-- D2 maybe: A second request of a handle, which the driver does not take.
+--   next: the first request, whose place is in the note: it still holds
+--   met by: `deaths`: `asked-twice` asks a second time
+--   fault: second requests for a death
+--   title: of its section
+-- D5 normal: No death was told: it waits for one.
+--   met by: `request_left()`: the handle is held
+
+-- ---- what they say of which finding
+
 -- A process that was met in mid-life may hold the handle from before. Of one that a flight recorder met in a file that
 -- was removed, the side list has the handles.
 CREATE TEMP TABLE knows_handle AS

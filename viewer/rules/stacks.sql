@@ -3,6 +3,7 @@
 -- and buffers its threads write later, in whatever call comes next.
 -- needs: database/schema.sql: finding, raw_call, raw_delivery, raw_generation, raw_object, raw_record, raw_send,
 --   raw_thread, side_call; freeze_facts.sql: freeze_record; records.sql: dead_record
+-- after: defects.sql
 -- makes: tables: finding_stack; temporary tables: tells
 
 CREATE TEMP TABLE tells AS

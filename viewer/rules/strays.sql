@@ -3,6 +3,31 @@
 --   begun, process_life; rule.sql: lossy
 -- makes: temporary tables: first_crossed, begun_call; indexes: first_crossed_of
 
+-- ---- what findings are called
+
+-- strays are called: closers of no call
+
+-- ---- the rules
+
+-- S1 real: The driver refused a send, one of several in one write.
+--   next: the sends of that write: the refused one was lost, the others were not
+--   met by: `sends`: the second of two oneway sends is refused
+--   fault: sends that were refused
+--   where frames are missing: M3
+-- S2 real: A reply without a call, which the driver refused.
+--   next: the code of the server that replies: it replies twice, or to a oneway transaction
+--   met by: `double-reply`: a service replies twice
+--   fault: replies without a call
+--   where frames are missing: M3
+-- S3 explained: Shifted by one, after a crossed call of its thread.
+--   met by: `after_a_crossed_call()`
+-- S4 real: It fits nothing that its thread did.
+--   next: what the thread did before: which call it takes this for an answer to
+--   met by: `answer_to_nothing()`: of a process met from the start
+--   where frames are missing: M1
+
+-- ---- what they say of which finding
+
 CREATE TEMP TABLE first_crossed AS
 SELECT utid, min(closer) AS closer FROM raw_call
 WHERE verdict = 4 AND EXISTS (SELECT 1 FROM finding WHERE section = 'strays' OR what = 'crossed') GROUP BY utid;

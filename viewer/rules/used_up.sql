@@ -2,7 +2,26 @@
 -- needs: database/schema.sql: finding, raw_call, raw_delivery, raw_record, raw_send, raw_thread, side_time; nodes.sql:
 --   who; ages.sql: process_life; waits.sql: holder, step; pools.sql: full_wait, kept_by, kept_by_method, kept_for;
 --   judging.py: counted, duration
+-- after: calls.sql
 -- makes: temporary tables: usual_wait, told_by_call, used_up
+
+-- ---- what findings are called
+
+-- pools are called: pools that calls use up
+
+-- ---- the rules
+
+-- Q1 real: Calls waited over {VERY_LONG} and {OLD} times as long as usual, while these kept all known loopers busy.
+--   next: the method that the path names: how long it takes, and who calls it so often
+--   rests on: VERY_LONG, NEARLY_ALL, OFTEN, OLD
+--   met by: `calls_wait()`: slow calls keep the only looper busy, one after another
+--   where frames are missing: M2
+-- Q2 maybe: Calls waited over {VERY_LONG}, while these kept all known loopers of the server busy.
+--   next: the method that the path names: how long it takes
+--   rests on: VERY_LONG, NEARLY_ALL
+--   met by: `two_loopers()`: one call waited
+
+-- ---- what they say of which finding
 
 -- The median of the waits of all calls to these servers.
 CREATE TEMP TABLE usual_wait AS

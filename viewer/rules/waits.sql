@@ -2,6 +2,7 @@
 -- needs: database/schema.sql: book_call, book_open, book_process, finding, raw_call, raw_process, raw_record, raw_send,
 --   raw_thread, side_calls, side_thread, side_time; database/views.sql: came_to, process, sent_to, thread; records.sql:
 --   from_before; ages.sql: last, life, old, process_life; judging.py: call_name, duration
+-- after: counts.sql
 -- makes: temporary tables: waits, few, waits_for, main_thread, ring_step, ring, lock_step, lock_way, lock_ring,
 --   serves_on, queued, loop, taker, taken, came, holder, pool, full_pool, step, waited; indexes: waits_id,
 --   waits_process, waits_place, waits_thread, waits_server, waits_delivery, next_wait, ring_step_from, lock_step_from,

@@ -1,11 +1,12 @@
 -- The defects of a capture, the strongest first: how many findings each has, of all that took their paths, and what is
 -- said of the first one of its strongest verdict. What is explained counts only in a defect that has nothing else.
--- needs: database/schema.sql: finding; rules/rule.sql: rule; rules/defects.sql: defect, finding_defect
+-- needs: database/schema.sql: finding; rules/rule.sql: rule; rules/defects.sql: defect, finding_defect;
+--   rules/judging.py: rank_of
 -- makes: columns: id, kind, who, path, call, verdict, n, n_all, waiting, rules, age, place, own_path, note
 WITH each AS (
   SELECT *, max(min(rank) OVER (PARTITION BY defect), 2) AS least
   FROM (SELECT x.defect, f.id, f.section, f.upid, f.place, f.path, f.n_all, f.waiting, f.age, f.rule, f.note, r.verdict,
-      CASE r.verdict WHEN 'real' THEN 1 WHEN 'maybe' THEN 2 ELSE 3 END AS rank
+      rank_of(r.verdict) AS rank
     FROM finding_defect x JOIN finding f ON f.id = x.finding JOIN rule r ON r.id = f.rule)),
 counted AS (SELECT * FROM each WHERE rank <= least),
 leading AS (SELECT *, row_number() OVER (PARTITION BY defect ORDER BY rank, place, id) AS nth FROM counted),

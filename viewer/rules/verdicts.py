@@ -1,0 +1,4 @@
+"""The verdicts, the strongest one first."""
+
+VERDICTS = ("real", "maybe", "explained", "normal")
+RANKS = {verdict: rank for rank, verdict in enumerate(VERDICTS, 1)}
