@@ -73,7 +73,7 @@ case $service in
     _arguments \
       '(- *)--help[say what the words mean]' \
       '(- *)--version[say what the programs are made of]' \
-      '*:.aidl or .hal file, or folder:_files'
+      '*:.aidl, .hal or C++ file, or folder:_files'
     ;;
   binder-record)
     local at=${words[(i)--]}

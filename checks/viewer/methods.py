@@ -8,7 +8,8 @@ What must hold:
 - The table of method_sources/ is the stored one, method_sources/table.txt.
 - No source is misread in silence: sources with strange names, with comments, strings or brackets that do not end, with
   ids that do not fit, and others are refused, with file and line; a source that is cut anywhere is refused, or gives no
-  interface or the whole one.
+  interface or the whole one. An interface in C++ that is not certain is left out, with file and line; nothing keeps
+  the reader of C++ for long.
 - Two sources that disagree are refused. So is a parent that no source has.
 
 With --compilers:
@@ -27,12 +28,13 @@ import pathlib
 import random
 import re
 import subprocess
+import time
 from typing import Iterable, Iterator
 
 from checks.kit.checking import check
 from checks.kit.programs import CHECKS, PACKAGED
 from checks.kit.runs import answer, at_once
-from viewer.methods import hal
+from viewer.methods import cpp, hal
 from viewer.methods.aidl import Aidl
 from viewer.methods.every import ADDED, BASE, OF_BASE
 from viewer.methods.sources import Interface, Wrong
@@ -110,6 +112,20 @@ WRONG_HAL = {
                                 "the code of pong of android.hidl.base@1.0::IBase is not known")}
 
 
+# What is said of the interfaces in C++ that are left out.
+LEFT_OUT = (
+    "10: check.hand.IConditional has an enum at cpp/forms.h:37 whose codes can't be read for certain",
+    "11: check.hand.ITwice has enums of codes at cpp/forms.h:48 and cpp/forms.h:49",
+    "12: check.hand.IReckoned has an enum at cpp/forms.h:54 whose codes can't be read for certain",
+    "13: check.hand.ILate has an enum at cpp/forms.h:59 whose codes can't be read for certain",
+    "14: check.hand.IClash has an enum at cpp/forms.h:64 whose codes can't be read for certain",
+    "15: check.hand.ILonely has no enum of codes that is certainly its own",
+    "16: INamed has a name that is no string")
+
+# What must not keep the reader of C++ for long: much that does not end.
+ENDLESS = ("/* ", 'R"(', "enum {", "enum ", "class A : ", "class A {", "{", '"', "IMPLEMENT_META_INTERFACE(", "#\\\n")
+
+
 def aidl_of(text: str, name: str = "f") -> list[Interface]:
     reader = Aidl(name, text)
     reader.read()
@@ -153,6 +169,31 @@ def cut_wrongly(step: int) -> Iterator[str]:
                 yield f"{path.name} cut after {length} characters gives {came}"
 
 
+def by_hand(texts: dict[str, str]) -> list[Interface]:
+    return cpp.interfaces_of(cpp.Source(name, text) for name, text in texts.items())[0]
+
+
+def cut_by_hand_wrongly(step: int) -> Iterator[str]:
+    """The cut sources in C++ that give an interface with other methods than the whole ones. Cut between two classes, a
+    header is one of fewer classes."""
+    texts = {path.name: path.read_bytes().decode() for path in sorted(SOURCES.rglob("cpp/*"))}
+    whole = by_hand(texts)
+    for name, text in texts.items():
+        for length in range(0, len(text), step):
+            for one in by_hand(texts | {name: text[:length]}):
+                if one not in whole and one.name != "check.forms.ISome":
+                    yield f"{name} cut after {length} characters gives {one}"
+
+
+def slow_by_hand() -> Iterator[str]:
+    """What keeps the reader of C++ too long: an effort with the square of the length takes minutes."""
+    for what in ENDLESS:
+        began = time.process_time()
+        by_hand({"f": what * (100_000 // len(what))})
+        if (took := time.process_time() - began) > 5:
+            yield f"100 kB of {what!r} took {took:.1f} s"
+
+
 # ---- the program
 
 
@@ -164,6 +205,7 @@ def ran(folder: pathlib.Path, *words: str) -> tuple[int, str, str]:
 def answered_wrongly(room: pathlib.Path) -> Iterator[str]:
     """The command lines that are not answered as they should be."""
     stored = (SOURCES / "table.txt").read_text("utf-8")
+    outside = "".join(line for line in stored.splitlines(True) if "cpp/outside.cpp" in line)
     for folder, texts in {
             "disagree": {"a.aidl": IN + "void a(); }", "b.aidl": IN + "\nvoid b(); }"},
             "ends": {"a.aidl": IN + "// a\r void wrong();\rvoid wrong();\nvoid b(); }"},
@@ -172,7 +214,7 @@ def answered_wrongly(room: pathlib.Path) -> Iterator[str]:
                         "J.hal": "package p@1.0;\nimport q@1.0;\ninterface J extends I { b(); };"},
             "agree": {"a.aidl": IN + "void a(); }", "b.aidl": IN + "void a();\nvoid b(); }",
                       "c.aidl": "interface q.J;"},
-            "empty": {"a.txt": IN},
+            "empty": {"a.txt": IN, "a.cpp": "enum { ONE = IBinder::FIRST_CALL_TRANSACTION };"},
             "bytes": {"a.aidl": b"package p;\n\n// \xff\ninterface I { void a(); }"},
             "name\u202e": {"a.aidl": IN + "}"}}.items():
         (room / folder).mkdir()
@@ -182,14 +224,16 @@ def answered_wrongly(room: pathlib.Path) -> Iterator[str]:
     os.mkfifo(room / "agree/d.aidl")
     added = "".join(f"p.I\t{code}\t{name}\t-\n" for name, code in ADDED.items())
     lines = (
-        (SOURCES, ("aidl", "hal"), (0, stored, "")),
+        (SOURCES, ("aidl", "cpp", "hal"),
+         (0, stored, "".join(f"cpp/forms.cpp:{what}: left out\n" for what in LEFT_OUT))),
+        (SOURCES, ("cpp/forms.h", "cpp/outside.cpp"), (0, outside, "")),
         (room, ("disagree",), (1, "", "disagree/b.aidl:4: code 1 of p.I is b here, and a at disagree/a.aidl:3\n")),
         (room, ("agree",), (0, "p.I\t1\ta\tagree/a.aidl:3\np.I\t2\tb\tagree/b.aidl:4\n" + added,
                             "agree/d.aidl: left out, as it is no file\n"
                             "agree/c.aidl:1: q.J has no body here: left out\n")),
         (room, ("ends",), (0, "p.I\t1\tb\tends/a.aidl:4\n" + added, "")),
-        (room, ("empty",), (1, "", "no .aidl or .hal file in empty\n")),
-        (room, ("empty/a.txt",), (1, "", "empty/a.txt:1: neither .aidl nor .hal\n")),
+        (room, ("empty",), (1, "", "no .aidl or .hal file in empty, nor C++ that declares an interface\n")),
+        (room, ("empty/a.txt",), (1, "", "empty/a.txt:1: neither .aidl nor .hal, nor C++\n")),
         (room, ("bytes",), (1, "", "bytes/a.aidl:3: not UTF-8\n")),
         (room, ("name\u202e",), (1, "", "name\\x202e/a.aidl:1: the name has a sign that can't be printed\n")),
         (room, ("tab\t.aidl",), (1, "", "tab\\x09.aidl:1: the name has a sign that can't be printed\n")),
@@ -378,7 +422,9 @@ def mutants_wrongly(folder: pathlib.Path, room: pathlib.Path, count: int) -> Ite
 
 
 def judge(given: argparse.Namespace, room: pathlib.Path, _: object) -> Iterator[str]:
-    yield from (*refused_wrongly(), *cut_wrongly(1 if given.compilers else 11), *answered_wrongly(room))
+    step = 1 if given.compilers else 11
+    yield from (*refused_wrongly(), *cut_wrongly(step), *cut_by_hand_wrongly(step), *slow_by_hand(),
+                *answered_wrongly(room))
     if given.compilers:
         folder = given.compilers.resolve()
         fetched(folder)

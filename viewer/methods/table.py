@@ -4,9 +4,10 @@
     viewer/methods/table.py SOURCE...
     viewer/methods/table.py --version
 
-SOURCE... are .aidl and .hal files, and folders, in which it takes all of them. It writes to standard output a line for
-each method, in the order of interfaces and codes, with four fields separated by tabs: interface (as calls name it),
-code, method, and source (file and line, or `-` if it is in no source).
+SOURCE... are .aidl and .hal files, sources of C++ (.h, .hpp, .cc and .cpp), and folders, in which it takes all of them,
+but of C++ only what declares an interface. It writes to standard output a line for each method, in the order of
+interfaces and codes, with four fields separated by tabs: interface (as calls name it), code, method, and source (file
+and line, or `-` if it is in no source).
 
 docs/VIEW.md explains the codes. What is left out is told on standard error. --version writes of which commit the
 programs are.
@@ -30,7 +31,7 @@ need_whole_python(called("methods"))
 from viewer import terminal  # noqa: E402
 from viewer.command_line import Words  # noqa: E402
 from viewer.files import Stopped  # noqa: E402
-from viewer.methods import hal  # noqa: E402
+from viewer.methods import cpp, hal  # noqa: E402
 from viewer.methods.aidl import Aidl  # noqa: E402
 from viewer.methods.sources import Interface, Method, Wrong  # noqa: E402
 
@@ -43,8 +44,12 @@ def fail(error: OSError) -> NoReturn:
     raise error
 
 
+OF_CPP = (".h", ".hpp", ".cc", ".cpp")
+
+
 def files_of(words: Iterable[str]) -> Iterator[str]:
-    """The files that are named, or lie in a folder that is, each folder in the order of names."""
+    """The files that are named, or lie in a folder that is, each folder in the order of names. Of C++ in a folder only
+    those that declare an interface."""
     for word in words:
         if not os.path.isdir(word):
             yield word
@@ -58,13 +63,18 @@ def files_of(words: Iterable[str]) -> Iterator[str]:
                         yield path
                     else:
                         tell(f"{path}: left out, as it is no file")
+                elif name.endswith(OF_CPP) and os.path.isfile(path) and cpp.MARK in pathlib.Path(path).read_bytes():
+                    yield path
 
 
 def text_of(file: str) -> str:
-    """The text of a source. A name that can't be a field of the table, or has signs that show nothing, is refused."""
+    """The text of a source. A name that can't be a field of the table, or has signs that show nothing, is refused. C++
+    may have comments in any encoding."""
     if not file.isprintable():
         raise Wrong(file, 1, "the name has a sign that can't be printed")
     data = pathlib.Path(file).read_bytes()
+    if file.endswith(OF_CPP):
+        return data.decode(errors="replace")
     try:
         return data.decode()
     except UnicodeDecodeError as error:
@@ -72,24 +82,34 @@ def text_of(file: str) -> str:
 
 
 def interfaces_of(files: Iterable[str]) -> Iterator[Interface]:
-    """The interfaces of all files. Those of .hal come last, as each needs its parents."""
+    """The interfaces of all files. Those of .hal come after those of .aidl, as each needs its parents; and those of C++
+    last, as C++ may be what a compiler made of AIDL, which goes before."""
     owns: list[hal.Own] = []
+    sources: list[cpp.Source] = []
+    of_aidl: set[str] = set()
     for file in files:
         if file.endswith(".aidl"):
             aidl = Aidl(file, text_of(file))
             aidl.read()
             for what in aidl.skipped:
                 tell(f"{what}: left out")
+            of_aidl.update(one.name for one in aidl.found)
             yield from aidl.found
         elif file.endswith(".hal"):
             source = hal.Hal(file, text_of(file))
             source.read()
             owns += source.found
+        elif file.endswith(OF_CPP):
+            sources.append(cpp.Source(file, text_of(file)))
         else:
             os.stat(file)  # a file that is not there is told as such
-            raise Wrong(file, 1, "neither .aidl nor .hal")
+            raise Wrong(file, 1, "neither .aidl nor .hal, nor C++")
     if owns:
         yield from hal.with_parents(owns)
+    by_hand, left_out = cpp.interfaces_of(sources)
+    for what in left_out:
+        tell(f"{what}: left out")
+    yield from (one for one in by_hand if one.name not in of_aidl)
 
 
 def table_of(interfaces: Iterable[Interface]) -> dict[tuple[str, int], Method]:
@@ -117,7 +137,7 @@ def main() -> int:
     try:
         files = list(files_of(words))
         if not files:
-            tell(f"no .aidl or .hal file in {' '.join(words)}")
+            tell(f"no .aidl or .hal file in {' '.join(words)}, nor C++ that declares an interface")
             return 1
         table = table_of(interfaces_of(files))
         signal.signal(signal.SIGPIPE, signal.SIG_DFL)
