@@ -39,11 +39,24 @@ for source in "$here"/*.c; do
   if [[ $source != *.bpf.c ]]; then sources+=("$source"); fi
 done
 
-# The names of files in the program do not depend on the folder of the sources.
-(cd -- "$here" && clang -O2 -g -fdebug-compilation-dir=. -target bpf -mcpu=v3 "-D__TARGET_ARCH_$target" \
-  "-I/usr/include/$machine-linux-gnu" "-I/usr/$machine-linux-gnu/include" -Wall -Werror \
-  -c record.bpf.c -o "$folder/record.bpf.o")
-bpftool gen skeleton "$folder/record.bpf.o" name record >"$folder/record.skel.h"
+# The names of files in the programs do not depend on the folder of the sources.
+compile_programs() { # NAME OPTION..: those for the kernel, and their skeleton
+  (cd -- "$here" && clang -O2 -g -fdebug-compilation-dir=. -target bpf -mcpu=v3 "-D__TARGET_ARCH_$target" \
+    "-I/usr/include/$machine-linux-gnu" "-I/usr/$machine-linux-gnu/include" -Wall -Werror "${@:2}" \
+    -c record.bpf.c -o "$folder/$1.bpf.o")
+  bpftool gen skeleton "$folder/$1.bpf.o" name "$1" >"$folder/$1.skel.h"
+}
+
+variables_of() { # NAME
+  sed -n "s/struct $1__/struct /; /^\tstruct [a-z]* {/,/^\t}/p" "$folder/$1.skel.h"
+}
+
+compile_programs record
+compile_programs older -DOLDER_KERNELS
+# One skeleton opens both (kernel.c).
+if [[ $(variables_of record) != "$(variables_of older)" ]]; then
+  printf 'record: the programs for older kernels have other variables\n' >&2 && exit 1
+fi
 "$compiler" "${flags[@]}" -std=gnu11 -Wall -Wextra -Werror "-I$here" -isystem "$folder" "${sources[@]}" \
   -o "$folder/record.new" "${link[@]}" -lbpf -lelf -lz -lb2 2>"$folder/errors" ||
   { cat -- "$folder/errors" >&2; exit 1; }

@@ -35,7 +35,7 @@ static __always_inline long read_command(struct command *c, struct task_struct *
 static __noinline int look_at_command(struct opening *o)
 {
 	struct scratch *s = scratch();
-	struct task_struct *task = bpf_get_current_task_btf();
+	struct task_struct *task = current_task();
 	u64 time = bpf_ktime_get_ns(), memory = (u64)BPF_CORE_READ(task, mm);
 	if (!s || !o || (time < o->look_at && memory == o->looked_in))
 		return 0;
@@ -45,7 +45,7 @@ static __noinline int look_at_command(struct opening *o)
 	if (!is_away && (!o->has_command || sum != o->command)) {
 		c->head.type = MESSAGE_COMMAND;
 		c->head.direction = 0;
-		c->head.number = last_number;
+		c->head.number = LAST(number);
 		c->head.time = time;
 		c->head.opening = o->id;
 		c->head.thread = 0;

@@ -42,7 +42,7 @@ static __always_inline void begin_run(struct scratch *s)
 	s->attached = 0;
 }
 
-static long try_chunk(u32 i, void *unused)
+STEP(try_chunk)
 {
 	struct scratch *s = scratch();
 	if (!s)
@@ -53,7 +53,7 @@ static long try_chunk(u32 i, void *unused)
 	return s->failed == 0 || bpf_ktime_get_ns() > s->until;
 }
 
-static long try_call(u32 i, void *unused)
+STEP(try_call)
 {
 	struct scratch *s = scratch();
 	if (!s)
@@ -72,7 +72,7 @@ static __noinline int read_call(u64 call)
 	begin_run(s);
 	if (!read_memory(&s->call, sizeof s->call, call))
 		return 0;
-	bpf_loop(TRIES, try_call, 0, 0);
+	LOOP(TRIES, try_call);
 	return s->failed != 0;
 }
 
@@ -84,7 +84,7 @@ static __noinline int read_chunk(u64 from, u32 bytes)
 		return 1;
 	s->from = from;
 	s->length = bytes;
-	bpf_loop(TRIES, try_chunk, 0, 0);
+	LOOP(TRIES, try_chunk);
 	return s->failed != 0;
 }
 
@@ -164,7 +164,7 @@ static __always_inline int copy_full_piece(struct attachment *a, u64 from)
 }
 
 /* Copies one piece of a large attachment. */
-static long copy_piece(u32 i, void *context)
+STEP(copy_piece)
 {
 	struct scratch *s = scratch();
 	u32 id = bpf_get_current_pid_tgid();
@@ -222,7 +222,7 @@ static __noinline int attach(struct thread *t)
 	if (data < CHUNK && offsets < CHUNK && data + offsets <= CHUNK)
 		return copy_whole(t);
 	a->at = a->failed = 0;
-	bpf_loop(MOST_AT_ONCE / CHUNK + 2, copy_piece, 0, 0);
+	LOOP(MOST_AT_ONCE / CHUNK + 2, copy_piece);
 	return a->failed;
 }
 
@@ -262,7 +262,7 @@ static __always_inline int has_data(u32 direction, u32 word)
 /* ---- a write: its bytes are copied at entry, and those beyond some chunks when the driver comes to them */
 
 /* Copies one more chunk of the write, or what can be read of it. */
-static long copy_commands(u32 i, void *unused)
+STEP(copy_commands)
 {
 	struct scratch *s = scratch();
 	u32 id = bpf_get_current_pid_tgid();
@@ -315,7 +315,7 @@ static __noinline int copy_write(struct thread *t, u64 taken, u32 try_again)
 	s->taken = taken;
 	s->try_again = try_again;
 	s->failed = 0;
-	bpf_loop(RUN_CHUNKS, copy_commands, 0, 0);
+	LOOP(RUN_CHUNKS, copy_commands);
 	return s->failed;
 }
 
@@ -374,7 +374,7 @@ static __always_inline void attach_late(struct thread *t, u64 end)
 /* ---- a read: all its bytes are copied at return */
 
 /* Looks at one record of the chunk. Ends the walk before a record that is not whole in the chunk. */
-static long copy_record(u32 i, void *unused)
+STEP(copy_record)
 {
 	struct scratch *s = scratch();
 	u32 id = bpf_get_current_pid_tgid();
@@ -406,9 +406,10 @@ static long copy_record(u32 i, void *unused)
 		say_unattached(t, reason);
 	return t->is_over != 0;
 }
+MANY_STEPS(copy_record)
 
 /* Copies one chunk of the read, which ends with a whole record while its records are looked at. */
-static long copy_returns(u32 i, void *unused)
+STEP(copy_returns)
 {
 	struct scratch *s = scratch();
 	u32 id = bpf_get_current_pid_tgid();
@@ -427,7 +428,7 @@ static long copy_returns(u32 i, void *unused)
 	/* Before attachments have used up what the call may take at first. */
 	int has_room = take_room(t, w->bytes);
 	if (!t->is_over)
-		bpf_loop(CHUNK / CODE_WORD, copy_record, 0, 0);
+		LOOP_MANY(CHUNK / CODE_WORD, copy_record);
 	u32 done = t->is_over || is_last ? w->bytes : w->at;
 	c->commands = w->bytes;
 	c->base = w->base;
@@ -462,7 +463,7 @@ static __noinline int copy_read(struct thread *t, u64 from, u64 bytes, u64 numbe
 	h->time = bpf_ktime_get_ns();
 	h->opening = t->opening;
 	h->thread = t->id;
-	bpf_loop(MOST_CHUNKS, copy_returns, 0, 0);
+	LOOP(MOST_CHUNKS, copy_returns);
 	return w->failed ? w->failed : w->left ? REASON_TOO_LARGE : 0;
 }
 #endif

@@ -10,9 +10,11 @@
 #include <bpf/libbpf.h>
 #include <errno.h>
 #include <stdio.h>
+#include <stdlib.h>
 #include <string.h>
 #include <sys/wait.h>
 #include <unistd.h>
+#include "older.skel.h"
 #include "record.skel.h"
 
 #define MOST_LINKS (8 * DRIVERS)
@@ -20,6 +22,7 @@
 static struct record *program;
 static struct bpf_link *links[MOST_LINKS];	/* to the drivers */
 static u32 link_count;
+static struct ring tickets[2];	/* by which older kernels give numbers: of frames, and of all else; see helped.bpf.h */
 static u64 end_number = UINT64_MAX;	/* with which the recording has ended */
 static char last_words[512];
 
@@ -160,11 +163,30 @@ static int attach_to_drivers(void)
 	return error;
 }
 
+/* The programs for older kernels have the same names and variables: build.sh compares them. Returns NULL after an
+ * error. */
+static struct record *open_program(int is_older)
+{
+	struct record *opened = calloc(1, sizeof *opened);
+	if (!opened || record__create_skeleton(opened)) {
+		free(opened);
+		return NULL;
+	}
+	if (is_older)
+		opened->skeleton->data = (void *)older__elf_bytes(&opened->skeleton->data_sz);
+	if (!bpf_object__open_skeleton(opened->skeleton, NULL))
+		return opened;
+	int error = errno;
+	record__destroy(opened);
+	errno = error;
+	return NULL;
+}
+
 /* Returns 0, or an error. */
-static int load(const struct options *options, int looks_at_preemption)
+static int load(const struct options *options, int is_older, int looks_at_preemption)
 {
 	last_words[0] = 0;
-	program = record__open();
+	program = open_program(is_older);
 	if (!program)
 		fail_to_load("open the recorder's program", errno);
 	set_up(options);
@@ -175,14 +197,22 @@ static int load(const struct options *options, int looks_at_preemption)
 	return error;
 }
 
+/* Only the programs for older kernels have such rings. Returns 0, or an error. */
+static int open_tickets(const char *name, struct ring *to)
+{
+	struct bpf_map *map = bpf_object__find_map_by_name(program->obj, name);
+	return map ? ring_open(to, bpf_map__fd(map), bpf_map__max_entries(map)) : 0;
+}
+
 void kernel_load(const struct options *options, struct ring *ring)
 {
 	libbpf_set_print(keep_words);
 	if (libbpf_num_possible_cpus() > (int)MOST_CPUS)
 		fail("the recorder is made for at most %u processors", MOST_CPUS);
-	int error = load(options, 1);
-	if (error)		/* perhaps kallsyms has no variables, and so not the count of preemption */
-		error = load(options, 0);
+	int is_older = kernel_is_older();
+	int error = load(options, is_older, !is_older);	/* an older one turns preemption off at tracepoints */
+	if (error && !is_older)	/* perhaps kallsyms has no variables, and so not the count of preemption */
+		error = load(options, 0, 0);
 	if (error)
 		fail_to_load("load the recorder's program", error);
 	name_wanted(options);
@@ -194,6 +224,8 @@ void kernel_load(const struct options *options, struct ring *ring)
 	if (error)
 		fail_to_load("attach the recorder's program", error);
 	error = ring_open(ring, bpf_map__fd(program->maps.ring), options->ring);
+	error = error ? error : open_tickets("tickets_of_number", &tickets[0]);
+	error = error ? error : open_tickets("tickets_of_opening", &tickets[1]);
 	if (error)
 		fail_to_load("map the ring", error);
 }
@@ -248,9 +280,23 @@ void kernel_detach(void)
 		bpf_link__destroy(links[--link_count]);
 }
 
+static void forget(const void *message, u64 bytes)
+{
+	(void)message;
+	(void)bytes;
+}
+
+void kernel_make_room(void)
+{
+	for (u32 i = 0; i < 2; i++)
+		if (tickets[i].size)
+			ring_drain(&tickets[i], forget);
+}
+
 u64 kernel_last_number(void)
 {
-	u64 number = __atomic_load_n(&program->bss->last_number, __ATOMIC_SEQ_CST);
+	u64 number = tickets[0].size ? __atomic_load_n(tickets[0].put, __ATOMIC_SEQ_CST) / TICKET_BYTES :
+				       __atomic_load_n(&program->bss->last_number, __ATOMIC_SEQ_CST);
 	return number < end_number ? number : end_number;
 }
 

@@ -15,6 +15,8 @@ void kernel_start(void);
 u64 kernel_stop(void);
 /* From now on that is not reported either. */
 void kernel_detach(void);
+/* Makes room for more numbers, of which older kernels give only so many. */
+void kernel_make_room(void);
 /* The last number that was taken, or the one with which the recording has ended. */
 u64 kernel_last_number(void);
 /* The messages of all numbers up to this one are in the ring, or had no room there. */

@@ -99,6 +99,7 @@ static void tell_ready(FILE *to)
  * written. */
 static long take(struct ring *ring)
 {
+	kernel_make_room();
 	u64 bound = kernel_bound();
 	long count = ring_drain(ring, window_hear);
 	if (count >= 0)

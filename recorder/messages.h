@@ -14,6 +14,7 @@
 #define MOST_OPENINGS 65536u	/* that are recorded at one time, */
 #define SHARE_OF_OPENINGS 1024u	/* and those of one process */
 #define SHARES 32768u		/* processes whose ids differ by a multiple of this have one share together */
+#define TICKET_BYTES 16u	/* of a ring, for each number that an older kernel gives: see helped.bpf.h */
 #define NAME_BYTES 16u
 #define COMMAND_BYTES 256u	/* the most bytes of a command line */
 #define MOST_OF_STACK 64u	/* the most addresses of a stack */

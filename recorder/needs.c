@@ -73,11 +73,20 @@ int kernel_is_before(u32 major, u32 minor)
 	return its_major < major || (its_major == major && its_minor < minor);
 }
 
+int kernel_is_older(void)
+{
+#ifdef __aarch64__
+	return kernel_is_before(5, 18);
+#else
+	return kernel_is_before(5, 17);
+#endif
+}
+
 void need_kernel(void)
 {
 	u32 major, minor;
-	if (kernel_is_before(5, 17))
-		lack("the kernel is %s, and 5.17 or a later one is needed", read_version(&major, &minor).release);
+	if (kernel_is_before(5, 10))
+		lack("the kernel is %s, and 5.10 or a later one is needed", read_version(&major, &minor).release);
 	if (access("/sys/kernel/btf/vmlinux", R_OK))
 		lack("/sys/kernel/btf/vmlinux is not there: a kernel with CONFIG_DEBUG_INFO_BTF is needed, and sysfs");
 }

@@ -11,6 +11,9 @@ void need_space(const char *out, u64 most);
 void need_capabilities(void);
 void need_kernel(void);
 int kernel_is_before(u32 major, u32 minor);
+/* Whether it takes the programs for older kernels: it has no bpf_loop, or on arm64 no atomic addition that says what was
+ * there before. */
+int kernel_is_older(void);
 void need_no_lockdown(void);
 /* Whether the driver is there. */
 int need_driver(void);

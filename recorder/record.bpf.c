@@ -31,7 +31,7 @@ static __always_inline void describe_space(struct opening *o, struct task_struct
 /* Fills in what is known of an opening. `task` belongs to the process that opened it, as far as that is known. */
 static __always_inline void describe(struct opening *o, struct task_struct *task, struct file *file)
 {
-	o->id = __sync_fetch_and_add(&last_opening, 1) + 1;
+	o->id = NEXT(opening);
 	o->memory = (u64)BPF_CORE_READ(task, mm);
 	o->process = BPF_CORE_READ(task, tgid);
 	o->device = BPF_CORE_READ(file, f_inode, i_rdev);
@@ -66,7 +66,7 @@ static __always_inline long keep_opening(struct opening *o, struct task_struct *
 	if (take_share(BPF_CORE_READ(task, tgid)))
 		return 1;
 	describe(o, task, file);
-	long failed = bpf_map_update_elem(&openings, &key, o, BPF_NOEXIST);
+	long failed = IS_GIVEN(o->id) ? bpf_map_update_elem(&openings, &key, o, BPF_NOEXIST) : 1;
 	if (failed)
 		give_share_back(o->process);
 	return failed;
@@ -87,7 +87,7 @@ static __always_inline int begin_opening(struct file *file)
 	if (before)
 		forget_opening(before, key);
 	o.born = 1;
-	keep_opening(&o, bpf_get_current_task_btf(), file);
+	keep_opening(&o, current_task(), file);
 	return 0;
 }
 
@@ -97,7 +97,7 @@ static __always_inline int end_opening(u64 key)
 	if (!o)
 		return 0;
 	if (o->told)
-		say(MESSAGE_CLOSED, 0, o->id, last_number, 0, 0, 0, 0);
+		say(MESSAGE_CLOSED, 0, o->id, LAST(number), 0, 0, 0, 0);
 	forget_opening(o, key);
 	return 0;
 }
@@ -184,14 +184,14 @@ static __noinline int add_thread(struct task_struct *task, u32 id, u32 process)
 	if (!s)
 		return 1;
 	struct thread *t = &s->new_thread;	/* every other field is 0, or is set before it is read */
-	t->id = __sync_fetch_and_add(&last_thread, 1) + 1;
+	t->id = NEXT(thread);
 	t->process = process;
 	t->start = BPF_CORE_READ(task, start_boottime);
 	t->bits = 0;
 	__builtin_memset(t->name, 0, sizeof t->name);
 	bpf_get_current_comm(t->name, sizeof t->name);
 	bpf_map_update_elem(&processes, &process, &one, BPF_ANY);
-	return bpf_map_update_elem(&threads, &id, t, BPF_NOEXIST);
+	return IS_GIVEN(t->id) ? bpf_map_update_elem(&threads, &id, t, BPF_NOEXIST) : 1;
 }
 
 /* Reports the opening and the thread if they are not reported yet. Returns 0 if both are reported. */
@@ -199,10 +199,10 @@ static __noinline int introduce(struct opening *o, struct thread *t, u32 id)
 {
 	if (!o || !t)
 		return 1;
-	if (!o->told && !say(MESSAGE_OPENING, o->born, o->id, last_number, o->device | (u64)o->space << 32,
+	if (!o->told && !say(MESSAGE_OPENING, o->born, o->id, LAST(number), o->device | (u64)o->space << 32,
 			      o->process | (u64)o->id_there << 32, o->start, o->name))
 		o->told = 1;
-	if (!t->told && !say(MESSAGE_THREAD, t->id, o->id, last_number, id | (u64)t->bits << 32, t->process, t->start,
+	if (!t->told && !say(MESSAGE_THREAD, t->id, o->id, LAST(number), id | (u64)t->bits << 32, t->process, t->start,
 			      t->name))
 		t->told = 1;
 	return !o->told || !t->told;
@@ -217,7 +217,7 @@ static __noinline int look_at_name(struct thread *t, u32 id)
 		return 0;
 	__builtin_memcpy(t->name, name, NAME_BYTES);
 	if (t->told)
-		say(MESSAGE_NAME, t->id, t->opening, last_number, id, t->process, 0, name);
+		say(MESSAGE_NAME, t->id, t->opening, LAST(number), id, t->process, 0, name);
 	return 1;
 }
 
@@ -248,6 +248,8 @@ static __noinline int begin_call(struct thread *t, u64 call, u32 told)
 	if (t->write_bytes > MOST_COMMANDS)
 		t->write_bytes = MOST_COMMANDS;
 	t->write_number = take_number();
+	if (!IS_GIVEN(t->write_number))
+		return 0;
 	int reason = told ? copy_write(t, 0, 0) : REASON_RING_FULL;
 	if (reason) {
 		lose(t, t->write_number, reason);
@@ -313,7 +315,7 @@ static __always_inline int enter(struct task_struct *task, struct file *file, u3
 		__sync_fetch_and_add(&half_calls, 1);
 	t->call_is = CALL_NOT_RECORDED;
 	if (command == BINDER_THREAD_EXIT)
-		say(MESSAGE_LEFT, t->id, o->id, last_number, id, process, 0, 0);
+		say(MESSAGE_LEFT, t->id, o->id, LAST(number), id, process, 0, 0);
 	if (command == BINDER_WRITE_READ)
 		begin_call(t, argument, told);
 	return 0;
@@ -380,8 +382,8 @@ SEC("tp") int at_entry(struct ioctl_fields *fields)
 {
 	if (stopped)
 		return 0;
-	struct task_struct *task = bpf_get_current_task_btf();
-	struct pt_regs *registers = (void *)bpf_task_pt_regs(task);
+	struct task_struct *task = current_task();
+	struct pt_regs *registers = registers_of(task);
 	int bits = is_32_bit(task, registers) ? 32 : 64;
 	if (fields->command == WRITE_READ_OF_PROTOCOL_7) {
 		__sync_fetch_and_add(&calls_32_bit, 1);
@@ -473,6 +475,8 @@ static __noinline int end_read(struct thread *t, u64 bytes)
 	if (!t)
 		return 0;
 	u64 number = take_number();
+	if (!IS_GIVEN(number))
+		return 0;
 	int reason = bytes ? copy_read(t, t->read_buffer + t->read_consumed, bytes, number) : REASON_EFAULT;
 	if (reason)
 		lose(t, number, reason);
@@ -484,8 +488,8 @@ static __noinline int end_read(struct thread *t, u64 bytes)
  * its read_consumed was 0, as in all known programs. A thread that has called since is in the table already. */
 static __noinline int meet_return(u32 id, u32 process)
 {
-	struct task_struct *task = bpf_get_current_task_btf();
-	struct pt_regs *registers = (void *)bpf_task_pt_regs(task);
+	struct task_struct *task = current_task();
+	struct pt_regs *registers = registers_of(task);
 	int bits = is_32_bit(task, registers) ? 32 : 64;
 	u64 argument = 0, key;
 	if (command_of_call(registers, bits, &argument) != BINDER_WRITE_READ)
@@ -565,13 +569,13 @@ SEC("tp") int at_return(struct number_fields *fields)
 
 SEC("tp/sched/sched_process_exit") int at_exit(void *fields)
 {
-	struct task_struct *task = bpf_get_current_task_btf();
+	struct task_struct *task = current_task();
 	u64 both = bpf_get_current_pid_tgid();
 	u32 id = both, process = both >> 32;
 	struct thread *t = bpf_map_lookup_elem(&threads, &id);
 	int is_last = BPF_CORE_READ(task, signal, live.counter) == 0;
 	if (t || (is_last && bpf_map_lookup_elem(&processes, &process)))
-		say(MESSAGE_ENDED, t ? t->id : 0, t ? t->opening : 0, last_number, id, process, is_last, 0);
+		say(MESSAGE_ENDED, t ? t->id : 0, t ? t->opening : 0, LAST(number), id, process, is_last, 0);
 	if (t)
 		bpf_map_delete_elem(&threads, &id);
 	if (is_last)
@@ -587,7 +591,7 @@ SEC("tp/sched/sched_process_exec") int at_exec(struct exec_fields *fields)
 	struct thread *t = bpf_map_lookup_elem(&threads, &old);
 	if (old == id || !t)
 		return 0;
-	say(MESSAGE_ENDED, t->id, t->opening, last_number, old, both >> 32, 0, 0);
+	say(MESSAGE_ENDED, t->id, t->opening, LAST(number), old, both >> 32, 0, 0);
 	bpf_map_delete_elem(&threads, &old);
 	return 0;
 }
@@ -610,7 +614,7 @@ static __always_inline int read_preempt_count(int *count)
 #ifdef __TARGET_ARCH_arm64
 static __always_inline int read_preempt_count(int *count)
 {
-	*count = BPF_CORE_READ(bpf_get_current_task_btf(), thread_info.preempt_count);
+	*count = BPF_CORE_READ(current_task(), thread_info.preempt_count);
 	return 1;
 }
 #endif

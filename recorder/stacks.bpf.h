@@ -38,7 +38,7 @@ static __always_inline int wants_stack(const struct thread *t, u32 word)
 /* The kernel follows the frame pointers, and on arm64 takes out the bits that authenticate a return address. */
 static __noinline int take_stack(void *context, struct thread *t)
 {
-	struct task_struct *task = bpf_get_current_task_btf();
+	struct task_struct *task = current_task();
 	u32 cpu = bpf_get_smp_processor_id();
 	struct stack_scratch *s = bpf_map_lookup_elem(&stack_scratches, &cpu);
 	if (!s || !t)

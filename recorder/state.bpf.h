@@ -1,8 +1,7 @@
 /* What the BPF program keeps: its tables, the counter of numbers, and the way of a message into the ring. */
 #ifndef RECORDER_STATE_BPF_H
 #define RECORDER_STATE_BPF_H
-#include "kernel.bpf.h"
-#include "messages.h"
+#include "helped.bpf.h"
 
 struct opening {
 	u32 id;
@@ -116,7 +115,7 @@ const volatile u64 ring_limit = 60 << 20;
 const volatile u32 by_process = 0, by_device = 0, no_attachments = 0;
 
 u32 stopped = 1;		/* no number is taken: the recording has not begun, or has ended (kernel_stop) */
-u64 last_number = 0;
+u64 last_number = 0;		/* these three are NEXT and LAST in helped.bpf.h */
 u32 last_thread = 0, last_opening = 0;
 u64 half_calls = 0;	/* calls of which the entry, a command or the return was not seen */
 u32 preemption = PREEMPTION_NOT_SEEN;
@@ -143,13 +142,18 @@ static __always_inline struct scratch *scratch(void)
 	return bpf_map_lookup_elem(&scratches, &cpu);
 }
 
-/* Takes the next number. The loader reads `last_number` first and `taking` second. So for each number up to what it
- * read that has no message yet, it sees a value in `taking` that is not above the number. */
+/* Takes the next number; 0 if there is none to give. The loader reads the last number first and `taking` second. So for
+ * each number up to what it read that has no message yet, it sees a value in `taking` that is not above the number. */
 static __always_inline u64 take_number(void)
 {
 	u32 cpu = bpf_get_smp_processor_id() & (MOST_CPUS - 1);
-	*(volatile u64 *)&taking[cpu].number = *(volatile u64 *)&last_number + 1;
-	return __sync_fetch_and_add(&last_number, 1) + 1;
+	*(volatile u64 *)&taking[cpu].number = LAST(number) + 1;
+	u64 number = NEXT(number);
+	if (!IS_GIVEN(number)) {
+		__sync_fetch_and_add(&calls_without_room, 1);
+		*(volatile u64 *)&taking[cpu].number = 0;
+	}
+	return number;
 }
 
 /* The message of the number that was taken is in the ring, or had no room there. */
@@ -184,7 +188,7 @@ static __always_inline long say(u32 type, u32 thread, u32 opening, u64 number, u
  * found out later; that a number has no message is seen anyway. */
 static __noinline int lose(struct thread *t, u64 number, u64 reason)
 {
-	if (!t)
+	if (!t || !IS_GIVEN(number))
 		return 0;
 	if (reason == REASON_RING_FULL && bpf_ringbuf_query(&ring, BPF_RB_AVAIL_DATA) > ring_limit + ring_limit / 32)
 		return 0;

@@ -1,8 +1,8 @@
 #!/usr/bin/env bash
 # Checks that the recorder compiles for x86-64 and for arm64, its programs for the kernel too; that the program runs; and
-# that the verifier of this machine's kernel passes the programs for the kernel. It verifies them with the places of
-# fields of this kernel, and of each kernel whose BTF is in systems/: a field that one of them calls differently is
-# refused. What an older verifier refuses is seen on older kernels only: `checks/run driver`.
+# that the verifier of this machine's kernel passes the programs for the kernel, those for older kernels too. It verifies
+# them with the places of fields of this kernel, and of each kernel whose BTF is in systems/: a field that one of them
+# calls differently is refused. What an older verifier refuses is seen on older kernels only: `checks/run driver`.
 #
 #     checks/run compiled
 #
@@ -26,6 +26,14 @@ verify() { # PROGRAMS [BTF]
   esac
 }
 
+programs_of() { # SYSTEM: those that its kernel gets
+  if [[ $(printf '5.17\n%s\n' "$(<"$1/release")" | sort -V | head -n 1) == 5.17 ]]; then
+    printf record
+  else
+    printf older
+  fi
+}
+
 compile() { # MACHINE
   "$root/recorder/build.sh" --machine "$1" "$room/$1" || status=1
 }
@@ -45,12 +53,12 @@ wait
 for machine in "${machines[@]}"; do
   if [[ ! -x $room/$machine/record ]]; then status=1 && continue; fi
   for system in "$here"/systems/*-"$machine"; do
-    verify "$room/$machine/record.bpf.o" "$system/sys/kernel/btf/vmlinux"
+    verify "$room/$machine/$(programs_of "$system").bpf.o" "$system/sys/kernel/btf/vmlinux"
   done
 done
 if [[ -x $room/${machines[0]}/record ]]; then
   "$room/${machines[0]}/record" --help >"$room/help"
-  verify "$room/${machines[0]}/record.bpf.o"
+  for programs in record older; do verify "$room/${machines[0]}/$programs.bpf.o"; done
 fi
 if ((${#untried[@]})); then printf '%s\n' "${untried[@]}" | sort -u; fi
 exit "$status"

@@ -10,7 +10,7 @@
 #     --auditor FILE     a built auditor for the reports; by default that of ./audit
 #     --built CHECKOUT   takes ./audit and ./listing as another checkout has built them from the same sources; by default
 #                        they are built here, which takes long if nothing is proved yet
-#     --kernel SERIES    only 6.1, 6.12 or newest, which is Debian sid's; by default all that the registry has
+#     --kernel SERIES    only 5.10, 6.1, 6.12 or newest, which is Debian sid's; by default all that the registry has
 #     --rust             only a kernel with the driver in Rust, which is built if there is none yet: rust_kernel.sh
 #     --only NAME        only this scenario; may be given several times
 #     --limit SECONDS    how long a guest may take; by default 900
@@ -36,7 +36,7 @@ limit=900 flight=20 room= recorder= auditor= built= append= words_of_recorder=
 store= arm64= rust= sanitize= blind=
 # One thread for all processors: with a thread for each, the kernel 6.12 died of a breakpoint that it had removed.
 acceleration='-accel tcg,thread=single -cpu max'
-series=(6.1 6.12 newest)
+series=(6.1 6.12 newest 5.10)
 only=()
 stored_of_rust=(clean leaks objects deaths oneway before cut fork outsider two-drivers)
 # shellcheck source=checks/recorder/guests.sh
@@ -205,10 +205,17 @@ boot() { # KERNEL PLAN OUT WORDS
   grep -q '^init: done' "$3/console" || stop "the guest did not come to its end: see $3/console"
 }
 
-plan() { # PLAN..: prints the lines of the plans that --only leaves
-  local name how rest
+# Whether it is a scenario that the driver of this kernel can't play.
+lacks() { # KERNEL NAME
+  [[ $1 == 5.10 && $2 == freeze ]]	# BINDER_FREEZE is of 5.12
+}
+
+plan() { # KERNEL PLAN..: prints the lines of the plans that --only leaves, and that the kernel can play
+  local of=$1 name how rest
+  shift
   while read -r name how rest; do
     [[ -z $name || $name == '#'* ]] && continue
+    if lacks "$of" "$name"; then continue; fi
     if ((${#only[@]})) && [[ " ${only[*]} " != *" $name "* ]]; then continue; fi
     if [[ $how == flight ]]; then rest="${rest%% *} $flight"; fi
     printf '%s %s %s\n' "$name" "$how" "$rest"
@@ -260,7 +267,7 @@ whole=$( ((${#only[@]})) || printf whole)
 
 try() { # PLANS OUT WORDS WHOLE: boots the kernel, plays the plans, compares
   # shellcheck disable=SC2086
-  plan $1 >"$room/plan"
+  plan "$one" $1 >"$room/plan"
   [[ -s $room/plan ]] || return 0
   boot "$kernel" "$room/plan" "$room/$2" "$3"
   printf '%s\n' "$3" >"$room/$2/words"
@@ -280,7 +287,7 @@ for one in "${series[@]}"; do
   if ((found == 1)) || [[ $one == newest ]]; then plans='plan.txt plan-clients.txt'; fi
   if [[ -n $rust ]]; then plans+=' plan-rust.txt'; fi
   try "$plans" "out-$one" "$append" "$whole"
-  if ((found == 1)) || [[ $one == newest ]]; then
+  if { ((found == 1)) || [[ $one == newest ]]; } && [[ $one != 5.10 ]]; then	# preempt=full is of 5.12
     try plan-preempt.txt "preempt-$one" "preempt=full $append" ''
   fi
   if [[ -n $store && $one == newest ]]; then
@@ -294,7 +301,8 @@ done
 
 if [[ -n $arm64 ]]; then
   as_machine aarch64
-  fetch_kernel "${series[0]}" || stop "the registry has no kernel ${series[0]} for arm64"
+  one=${series[0]}
+  fetch_kernel "$one" || stop "the registry has no kernel ${series[0]} for arm64"
   build_programs
   build_recorder_for_arm64 || stop 'the recorder for arm64 was not built'
   try plan-arm64.txt "arm64-${series[0]}" "$append" ''

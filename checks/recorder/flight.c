@@ -177,6 +177,7 @@ void kernel_start(void) {}
 void kernel_detach(void) {}
 void kernel_unload(void) {}
 u64 kernel_last_number(void) { return is_stopped ? end_number : last; }
+void kernel_make_room(void) {}
 u64 kernel_bound(void) { return kernel_last_number(); }
 u64 kernel_runs_missed(void) { return missed; }
 u64 kernel_calls_32_bit(void) { return 0; }

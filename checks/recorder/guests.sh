@@ -74,7 +74,7 @@ fetch_kernel() { # SERIES, or newest
     # shellcheck disable=SC2086
     if open_packages "$kernel" "$package" $parts; then return 0; fi
   done < <(apt-cache "${from[@]}" search --names-only "^linux-image-${begin}[0-9.+deb-]*-$architecture\$" |
-    awk '{ print $1 }' | sort -Vr | head -n 4)
+    awk '{ print $1 }' | sort -Vr)
   return 1
 }
 

@@ -3,7 +3,7 @@
 # a system with the kernel of its name: `format` files of tracepoints, some lines of kallsyms and of the functions that
 # can be probed, and of BTF the types that the recorder's programs read, which `checks/run compiled` tries. On each of
 # them nothing may be lacking. Then one tracepoint or field after the other is renamed, moved, of another size or away:
-# each of these systems must be refused in a line that names the file.
+# each of these systems must be refused in a line that names the file. So must one whose kernel is too old.
 #
 #     checks/run systems                             all stored systems: a second
 #     checks/run systems -- --store SERIES [MACHINE] boots Debian's kernel of this series in QEMU, 5.10, 6.1, 6.12 or
@@ -117,7 +117,7 @@ wrong() { # WORD..: says that something is wrong
   status=1
 }
 
-refused() { # SYSTEM FILE WHAT: the changed copy must be refused, by a line that names the file
+refused() { # SYSTEM FILE WHAT: the changed copy must be refused, by a line that has the file, or these words
   local said
   if said=$("$room/systems" "$room/changed" 2>&1); then
     wrong "${1##*/}: with $3, nothing is lacking"
@@ -149,12 +149,12 @@ for system in "$here"/systems/*/; do
   system=${system%/}
   due='driver in C: its own functions are probed'
   if [[ $system == */rust-* ]]; then due='driver in Rust: functions of the kernel are probed'; fi
-  if [[ $system == */5.10-* ]]; then
-    due="record: the kernel is $(<"$system/release"), and 5.17 or a later one is needed"$'\n'$due
-  fi
   said=$("$room/systems" "$system" 2>&1) || true
   [[ $said == "$due" ]] || wrong "${system##*/}: $said"
   rm -rf -- "$room/changed" && cp -R -- "$system" "$room/changed"
+  chmod u+w "$room/changed/release" && printf '5.9.16-amd64\n' >"$room/changed/release"
+  refused "$system" 'the kernel is 5.9.16-amd64, and 5.10 or a later one is needed' 'kernel 5.9'
+  cp -- "$system/release" "$room/changed/"
   formats=("$system"/sys/kernel/tracing/events/*/*/format)
   ((${#formats[@]} == 6)) || wrong "${system##*/}: it has ${#formats[@]} formats"
   for format in "${formats[@]}"; do

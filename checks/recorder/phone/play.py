@@ -230,14 +230,6 @@ def no_bpf(stage: Stage) -> None:
     stage.nothing_left()
 
 
-def old_kernel(stage: Stage) -> None:
-    """A kernel that is too old is said."""
-    came = stage.record(stage.serials[0])
-    stage.must(f"the kernel is not said to be old: {came.said}", came.status == 1 and re.search(
-        r"^record: the kernel is 5\.10\.\S+, and 5\.17 or a later one is needed$", came.said, re.MULTILINE) is not None)
-    stage.nothing_left()
-
-
 def services_named(stage: Stage, name: str) -> set[str]:
     database = stage.given.out / f"{name}.db"
     stage.view(name, "--database", str(database))
@@ -375,7 +367,7 @@ def fetched_wrong(stage: Stage) -> None:
 # The order in which they are played; those of OTHERS only if they are named.
 SCENES = [no_device, two_devices, other_version, no_root, by_su, other_machine, no_btf, session, no_names, cable,
           detached, full, no_byte, no_room, fetched_wrong, older_adb]
-OTHERS = [no_bpf, old_kernel]
+OTHERS = [no_bpf]
 # These need commands of a folder of their own, in place of which the shell of busybox takes those that it has itself.
 NOT_OF_BUSYBOX = [by_su, other_machine]
 
