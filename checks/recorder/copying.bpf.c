@@ -1,8 +1,6 @@
 /* The recorder's programs in the kernel, with others that run parts of them without a driver. See copying. */
 #include "record.bpf.c"
 
-struct number_fields;
-
 /* Where the caller has what is copied, and how long the last run took. */
 u64 commands_from = 0, returns_from = 0, returns_bytes = 0, took = 0;
 u32 first_word = 0, reason_of_loss = 0;
@@ -106,6 +104,41 @@ SEC("raw_tp/played") int play_open(void *unused)
 SEC("raw_tp/played") int play_release(void *unused)
 {
 	return end_opening(played_file);
+}
+
+/* ---- numbers, which several processors take at once */
+
+#define MOST_NUMBERS (1u << 21)
+#define AT_ONCE 512
+
+/* How often each number was given. */
+struct {
+	__uint(type, BPF_MAP_TYPE_ARRAY);
+	__uint(max_entries, MOST_NUMBERS);
+	__uint(map_flags, BPF_F_MMAPABLE);
+	__type(key, u32);
+	__type(value, u64);
+} given SEC(".maps");
+u64 falling = 0;	/* how often a processor got a number that was not above the one before */
+
+STEP(take_one)
+{
+	u32 cpu = bpf_get_smp_processor_id() & (MOST_CPUS - 1), number = take_number();
+	u64 *times = bpf_map_lookup_elem(&given, &number);
+	if (number && number <= taking[cpu].unused[0])
+		__sync_fetch_and_add(&falling, 1);
+	if (number)
+		taking[cpu].unused[0] = number;
+	if (times)
+		__sync_fetch_and_add(times, 1);
+	number_is_told();
+	return 0;
+}
+
+SEC("raw_tp/played") int play_numbers(void *unused)
+{
+	LOOP(AT_ONCE, take_one);
+	return 0;
 }
 
 /* ---- the longest runs */

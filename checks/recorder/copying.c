@@ -334,6 +334,74 @@ static void play_openings(void)
 	should_have("after all are closed", 0, 0);
 }
 
+/* ---- numbers: each is given once, none is left out, and a processor gets rising ones */
+
+enum { TAKERS = 4, RUNS = 300, AT_ONCE = 512, MOST_NUMBERS = 1 << 21, TICKETS = 1 << 20 };
+
+static struct ring tickets;		/* of older kernels */
+static u32 takers;
+
+static void make_room(void)
+{
+	if (tickets.size)
+		ring_drain(&tickets, count);
+}
+
+static void take_numbers(u32 runs)
+{
+	for (u32 i = 0; i < runs; i++) {
+		LIBBPF_OPTS(bpf_test_run_opts, run);
+		if (bpf_prog_test_run_opts(bpf_program__fd(program->progs.play_numbers), &run) || run.retval)
+			fail("numbers can't be taken");
+	}
+}
+
+static void *take_beside_others(void *unused)
+{
+	take_numbers(RUNS);
+	__atomic_fetch_sub(&takers, 1, __ATOMIC_SEQ_CST);
+	return unused;
+}
+
+static void take_at_once(void)
+{
+	pthread_t threads[TAKERS];
+	takers = TAKERS;
+	for (u32 i = 0; i < TAKERS; i++)
+		if (pthread_create(&threads[i], NULL, take_beside_others, NULL))
+			fail("no thread");
+	while (__atomic_load_n(&takers, __ATOMIC_SEQ_CST))
+		make_room();
+	for (u32 i = 0; i < TAKERS; i++)
+		pthread_join(threads[i], NULL);
+}
+
+/* Also more than older kernels give before there is room for more. */
+static void play_numbers(void)
+{
+	struct bpf_map *map = bpf_object__find_map_by_name(program->obj, "tickets_of_number");
+	u64 all = TICKETS + 2 * AT_ONCE + TAKERS * RUNS * AT_ONCE;
+	if (map && ring_open(&tickets, bpf_map__fd(map), bpf_map__max_entries(map)))
+		fail("the ring of tickets can't be mapped");
+	const u64 *given = mmap(NULL, MOST_NUMBERS * sizeof *given, PROT_READ, MAP_SHARED,
+				bpf_map__fd(program->maps.given), 0);
+	if (given == MAP_FAILED)
+		fail("the counts of numbers can't be mapped");
+	take_numbers(TICKETS / AT_ONCE + 2);
+	u64 refused = program->bss->calls_without_room;
+	if (given[0] != refused || (refused != 0) != (tickets.size != 0))
+		fail("%llu numbers were refused, and %llu are counted", (unsigned long long)given[0],
+		     (unsigned long long)refused);
+	make_room();
+	take_at_once();
+	if (program->bss->falling || given[0] != refused || given[all - refused + 1])
+		fail("%llu numbers fall, %llu were refused", (unsigned long long)program->bss->falling,
+		     (unsigned long long)given[0]);
+	for (u32 number = 1; number <= all - refused; number++)
+		if (given[number] != 1)
+			fail("number %u was given %llu times", number, (unsigned long long)given[number]);
+}
+
 int main(int words, char **word)
 {
 	u32 rounds = words > 1 ? (u32)atoi(word[1]) : 400;
@@ -351,6 +419,7 @@ int main(int words, char **word)
 	u8 *data = memory(MOST_ATTACHED), *commands = memory(MOST_COMMANDS + 4096), *returns = memory(MOST_RETURNS);
 	program->bss->commands_from = (u64)commands;
 	program->bss->first_word = BC_TRANSACTION;
+	play_numbers();
 	play_openings();
 	play(commands);
 	play_full_ring(data, returns);
