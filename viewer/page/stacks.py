@@ -3,6 +3,7 @@
 import functools
 import itertools
 import os
+import re
 from collections import Counter
 from typing import NamedTuple
 
@@ -10,6 +11,10 @@ from viewer.page.capture import Capture
 
 # The most stacks of a group.
 STACKS = 4
+
+# The libraries by which a program calls the driver, and the ones that these call.
+BINDER = re.compile(r"lib(binder(_ndk)?|hwbinder(_noltopgo)?|hidlbase|hidltransport|gbinder)\.so[.0-9]*")
+BENEATH = re.compile(r"(lib(c|utils|utilscallstack|pthread|gutil|glibutil)|linux-vdso)\.so[.0-9]*|\[vdso\]")
 
 
 class Frame(NamedTuple):
@@ -119,6 +124,15 @@ class Shown(NamedTuple):
     upid: int
     thread: int
     same: int
+
+    @property
+    def inner(self) -> int:
+        """How many of the innermost frames are libbinder's: they are the same in most stacks. None is if no function
+        comes after them that is of another file."""
+        at = next((at for at, frame in enumerate(self.frames)
+                   if not (BINDER.fullmatch(frame.file) or BENEATH.fullmatch(frame.file))), 0)
+        is_through = any(BINDER.fullmatch(frame.file) for frame in self.frames[:at])
+        return at if is_through and self.frames[at].path else 0
 
 
 class GroupStacks:

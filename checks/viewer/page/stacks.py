@@ -153,6 +153,19 @@ def check_page(folder: pathlib.Path, room: pathlib.Path, program: Program, seqs:
          (3, 4, 2, max(program.inside[HOSTILE], 8))], fail)
 
 
+def check_inner(folder: pathlib.Path, room: pathlib.Path, program: Program, seqs: list[int], fail: Fail) -> None:
+    """The functions of libbinder are folded, and the first other one is shown first."""
+    for path, lists in (("/system/lib64/libbinder.so", [2, 12, DEEP - 14, 4]),
+                        ("/system/lib64/libbinder_ndk.so", [2, 12, DEEP - 14, 4]),
+                        ("/system/lib64/libc.so", [12, DEEP - 12, 4]),
+                        ("/system/lib64/libbinder.sound", [12, DEEP - 12, 4])):
+        status, told, shown = shown_with(folder, room, side_with(program, seqs, path))
+        compare(f"{path}: status", (status, told), (0, ""), fail)
+        compare(f"{path}: how many functions the lists have", open_frames(shown.read_text("utf-8")), lists, fail)
+        compare(f"{path}: the folded ones", "2 inner frames, of libbinder and what it calls" in text_of(shown),
+                "binder" in path and "sound" not in path, fail)
+
+
 def check_symbols(folder: pathlib.Path, room: pathlib.Path, program: Program, seqs: list[int], fail: Fail) -> None:
     """A file with the build-id names functions, by either program, also what was put into another one. Another file of
     that name names none."""
@@ -294,6 +307,7 @@ def check_stacks(folder: pathlib.Path, room: pathlib.Path, fail: Fail) -> None:
     check_freed(folder, room, program, fail)
     check_recorded(folder, room, fail)
     check_page(folder, room, program, seqs, fail)
+    check_inner(folder, room, program, seqs, fail)
     check_symbols(folder, room, program, seqs, fail)
     check_hostile_stacks(folder, room, program, seqs, fail)
     check_odd_lines(folder, room, program, seqs, fail)
