@@ -34,7 +34,7 @@ class Values(dict[str, str | None]):
         for word in words:
             if "=" not in word:
                 raise Stopped(64, f"{word}: a value of a question is NAME=VALUE")
-        super().__init__(word.split("=", 1) for word in words)
+        super().__init__({name: value for name, _, value in (word.partition("=") for word in words)})
         self.taken: set[str] = set()
 
     def __getitem__(self, name: str) -> str | None:

@@ -227,7 +227,8 @@ class Comparison:
         real = before.real + now.real
         if real < len(found) and self.may_tell(real):
             p_real = chance.fisher(before.real, self.sides.old, now.real, self.sides.new)
-        return Row(*defect, before, now, p_captures, p_real, p_rate)
+        key, kind, who, path, call = defect
+        return Row(key, kind, who, path, call, before, now, p_captures, p_real, p_rate)
 
     def tells(self, p: float | None) -> bool:
         """Whether a test tells a difference."""

@@ -129,8 +129,9 @@ class Unfolding:
     """A file of form 2 that is unfolded to a result. What can't be is told by `why`."""
 
     def __init__(self, given: dict):
-        self.names = given.get("names")
-        self.why = None if isinstance(self.names, list) else "names is no list"
+        names = given.get("names")
+        self.names = names if isinstance(names, list) else []
+        self.why = None if isinstance(names, list) else "names is no list"
         self.result = {"capture": given.get("capture"), **{name: self.rows(name, given.get(name)) for name in ROWS}}
 
     def rows(self, name: str, given: object) -> list[dict]:

@@ -3,9 +3,10 @@ side list or a book, the name of a file, what another program says of one. So ea
 that turns or hides other signs, is written as its number, and no locale makes a text fail."""
 
 import contextlib
+import io
 import sys
 import unicodedata
-from typing import Iterable
+from typing import Iterable, cast
 
 from viewer.files import Stopped
 
@@ -45,7 +46,7 @@ def write(lines: Iterable[str]) -> None:
     """Writes lines to standard output, in UTF-8 whatever the locale is. A line may have tabs between its fields."""
     if sys.stdout is None:
         raise Stopped(4, "standard output is closed")
-    sys.stdout.reconfigure(encoding="utf-8", newline="\n")  # type: ignore[union-attr]
+    cast(io.TextIOWrapper, sys.stdout).reconfigure(encoding="utf-8", newline="\n")
     for line in lines:
         sys.stdout.write("\t".join(map(shown, line.removesuffix("\n").split("\t"))) + "\n")
     sys.stdout.flush()

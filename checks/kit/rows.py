@@ -30,10 +30,10 @@ def rows_of(path: pathlib.Path) -> Iterator[dict[str, int | str]]:
         row: dict[str, int | str] = {}
         for number, (name, sort) in enumerate(columns.items()):
             if mask >> number & 1:
-                row[name], = struct.unpack_from("<Q", data, at)
+                value, = struct.unpack_from("<Q", data, at)
                 at += 8
-            if name in row and sort == "TEXT":
-                length = row[name]
-                row[name] = data[at:at + length].decode("ascii")
-                at += length
+                row[name] = value
+                if sort == "TEXT":
+                    row[name] = data[at:at + value].decode("ascii")
+                    at += value
         yield row

@@ -5,7 +5,7 @@ import pathlib
 import re
 import sqlite3
 from collections import Counter, defaultdict
-from typing import Iterator, NamedTuple
+from typing import Generic, Iterator, NamedTuple, TypeVar
 
 from viewer.database.books import Counts, Opening, Transaction, state, stats
 from viewer.database.side_list import Copy
@@ -13,10 +13,13 @@ from viewer.files import shown_name
 from viewer.units import signed
 
 
-class Matched(NamedTuple):
+Book = TypeVar("Book", Opening, Counts)
+
+
+class Matched(NamedTuple, Generic[Book]):
     """An opening in the books that is one of the capture."""
     upid: int
-    opening: Opening | Counts
+    opening: Book
 
 
 # ---- the files
@@ -71,10 +74,10 @@ def open_at(database: sqlite3.Connection, copy: Copy) -> dict[Device, list[tuple
     return found
 
 
-def matched(database: sqlite3.Connection, copy: Copy, openings: list[Opening] | list[Counts]) -> list[Matched]:
+def matched(database: sqlite3.Connection, copy: Copy, openings: list[Book]) -> list[Matched[Book]]:
     """The openings of the books that are certainly some of the capture. Of several by one process, it is known in which
     order they were opened only if all were seen to be opened."""
-    books: dict[Device, list[Opening | Counts]] = defaultdict(list)
+    books: dict[Device, list[Book]] = defaultdict(list)
     for opening in reversed(openings):
         books[opening.pid, opening.context, opening.driver].append(opening)
     found = []
@@ -132,7 +135,8 @@ CUT = ("SELECT 1 FROM side_time s, raw_capture c WHERE c.last_seq IS NULL OR s.s
        " OR :end AND s.seq > c.last_seq AND s.seq <= :from LIMIT 1")
 
 
-def load_state(database: sqlite3.Connection, copy: Copy, openings: list[Opening], silent: list[Matched]) -> None:
+def load_state(database: sqlite3.Connection, copy: Copy, openings: list[Opening],
+               silent: list[Matched[Opening]]) -> None:
     """What the openings of the capture had by the book `state`; nothing if the capture lacks frames around it. `silent`
     are openings without a frame, which only own nodes here."""
     if database.execute(CUT, {"end": copy.moment == "end", "from": copy.from_seq}).fetchone():
@@ -209,7 +213,7 @@ class Throughout:
 
     def __init__(self, database: sqlite3.Connection, begin: list[Opening], end: list[Opening], copy: Copy,
                  names: dict[int, str]):
-        self.database, self.names, self.silent = database, names, list[Matched]()
+        self.database, self.names, self.silent = database, names, list[Matched[Opening]]()
         self.known = set(database.execute("SELECT p.pid, d.name, d.driver FROM process p"
                                           " LEFT JOIN side_device d USING (device)"))
         self.devices = {(name, driver): device for device, name, driver in
@@ -289,7 +293,7 @@ def load_states(database: sqlite3.Connection, states: dict[str, tuple[Copy, str]
             openings[moment] = state(text)
         except ValueError:
             yield none_of_the_drivers("state", moment)
-    silent: list[Matched] = []
+    silent: list[Matched[Opening]] = []
     if len(openings) == 2:
         calls = Throughout(database, openings["begin"], openings["end"], states["end"][0], names)
         try:

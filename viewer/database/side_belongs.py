@@ -30,7 +30,7 @@ def why_other(database: sqlite3.Connection, last: int, ended: bool) -> str | Non
     end."""
     def first(query: str) -> tuple | None:
         return database.execute(query, {"last": last}).fetchone()
-    beyond, = first(BEYOND)
+    beyond, = first(BEYOND) or (None,)
     if ended and beyond is not None:
         return f"{OTHER}: it ends with frame {last:,}, and the capture has frame {beyond:,}"
     if untold := first(UNTOLD):

@@ -34,7 +34,7 @@ class Table(NamedTuple):
     """Where a table of headers is, and in each header the kind, and where in the file its bytes are."""
     at: int
     size: int
-    count: int
+    headers: int
     fields: struct.Struct
     places: tuple[int, int, int]
     note: int
@@ -59,7 +59,7 @@ def tables_of(head: bytes) -> Iterator[Table]:
 def notes_in(file: BinaryIO, table: Table) -> Iterator[bytes]:
     """The notes that a table leads to. A file that has only debugging information has them in its sections."""
     file.seek(table.at)
-    headers = file.read(min(table.size * table.count, MOST))
+    headers = file.read(min(table.size * table.headers, MOST))
     starts = range(0, len(headers) - table.fields.size + 1, table.size) if table.size >= table.fields.size else ()
     rows = [table.fields.unpack_from(headers, at) for at in starts]
     kind, place, size = table.places
@@ -121,9 +121,9 @@ def files_with(folders: Iterable[str], wanted: set[str]) -> dict[str, str]:
                     found.setdefault(build_id, path)
     left, sizes = wanted - found.keys(), dict[str, int]()
     for path in (path for folder in folders if left for path in files_of(folder)):
-        build_id = build_id_of(path)
-        if build_id in left and (size := os.path.getsize(path)) > sizes.get(build_id, -1):
-            found[build_id], sizes[build_id] = path, size
+        its_id = build_id_of(path)
+        if its_id in left and (size := os.path.getsize(path)) > sizes.get(its_id, -1):
+            found[its_id], sizes[its_id] = path, size
     return found
 
 
@@ -201,8 +201,8 @@ def load(database: sqlite3.Connection, folders: list[str], room: pathlib.Path) -
         if build_id in paths]
     # A function returns to the instruction after its call, which may be of another line, or of another function.
     functions = functions_at([(str(paths[build_id]), address - 1) for build_id, address in places]) if places else []
-    for path in paths.values():
-        path.unlink()
+    for link in paths.values():
+        link.unlink()
     database.execute("BEGIN")
     database.executemany("INSERT INTO symbol VALUES (?, ?, ?, ?, ?)",
                          ((*place, inlined, *function) for place, found in zip(places, functions or ())

@@ -2,7 +2,7 @@
 
 import pathlib
 import sqlite3
-from typing import NamedTuple
+from typing import Any, NamedTuple
 
 from viewer.files import Stopped, state_of
 from viewer.rules import verdicts
@@ -50,8 +50,8 @@ def defects_of(database: sqlite3.Connection) -> dict[str, Defect]:
 
 
 # The facts of a capture on which a comparison rests.
-FACTS = {"prints": int, "methods": int, "side_list": int, "first_ts": int | None, "until_ts": int | None,
-         "malformed": str | None}
+FACTS: dict[str, Any] = {"prints": int, "methods": int, "side_list": int, "first_ts": int | None,
+                         "until_ts": int | None, "malformed": str | None}
 
 
 def facts_of(database: sqlite3.Connection) -> dict[str, object]:

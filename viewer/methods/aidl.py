@@ -169,7 +169,8 @@ class Aidl(Reader):
             code = 1 + (place if number is None else int(number))
             if code > 1 + LAST_ID:
                 self.wrong("more methods than there are codes", line)
-            for key, what in ((name, f"the name {name}"), (code, f"the id {code - 1}")):
+            keys: list[tuple[str | int, str]] = [(name, f"the name {name}"), (code, f"the id {code - 1}")]
+            for key, what in keys:
                 if key in lines:
                     self.wrong(f"{what} is that of the method in line {lines[key]}", line)
                 lines[key] = line

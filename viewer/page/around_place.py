@@ -23,11 +23,12 @@ class Line(NamedTuple):
 def fields_of(names: Names, kind: str, handle: int | None, code: int | None, size: int | None, address: int | None,
               cookie: int | None, value: int | None, interface: int | None, to: int | None,
               ptr: int | None) -> str:
-    is_call = code is not None and not kind.endswith("_REPLY")
+    called = None if kind.endswith("_REPLY") else code
     told = [kind]
-    told += [f"{name}={value}" for name, value in (("handle", handle), ("code", code if is_call else None))
+    told += [f"{name}={value}" for name, value in (("handle", handle), ("code", called))
              if value is not None]
-    told += [names.field(code, interface)] if is_call and names.named(code, None, None, interface) else []
+    if called is not None and names.named(called, None, None, interface):
+        told += [names.field(called, interface)]
     told += [f"service={names.services[to, ptr]}"] if (to, ptr) in names.services else []
     told += [f"data_size={size}"] if size is not None else []
     told += [f"{name}=0x{value % 2**64:x}" for name, value in (("address", address), ("cookie", cookie)) if value]

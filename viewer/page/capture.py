@@ -24,7 +24,7 @@ class Capture:
         self.command, self.report = f"{called('listing')} {named}", f"{called('audit')} report {named}"
         self.facts = dict(database.execute("SELECT key, value FROM capture"))
         malformed = self.facts["malformed"]
-        self.fault = fault_of(malformed, list(map(os.path.basename, files))) if malformed else None
+        self.fault = fault_of(malformed, [os.path.basename(file) for file in files]) if malformed else None
         self.who = dict(database.execute("SELECT upid, who FROM who"))
         self.rules = dict(database.execute("SELECT id, text FROM rule"))
         self.names = Names(database)

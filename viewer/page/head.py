@@ -25,5 +25,5 @@ def head_of(capture: Capture) -> dict[str, object]:
                     " AND (SELECT last_seq FROM raw_capture) GROUP BY 1 ORDER BY 2 DESC"),
         "missed": ask(f"SELECT what, sum(count) FROM side_missed, {WITHIN}"),
         "unstacked": ask(f"SELECT what, sum(count) FROM side_unstacked, {WITHIN}"),
-        "groups": dict(ask("SELECT verdict, count(*) FROM finding_group GROUP BY 1")),
-        "findings": dict(ask("SELECT verdict, sum(n) FROM finding_group GROUP BY 1"))}
+        "groups": {verdict: n for verdict, n in ask("SELECT verdict, count(*) FROM finding_group GROUP BY 1")},
+        "findings": {verdict: n for verdict, n in ask("SELECT verdict, sum(n) FROM finding_group GROUP BY 1")}}

@@ -37,7 +37,7 @@ def strip(places: list[int], whole: int, width: int = 112, height: int = 14) -> 
 
 def growth_of(capture: Capture, group: int) -> Plot | None:
     """How many findings a group has at the end of each of 16 slices of the capture."""
-    slices = dict(capture.asked("group_growth", group))
+    slices = {at: n for at, n in capture.asked("group_growth", group)}
     values, so_far = [], 0
     for at in range(16):
         so_far += slices.get(at, 0)

@@ -148,8 +148,9 @@ class GroupStacks:
         shown: dict[object, Shown] = {}
         for at in [*(at for at, row in enumerate(rows) if row[0] == rows[0][0]), *firsts]:
             if shapes[at] not in shown and len(shown) < STACKS:
-                _, place, stack, *whose = rows[at]
-                shown[shapes[at]] = Shown(stacks.frames(stack), place, *whose, how_often[shapes[at]])
+                _, place, stack, whose, upid, thread = rows[at]
+                shown[shapes[at]] = Shown(stacks.frames(stack), place, whose, upid, thread,
+                                          how_often[shapes[at]])
         self.shown = list(shown.values())
         self.left = len(how_often.keys() - shown.keys())
         kept, freed = Counter(rows[at][2] for at in firsts), stacks.freed.get(group) if rows else None

@@ -102,10 +102,10 @@ def compare(database: sqlite3.Connection) -> None:
     if not database.execute("SELECT 1 FROM book_opening WHERE moment = 'end'").fetchone():
         return
     database.execute(COMPARED)
-    numbers = named_numbers(database)
+    numbers: dict[str, object] = {**named_numbers(database)}
     database.execute("CREATE TEMP TABLE way AS SELECT 'strong' AS name, '' AS what UNION ALL SELECT 'weak', ', weakly'")
     for section, query in QUERIES.items():
-        database.execute(INSERT.format(query=query), {**numbers, "section": section})
+        database.execute(INSERT.format(query=query), numbers | {"section": section})
     database.execute("INSERT INTO capture SELECT 'books_compared', count(*) FROM compared")
     database.execute("INSERT INTO capture SELECT 'books_left_out', count(*) - (SELECT count(*) FROM compared)"
                      " FROM book_opening WHERE moment = 'end'")

@@ -45,7 +45,8 @@ def judge(database: sqlite3.Connection, folder: pathlib.Path = FOLDER) -> None:
     for name, function in WORDS.items():
         database.create_function(name, -1, functools.lru_cache(4096)(function), deterministic=True)
     database.create_function("number_in", 3, number_of, deterministic=True)
-    numbers = {**named_numbers(database), **THRESHOLDS, "FIRST_LETTERS": LETTERS.start, "LAST_LETTERS": LETTERS[-1]}
+    numbers: dict[str, float] = {**named_numbers(database), **THRESHOLDS, "FIRST_LETTERS": LETTERS.start,
+                                 "LAST_LETTERS": LETTERS[-1]}
     for statement in BY_SECTION:
         database.execute(statement)
     for name in JUDGING:
@@ -55,7 +56,7 @@ def judge(database: sqlite3.Connection, folder: pathlib.Path = FOLDER) -> None:
         if name == "rule.sql":
             fill(database, catalogue_of(folder))
         if name == "waits.sql":
-            waiting.count(database, THRESHOLDS["POOLS"])
+            waiting.count(database, int(THRESHOLDS["POOLS"]))
         database.execute("COMMIT")
         if name == "names.sql":
             names_of = Names(database)

@@ -97,8 +97,8 @@ def counts(waits: Waits, most: int) -> Iterator[tuple[Call, int]]:
     rings = list(from_leaves(waits))
     led, leads_to = delivered_to(waits, rings), pools_of(waits, rings)
     waiting: dict[Pool, list[Pool]] = defaultdict(list)
-    for call, pools in waits.keeps.items():
-        waiting[leads_to[call]].extend(pools)
+    for call, held_up in waits.keeps.items():
+        waiting[leads_to[call]].extend(held_up)
     busy: dict[Call, set[Pool]] = defaultdict(set)
     for ring in rings:
         pools = first(most, (pool for call in ring.calls for of in (

@@ -1,6 +1,6 @@
 """What a timeline is made of, in whatever format: tracks of threads, and what is on them."""
 
-from typing import Mapping, NamedTuple, Protocol
+from typing import Any, Mapping, NamedTuple, Protocol
 
 from viewer.timeline.tracks import Track, Tracks
 
@@ -19,6 +19,10 @@ ARGUMENTS = (("place", "seq", "handle", "to", "data_size", "delivery", "fits", "
 TEXTS = "to", "from", "verdict"
 ADDRESSES = "ptr", "cookie"
 PLACES = "place", "seq", "delivery", "closer", "send", "refused"
+
+
+# What a format makes for itself, of a track or of what is called, and gets back with each event.
+Own = Any
 
 
 class Called(NamedTuple):
@@ -51,7 +55,7 @@ class Process(Track):
     def __init__(self, upid: int):
         super().__init__()
         self.upid = upid
-        self.head: object = None
+        self.head: Own = None
         self.now, self.shown = [0] * len(COUNTERS), [0] * len(COUNTERS)
         self.touched = 0
         self.strong: dict[int, int] = {}
@@ -64,7 +68,7 @@ class Thread:
 
     def __init__(self, utid: int, process: Process, lane: Lane):
         self.utid, self.upid, self.process, self.lane = utid, process.upid, process, lane
-        self.head: object = None
+        self.head: Own = None
         self.entries = self.serving = 0
 
 
@@ -72,7 +76,7 @@ class Open:
     """What a thread is in. `values` are its arguments, None once it is written."""
     __slots__ = "place", "closer", "sort", "thread", "called", "values"
 
-    def __init__(self, place: int, closer: int | None, sort: int, thread: Thread, called: object,
+    def __init__(self, place: int, closer: int | None, sort: int, thread: Thread, called: Own,
                  values: tuple | None):
         self.place, self.closer, self.sort, self.thread = place, closer, sort, thread
         self.called, self.values = called, values
@@ -103,14 +107,14 @@ class Events(Protocol):
     # What the axis is.
     clock: str
 
-    def called(self, called: Called) -> object: ...
+    def called(self, called: Called) -> Own: ...
 
-    def begin(self, thread: Thread, ns: int, sort: int, called: object, values: tuple, flow: int | None,
+    def begin(self, thread: Thread, ns: int, sort: int, called: Own, values: tuple, flow: int | None,
               stack: int | None, why: str) -> None:
         """The begin of a slice. `flow` is the place of the send, if the pair is shown. `why` says why it begins later
         than its record."""
 
-    def end(self, thread: Thread, ns: int, sort: int, called: object, why: str, stack: int | None) -> None: ...
+    def end(self, thread: Thread, ns: int, sort: int, called: Own, why: str, stack: int | None) -> None: ...
 
     def instant(self, where: Thread | Process | None, ns: int, category: str, name: str,
                 fields: Mapping[str, object]) -> None:
@@ -121,7 +125,7 @@ class Events(Protocol):
     def count(self, process: Process, ns: int, changed: list[int]) -> None:
         """The counters of a process that are not as they are shown, by their numbers."""
 
-    def queue(self, thread: Thread, called: object, place: int, begin: int, end: int,
+    def queue(self, thread: Thread, called: Own, place: int, begin: int, end: int,
               fields: Mapping[str, object]) -> None:
         """How long a oneway transaction waited, in the process that gets it."""
 
@@ -134,12 +138,12 @@ class Events(Protocol):
     def finish(self, told: dict[str, object]) -> None:
         """The end, and what the timeline says of itself."""
 
-    def lane_of(self, utid: int) -> object:
+    def lane_of(self, utid: int) -> Own:
         """What two threads of the capture have in common if they are one thread of the system, and so one track."""
 
-    def head_of_thread(self, thread: Thread) -> object: ...
+    def head_of_thread(self, thread: Thread) -> Own: ...
 
-    def head_of_process(self, process: Process) -> object: ...
+    def head_of_process(self, process: Process) -> Own: ...
 
 
 class Drawn:

@@ -1,6 +1,6 @@
 """What is told once in a trace of Perfetto, and then named by a number: names, and the values of arguments."""
 
-from typing import Callable
+from typing import Any, Callable
 
 from viewer.timeline.events import ADDRESSES, PLACES
 from viewer.timeline.wire import BITS, LAST, LENGTH, LOW, MORE, MOST, PAIRS, RESTS, VARINT, key, message, number, varint
@@ -18,7 +18,7 @@ LONGEST_VARINT = 10
 class Known(dict[object, bytes]):
     """What was written of some values, so that it need not be made again."""
 
-    def __init__(self, write: Callable[[object], bytes]):
+    def __init__(self, write: Callable[[Any], bytes]):
         super().__init__()
         self.write = write
 
@@ -36,7 +36,7 @@ class Interned:
         self.new: list[bytes] = []
         self.known: dict[tuple[int, bytes], int] = {}
         self.counts: dict[int, int] = {}
-        self.writers: dict[str, Callable[[object], bytes]] = {}
+        self.writers: dict[str, Callable[[Any], bytes]] = {}
 
     def number_of(self, kind: int, data: bytes, is_text: bool = True) -> int:
         """The number of something in the list `kind`: of a text, or of a message, whose fields `data` are."""
@@ -59,13 +59,13 @@ class Interned:
         """An argument of an event."""
         return self.writer(name)(value)
 
-    def writer(self, name: str) -> Callable[[object], bytes]:
+    def writer(self, name: str) -> Callable[[Any], bytes]:
         """How the values of an argument are written."""
         if name not in self.writers:
             self.writers[name] = self.writer_of(name)
         return self.writers[name]
 
-    def writer_of(self, name: str) -> Callable[[object], bytes]:
+    def writer_of(self, name: str) -> Callable[[Any], bytes]:
         called = number(ARGUMENT_NAME, self.number_of(ARGUMENT_NAMES, name.encode()))
         if name in PLACES:
             return writer_of_places(called)

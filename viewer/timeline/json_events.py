@@ -2,7 +2,7 @@
 
 import functools
 import json
-from typing import Callable, Iterator, Mapping
+from typing import Any, Callable, Iterator, Mapping
 
 from viewer.timeline.events import (ADDRESSES, ARGUMENTS, CALL, CATEGORIES, COUNTERS, SENT, SORTS, TEXTS, VERBS, Called,
                                     Finding, Process, Thread)
@@ -36,11 +36,13 @@ class Known(dict[object, str]):
         return self.setdefault(value, self.form.format(dumps(value)))
 
 
-def writer_of(name: str) -> Callable[[object], str]:
+def writer_of(name: str) -> Callable[[Any], str]:
     """How an argument of this name is written."""
     if name in ADDRESSES:
         return lambda value: f'"{name}":{hexadecimal(value)}'
-    return Known(f'"{name}":{{}}').__getitem__ if name in TEXTS else f'"{name}":{{}}'.format
+    if name in TEXTS:
+        return Known(f'"{name}":{{}}').__getitem__
+    return f'"{name}":{{}}'.format
 
 
 def text_of(fields: Mapping[str, object]) -> str:
@@ -106,10 +108,10 @@ class JsonEvents:
             for kind, fields in (("process_name", {"name": title}), ("process_labels", {"labels": label}),
                                  ("process_sort_index", {"sort_index": order})):
                 yield f'{{"ph":"M",{head},"name":"{kind}","args":{dumps(fields)}}}'
-        for row in self.tracks.threads:
-            if row.name is not None and row.utid in self.tracks.shown:
-                head = self.heads[row.utid].removesuffix(',"ts":')
-                yield f'{{"ph":"M",{head},"name":"thread_name","args":{dumps({"name": row.name})}}}'
+        for thread in self.tracks.threads:
+            if thread.name is not None and thread.utid in self.tracks.shown:
+                head = self.heads[thread.utid].removesuffix(',"ts":')
+                yield f'{{"ph":"M",{head},"name":"thread_name","args":{dumps({"name": thread.name})}}}'
 
     # -- what the walk hands over
 

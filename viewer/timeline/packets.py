@@ -108,7 +108,8 @@ class Packets:
         seen: dict[tuple[int, int] | int, int] = {}
         for utid, ts in database.execute("SELECT t.utid, x.ts FROM thread t JOIN side_time x ON x.seq = t.first_seq"):
             lane = self.system.lane_of[utid]
-            for one in lane, lane[0]:
+            both: tuple[tuple[int, int] | int, ...] = lane, lane[0]
+            for one in both:
                 seen[one] = min(ts, seen.get(one, ts))
         return seen
 

@@ -63,10 +63,9 @@ def write(database: sqlite3.Connection, path: pathlib.Path, window: Window, name
             out = format_of(name, is_android, file, axis, tracks, database)
             walk = Walk(database, rows, out, axis, tracks, window, Drawn(tracks, out))
             walk.walk()
-            made_by = {"tool": "binder_audit: ./view --trace", "commit": commit()}
-            out.finish({name: value for name, value in {
-                **made_by, **axis.facts(out.clock), **facts_of(database), **window.facts(), **walk.told}.items()
-                if value is not None})
+            told: dict[str, object] = {"tool": "binder_audit: ./view --trace", "commit": commit(),
+                                       **axis.facts(out.clock), **facts_of(database), **window.facts(), **walk.told}
+            out.finish({name: value for name, value in told.items() if value is not None})
             return bool(tracks.shown)
         finally:
             file.close()

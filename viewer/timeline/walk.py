@@ -391,7 +391,7 @@ class Walk:
 
     def walk_rows(self) -> None:
         """Goes through the rows, up to the end of the window."""
-        seq = thread = None
+        seq = None
         handlers = self.handlers
         for rows in self.with_marks():
             for row in rows:
@@ -402,7 +402,7 @@ class Walk:
                         self.mark(row[2])
                         continue
                     seq, thread = row[2], self.threads[row[4]]
-                    if self.next_frame(seq, row[3], thread):
+                    if self.next_frame(row[2], row[3], thread):
                         return
                 handlers[row[1]](thread, row)
             self.out.flush()

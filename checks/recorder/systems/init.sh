@@ -1,4 +1,5 @@
 #!/bin/busybox sh
+# shellcheck shell=dash disable=SC2013
 # The guest's first process: it leaves on the disk, as a tar file, what the recorder looks at before it loads anything.
 /bin/busybox --install -s /bin
 export PATH=/bin

@@ -1,0 +1,64 @@
+"""Checks that linters have nothing to say of the sources, each with its settings at the top of the repository.
+
+    checks/run lint
+    checks/run lint -- --tool TOOL     runs one of them: seconds
+
+- flake8, all Python: .flake8
+- mypy, the types of the Python that pyproject.toml names
+- shellcheck, all scripts for bash and for the shells of guests and devices: .shellcheckrc
+
+A file without a suffix is Python or a script by its first line. Nothing is kept from one run to the next.
+"""
+
+import argparse
+import os
+import pathlib
+import re
+import subprocess
+from typing import Iterator
+
+from checks.kit.checking import Fail, check
+from checks.kit.programs import ROOT
+from checks.pages.sources import paths
+
+# By the suffix, and without one by the first line.
+PYTHON = re.compile(r"#!.*\bpython3?$")
+SHELL = re.compile(r"#!.*\b(?:bash|sh)$")
+
+TOOLS = ("flake8", "mypy", "shellcheck")
+
+
+def is_by_line(path: pathlib.Path, first: re.Pattern[str]) -> bool:
+    with path.open(encoding="utf-8", errors="replace") as file:
+        return bool(first.match(file.readline().rstrip("\n")))
+
+
+def sources(suffixes: tuple[str, ...], first: re.Pattern[str]) -> Iterator[str]:
+    """The files with these suffixes, and those without one that begin so. That of `.ci` is one of them."""
+    for name in [path.removeprefix("/") for path in paths()] + [".ci/run"]:
+        path = ROOT / name
+        if path.suffix in suffixes or not path.suffix and os.access(path, os.X_OK) and is_by_line(path, first):
+            yield name
+
+
+def words_of(tool: str) -> list[str]:
+    """The command line of a linter, from the top of the repository."""
+    if tool == "flake8":
+        return [tool, *sources((".py",), PYTHON)]
+    if tool == "mypy":
+        return [tool, "--no-error-summary", f"--cache-dir={os.devnull}"]
+    return [tool, "--format=gcc", *sources((".sh", ".bash"), SHELL)]
+
+
+def judge(given: argparse.Namespace, _: pathlib.Path, fail: Fail) -> None:
+    for tool in [given.tool] if given.tool else TOOLS:
+        ended = subprocess.run(words_of(tool), cwd=ROOT, stdin=subprocess.DEVNULL, stdout=subprocess.PIPE,
+                               stderr=subprocess.STDOUT, encoding="utf-8", errors="replace")
+        for line in ended.stdout.splitlines():
+            fail(f"{tool}: {line}")
+        if ended.returncode and not ended.stdout:
+            fail(f"{tool}: status {ended.returncode}")
+
+
+if __name__ == "__main__":
+    check(judge, tool={"choices": TOOLS})
