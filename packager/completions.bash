@@ -28,7 +28,7 @@ _binder_audit() { # COMMAND WORD BEFORE
 _binder_fleet() { # COMMAND WORD BEFORE
   COMPREPLY=()
   case $COMP_CWORD,$3 in
-    1,*) _binder_audit_words "$2" 'one load compare ask each --help --version' ;;
+    1,*) _binder_audit_words "$2" 'one load compare ask page each --help --version' ;;
     *,--fail-on) _binder_audit_words "$2" 'real maybe' ;;
     *,--build | *,--device | *,--seconds | *,--rate | *,--share | *,--least) ;;
     *,ask) _binder_audit_files ;;

@@ -25,7 +25,7 @@ case $service in
       '*--methods[table of methods]:table:_files' \
       '--build[build that was recorded]:build:' \
       '--device[device that it ran on]:device:' \
-      '-o[file of the result]:result:_files' \
+      '-o[file of the result, or of the page]:file:_files' \
       '--seconds[how long a capture may take]:seconds:' \
       '--rate[how many of a hundred told ones may be chance]:rate:' \
       '--share[enough devices of a hundred]:share:' \
@@ -38,7 +38,7 @@ case $service in
       '--sarif[file for what fails as SARIF]:file:_files' \
       '(- *)--help[say what the words mean]' \
       '(- *)--version[say what the programs are made of]' \
-      ':command:(one load compare ask each)' \
+      ':command:(one load compare ask page each)' \
       '*:file:_files'
     ;;
   binder-listing)

@@ -7,6 +7,10 @@
                                                Debian's slurmctld, slurmd and munge
     checks/run fleet -- --make                 makes 200 captures by lab/Makefile, with jobs killed; by hand
     checks/run fleet -- --mutated N            loads N mutated results; prints how many were taken
+    checks/run fleet -- --full                 fills a disk at each of all writes, and not at some; prints how many
+    checks/run fleet -- --nightly N            makes N captures of each of four builds, with planted changes; prints
+                                               what is told of each pair
+    checks/run fleet -- --browser              looks at the page of a lab in chromium
     checks/run fleet -- --cut                  cuts all stored captures in front; prints how many keys are the same
     checks/run fleet -- --two FOLDER FOLDER    prints which keys only one of two recordings of the same sessions has, as
                                                `checks/run driver` leaves them for two kernels
@@ -16,6 +20,7 @@ What must hold:
 - A capture has a result. A malformed one, one with a wrong side list or that of another, and one that takes too long
   have a result that says so. None has more than 64 KB when it is packed. There is none, and a line says why, if another
   run may do better.
+- The disk of scratch, or of results, may become full at any write: then there is no result, or a whole one.
 - A lab of results, which are made of stored captures put together in many ways, with a fault put into one build:
   however many loaders there are, killed or not, in whatever order, each capture counts once. What the lab has does
   not depend on the order.
@@ -29,6 +34,7 @@ What must hold:
 - Each question that has a name has an answer, and so has SQL. `each` asks kept databases. What can't be done is told in
   a line.
 - In a capture that is cut in front, defects have the keys of the whole one, but where a name is not known.
+- The page of a lab says of planted changes what became of them, loads nothing, and its commands show what they name.
 - Known defects do not fail, and a line names one that does not occur.
 - lab/Makefile makes a result of each session, also of several parts; again only of what changed; and what is killed is
   done by the next call. Nothing is left in TMPDIR.
@@ -55,9 +61,12 @@ from checks.kit.checking import FLAG, Fail, check, compare
 from checks.kit.programs import DRIVER, built_programs
 from checks.kit.runs import answer
 from checks.lab.chances import check_chances
+from checks.lab.full_disk import check_full_disk
 from checks.lab.keys import CUT, check_keys_of_cut, print_keys_of_two
+from checks.lab.lab_page import check_browser, check_commands, check_page, check_page_of_strangers
 from checks.lab.mutated import check_mutated, check_wrong
 from checks.lab.names import check_names, made_up
+from checks.lab.nightly import check_nightly
 from checks.lab.nodes import check_by_make, check_by_slurm
 from checks.lab.tried_again import check_tried_again
 from checks.lab.words import check_words
@@ -407,6 +416,7 @@ def check_lab(folder: pathlib.Path, room: pathlib.Path, count: int, tell: bool, 
     check_wrong(folder, room, of[COMMON[0]], fail)
     check_mutated(folder, room, of[COMMON[0]], MUTATED, fail)
     check_words(folder, room / "words", room / "lab.db", of[COMMON[0]], fail)
+    check_page_of_strangers(folder, room / "words", fail)
 
 
 # ---- sessions of captures
@@ -438,6 +448,7 @@ def check_made(folder: pathlib.Path, room: pathlib.Path, fail: Fail) -> None:
     due = [("b1", "d1", 0), ("b1", "d2", 0), ("b2", "d1", 0), ("b2", "d2", 1)]
     compare("the lab of make", rows.fetchall(), due, fail)
     compare("make: scratch", list(scratch.iterdir()), [], fail)
+    check_commands(folder, lab, room, fail)
 
 
 def judge(given: argparse.Namespace, room: pathlib.Path, fail: Fail) -> None:
@@ -450,6 +461,12 @@ def judge(given: argparse.Namespace, room: pathlib.Path, fail: Fail) -> None:
         check_by_make(folder, room, fail)
     elif given.two:
         print_keys_of_two(folder, room, tuple(given.two))
+    elif given.full:
+        print(check_full_disk(folder, room / "full", True, fail))
+    elif given.browser:
+        check_browser(room / "browser", fail)
+    elif given.nightly:
+        check_nightly(folder, room, given.nightly, fail)
     elif given.cut:
         names = sorted(it.parent.name for it in DRIVER.glob("*/capture-1.cap"))
         same, split = check_keys_of_cut(folder, room, names, fail)
@@ -461,12 +478,15 @@ def judge(given: argparse.Namespace, room: pathlib.Path, fail: Fail) -> None:
             check_made(folder, room, fail)
             check_names(room / "names", fail)
             check_tried_again(folder, room / "tried-again", fail)
+            check_full_disk(folder, room / "full", False, fail)
             check_keys_of_cut(folder, room, CUT, fail)
             check_chances(room / "chances", fail)
+            check_page(room / "page", fail)
         check_lab(folder, room, given.results or 200, bool(given.results), fail)
 
 
 if __name__ == "__main__":
     check(judge, results={"type": int, "default": 0}, mutated={"type": int, "default": 0}, make=FLAG, cut=FLAG,
+          full=FLAG, browser=FLAG, nightly={"type": int, "default": 0, "metavar": "N"},
           two={"type": pathlib.Path, "nargs": 2, "metavar": "FOLDER"},
           slurm={"type": int, "nargs": "?", "const": 0, "metavar": "N"})
