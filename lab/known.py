@@ -3,7 +3,7 @@
 import re
 from typing import NamedTuple
 
-from viewer.defects import known
+from viewer.defects import known_keys
 
 # How a comment begins if the defect is known only until a build, with that build.
 UNTIL = re.compile(r"until=(\S+)\s*(.*)", re.DOTALL)
@@ -18,7 +18,7 @@ class Known(NamedTuple):
 def known_in(path: str) -> dict[str, Known]:
     """The defects in a file, by their keys."""
     found = {}
-    for key, comment in known.known_in(path).items():
+    for key, comment in known_keys.known_in(path).items():
         said = UNTIL.fullmatch(comment)
         found[key] = Known(said[1], said[2]) if said else Known(None, comment)
     return found

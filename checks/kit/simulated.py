@@ -15,7 +15,7 @@ the sequences is not that of the driver.
 
 import random
 from collections import Counter, deque
-from typing import Iterator, NamedTuple
+from typing import NamedTuple
 
 from checks.kit.captures import (BC_ACQUIRE, BC_ACQUIRE_DONE, BC_CLEAR_FREEZE_NOTIFICATION, BC_FREEZE_NOTIFICATION_DONE,
                                  BC_FREE_BUFFER, BC_INCREFS_DONE, BC_RELEASE, BC_REPLY, BC_REQUEST_FREEZE_NOTIFICATION,
@@ -139,7 +139,7 @@ class Thread:
         self.process, self.number, self.looper = process, number, looper
         self.todo, self.stack, self.wake, self.blocked, self.given = deque(), [], 0, False, []
         self.writing = ()
-        self.life: Iterator | None = None
+        self.life = None
 
     @property
     def world(self):

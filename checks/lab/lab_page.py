@@ -26,6 +26,7 @@ LAST = {"b4": (Model("latest", 0.6, 2), Model("gone", 0.0, 1), Model("new", 0.5,
 BACK = {build: Model("came", share, 2.0) for build, share in
         (("a1", 0.5), ("a2", 0.0), ("b1", 0.0), ("b3", 0.5), ("b4", 0.5))}
 
+
 class Read(HTMLParser):
     """The groups of a page under its headings, the tags that are open, and what is loaded from elsewhere."""
 

@@ -1,6 +1,6 @@
 """A lab of made-up sessions of four builds, by lab/Makefile and the real programs, and what `fleet compare` says of
-each pair. Builds a1 and a2 are the same. In b1 a fault is new, another one is mended, and a third one comes half as often
-again as before; in b3 it comes three times as often. By hand: prints a table."""
+each pair. Builds a1 and a2 are the same. In b1 a fault is new, another one is mended, and a third one comes half as
+often again as before; in b3 it comes three times as often. By hand: prints a table."""
 
 import os
 import pathlib
@@ -9,10 +9,11 @@ import subprocess
 import time
 from collections import Counter
 
+from checks.kit.captures import ENTER
 from checks.kit.checking import Fail, compare, row
 from checks.kit.runs import answer
 from checks.kit.tokens import marked
-from checks.viewer.sessions.session import *
+from checks.viewer.sessions.session import Session
 
 BUILDS, DEVICES = ("a1", "a2", "b1", "b3"), 20
 SERVERS = ("surfaceflinger", "audioserver", "system_server", "mediaserver")

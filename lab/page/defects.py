@@ -203,8 +203,9 @@ class Lab:
         seen = [cell.build for cell in cells if cell.having]
         newest = by[seen[-1]]
         known = next(iter(self.compared.values())).state(defect[0]) if self.compared else None
-        return Defect(*defect, "real" if any(one.is_real for one in newest) else "maybe", cells, seen[0], seen[-1],
-                      state_of(cells, known))
+        key, kind, who, path = defect
+        verdict = "real" if any(one.is_real for one in newest) else "maybe"
+        return Defect(key, kind, who, path, verdict, cells, seen[0], seen[-1], state_of(cells, known))
 
     def counts(self) -> dict[str, int]:
         """How many defects became what in the last build."""
