@@ -5,8 +5,10 @@
 #define ROUNDS 5
 #define SECOND 1000000000u
 #define SHORTEST_SLEEP 1000000u			/* in nanoseconds; a change of the clocks' own rates is less */
+#define SMALLEST_SET 10000000			/* the wall clock may also be steered, by little at a time */
 
 static u64 ahead;				/* how far CLOCK_BOOTTIME is ahead, or a little more */
+static u64 wall_ahead;				/* how far the wall clock was ahead when that was told */
 static char line[128];				/* the last line, empty before there is one */
 
 static u64 nanoseconds(struct timespec time)
@@ -30,7 +32,19 @@ struct moment clocks_read(void)
 		}
 	}
 	ahead = nanoseconds(best.boot) - best.time;
+	wall_ahead = nanoseconds(best.wall) - best.time;
 	return best;
+}
+
+/* Whether the wall clock shows another time than what was told lets expect. If the processor is lost meanwhile, the next
+ * look tells. */
+static int wall_was_set(void)
+{
+	struct timespec wall;
+	u64 time = now();
+	clock_gettime(CLOCK_REALTIME, &wall);
+	int64_t by = (int64_t)(nanoseconds(wall) - time - wall_ahead);
+	return now() - time < SHORTEST_SLEEP && (by > SMALLEST_SET || by < -SMALLEST_SET);
 }
 
 /* If the processor is lost between the two clocks, less seems to have been slept, and never more. */
@@ -38,7 +52,7 @@ void clocks_look(void)
 {
 	struct timespec boot;
 	clock_gettime(CLOCK_BOOTTIME, &boot);
-	if (nanoseconds(boot) > now() + ahead + SHORTEST_SLEEP)
+	if (nanoseconds(boot) > now() + ahead + SHORTEST_SLEEP || wall_was_set())
 		clocks_tell();
 }
 

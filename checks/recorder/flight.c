@@ -1,7 +1,8 @@
 /* flight WORD..: the recorder on these words, with a driver that is made up, which ends the recording by a signal,
  * unless GOES_ON is in the environment. It is through with its only write after that: so nearly all frames are written
  * after its books were copied. And it does more then, which is not in the recording. PLANTED in the environment names
- * files that somebody else makes meanwhile. See loader. */
+ * files that somebody else makes meanwhile; the system sleeps meanwhile, or with SET_BACK in the environment somebody
+ * sets the wall clock back. See loader. */
 #define _GNU_SOURCE
 #include "drivers.h"
 #include "kernel.h"
@@ -146,7 +147,9 @@ int __wrap_clock_gettime(clockid_t clock, struct timespec *time);
 int __wrap_clock_gettime(clockid_t clock, struct timespec *time)
 {
 	int status = __real_clock_gettime(clock, time);
-	if (looks >= 2 && clock != CLOCK_MONOTONIC)
+	if (looks >= 2 && clock == CLOCK_REALTIME && getenv("SET_BACK"))
+		time->tv_sec -= SLEPT;
+	else if (looks >= 2 && clock != CLOCK_MONOTONIC && !getenv("SET_BACK"))
 		time->tv_sec += SLEPT;
 	return status;
 }

@@ -5,7 +5,8 @@
 # list. And if most frames of a flight recorder are written only when it ends, that the last side list tells of the
 # driver's books of the end, and each one of what was missed meanwhile, since older side lists are removed then. And that
 # a recording ends at one moment: what has its number by then is written later, and what comes later is in no line. And
-# that the side list says what the clocks show after a sleep, at once and in each later list, and at the end. And that
+# that the side list says what the clocks show after a sleep, and after the wall clock was set back, at once and in each
+# later list, and at the end. And that
 # no process can take the files of a flight recorder for what it names and opens: each file has its frames, be the first
 # lines of its side list ever so many. If there is no room for more openings, the side lists say who has them. And that
 # names which somebody else makes in the same folder end no recording.
@@ -51,8 +52,9 @@ ends_at_once() { # SIDE
 sleeps() { # DUE SIDE
   local told
   told=$(sed -nE 's/^([0-9]+) (begin|clocks) realtime=([0-9]+) boottime=([0-9]+).*/\2 \1 \3 \4/p' "$2" |
-    awk '$1 == "begin" { wall = $3 - $2; boot = $4 - $2; next }
-      { printf "%s%.0f %.0f", comma, ($3 - $2 - wall) / 1e9, ($4 - $2 - boot) / 1e9; comma = "," }')
+    awk 'function seconds(time) { return int(time / 1e9 + (time < 0 ? -0.5 : 0.5)) }
+      $1 == "begin" { wall = $3 - $2; boot = $4 - $2; next }
+      { printf "%s%d %d", comma, seconds($3 - $2 - wall), seconds($4 - $2 - boot); comma = "," }')
   if [[ $told != "$1" ]]; then
     printf 'checks/loader: %s: what the clocks show: expected %s, came %s\n' "${2##*/}" "$1" "$told" && failed=1
   fi
@@ -70,6 +72,8 @@ ends='pid,end state,end transactions,end stats,recording'
 tells "$room/whole" "begin state,begin transactions,begin stats,$ends" "$room/whole.side"
 ends_at_once "$room/whole.side"
 sleeps '1000 1000,1000 1000' "$room/whole.side"
+SET_BACK=1 "$room/flight" -o "$room/set" 2>/dev/null
+sleeps '-1000 0,-1000 0' "$room/set.side"
 "$room/flight" -o "$room/kept" --size 65536 --files 2 2>"$room/told"
 lists=("$room"/kept-*.side)
 if [[ ${#lists[@]} != 2 || -e $room/kept-1.side ]]; then

@@ -285,7 +285,8 @@ CREATE TABLE side_thread(device INTEGER, process INTEGER, thread INTEGER, tid IN
 CREATE INDEX side_process_of_pid ON side_process(pid);
 CREATE INDEX side_thread_of_tid ON side_thread(tid);
 CREATE TABLE side_time(seq INTEGER PRIMARY KEY, ts INTEGER NOT NULL) STRICT;
--- What other clocks showed at a time after the beginning: after each sleep of the system, and at the end.
+-- What other clocks showed at a time after the beginning: after each sleep of the system, after the wall clock was set,
+-- and at the end.
 CREATE TABLE side_clock(ts INTEGER PRIMARY KEY, realtime INTEGER NOT NULL, boottime INTEGER NOT NULL) STRICT;
 CREATE TABLE side_lost(seq INTEGER PRIMARY KEY, device INTEGER, process INTEGER, thread INTEGER, why TEXT) STRICT;
 -- The methods of these interfaces, as far as they are known, and those that all objects have.

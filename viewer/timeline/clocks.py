@@ -14,7 +14,8 @@ class Moment(NamedTuple):
 
 
 def moments_of(database: sqlite3.Connection) -> list[Moment]:
-    """The moments that the side list has, in their order: the beginning, each end of a sleep, and the end."""
+    """The moments that the side list has, in their order: the beginning, each end of a sleep, each setting
+    of the wall clock, and the end."""
     known = dict(database.execute("SELECT key, value FROM capture WHERE key IN ('begin_ts', 'realtime', 'boottime')"))
     first = [Moment(known["begin_ts"], known["realtime"], known.get("boottime"))] if "begin_ts" in known else []
     return sorted(first + [Moment(*row) for row in database.execute("SELECT ts, realtime, boottime FROM side_clock")])
