@@ -9,7 +9,7 @@ from collections.abc import Iterator
 from typing import NamedTuple
 
 from lab import chance
-from lab.known import Known
+from lab.known_until import Known
 from viewer.defects.changes import GONE, GROWN, NEW, NOT_MET, SAME, WORSE
 from viewer.files import Stopped
 from viewer.terminal import field_of

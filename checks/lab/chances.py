@@ -15,7 +15,7 @@ from xml.etree import ElementTree
 from checks.kit.checking import Fail, compare
 from lab import chance, reports
 from lab.compare import Comparison
-from lab.known import Known
+from lab.known_until import Known
 from lab.store import open_lab, put
 from viewer.units import defect_key
 

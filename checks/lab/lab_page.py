@@ -14,7 +14,7 @@ from checks.lab.chances import ALIKE, PLANTED, Model, made
 from checks.lab.played import played
 from checks.viewer.page.browser import chromium, with_probe
 from lab.compare import Enough
-from lab.known import Known
+from lab.known_until import Known
 from lab.page import page
 from lab.store import open_lab
 from viewer.files import Stopped

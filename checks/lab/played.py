@@ -9,8 +9,8 @@ import traceback
 from typing import NoReturn
 
 # What `fleet` imports when it needs it.
-from lab import ask, chance, compare, form, known, one, result, store, wrong_list  # noqa: F401
-from viewer.defects import known as viewer_known  # noqa: F401
+from lab import ask, chance, compare, form, known_until, one, result, store, wrong_list  # noqa: F401
+from viewer.defects import known_keys  # noqa: F401
 
 
 def become(program: pathlib.Path, words: list[str], is_closed: bool) -> NoReturn:

@@ -7,7 +7,7 @@ from typing import NamedTuple
 
 from lab import chance
 from lab.compare import BACK, SHOWN, Comparison, Enough
-from lab.known import Known
+from lab.known_until import Known
 from lab.page.builds import Capture, Commands, builds_of, captures_of, commands_of
 from viewer.defects.changes import GONE, GROWN, NEW, WORSE
 from viewer.files import Stopped

@@ -11,7 +11,7 @@ from collections.abc import Iterator
 
 from lab import chance
 from lab.compare import Enough
-from lab.known import Known
+from lab.known_until import Known
 from lab.page.builds import REFUSED, folder_of
 from lab.page.defects import BEFORE, NAMED, Lab, picture_of
 from viewer.files import Stopped, for_owner, whole_file, word_of
