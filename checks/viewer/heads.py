@@ -1,5 +1,5 @@
 """The heads of the SQL files of `view`: which names of which file their statements need, and what they make. And no
-statement changes a raw table, which has what `./listing` wrote.
+statement changes a raw table, which has what `./listing` wrote, or takes a path before it is made to be shown.
 
 SQLite says, as it compiles a statement, what it reads, changes and creates, and which functions it calls. The head of a
 file must have exactly that; otherwise the check says what it should be. The files run in the order of JUDGING, in which
@@ -35,6 +35,11 @@ def files_of_statements() -> dict[str, pathlib.Path]:
     for name in judging.JUDGING:
         found.update(dict.fromkeys(statements_of(judging.FOLDER / name), judging.FOLDER / name))
     return {**found, **{path.read_text("utf-8"): path for path in QUERIES.glob("*.sql")}}
+
+
+# The columns of finding that are made to be shown, by a file of their own.
+TEXTS = "texts.sql"
+SHOWN = {"path", "interface", "others", "method", "service"}
 
 
 class Watched:
@@ -77,6 +82,10 @@ class Watched:
     def is_view(self, name: str | None) -> bool:
         return name in self.views
 
+    def is_early(self, path: pathlib.Path) -> bool:
+        """Whether a file runs before texts are made."""
+        return path.parent == judging.FOLDER and judging.JUDGING.index(path.name) < judging.JUDGING.index(TEXTS)
+
     def take(self, path: pathlib.Path) -> None:
         """Notes what the last statement did. What a view reads is no matter of a statement that reads the view. Of what
         is read without a column, as by `count(*)`, SQLite does not say whether a view reads it."""
@@ -101,6 +110,15 @@ class Watched:
                     and self.maker.get(second) == FUNCTIONS:
                 used.add(second)
         self.uses[path] |= used | bare - inside
+        self.refuse_early(path)
+
+    def refuse_early(self, path: pathlib.Path) -> None:
+        """Stops at a statement that takes what is made to be shown before it is made. Of one that changes findings by
+        others SQLite says that it reads all columns."""
+        read = {column for action, table, column, _ in self.seen if (action, table) == (sqlite3.SQLITE_READ, "finding")}
+        if SHOWN & read and not SHOWN <= read and self.is_early(path):
+            raise SystemExit(f"checks/rules: {path}: it reads {', '.join(SHOWN & read)} of finding, which {TEXTS} makes"
+                             " later")
 
     def look_into_views(self) -> None:
         """Notes what the views read and call, as a matter of their file."""

@@ -350,7 +350,7 @@ CREATE TABLE report(id INTEGER PRIMARY KEY, section TEXT NOT NULL, place INTEGER
 -- requests, deaths, clears, frees and flags, and for replies that are sent. later counts calls no deeper than the
 -- finding itself; for what is neither a call nor its buffer, it counts write frames. culprit is NULL if it is upid.
 -- path is the text of relation, code and the columns from about on, which paths.sql fills; texts.sql makes it, and until
--- then it is NULL.
+-- then it is NULL. So texts.sql makes note of said, with what note has then.
 CREATE TABLE finding(
   id INTEGER PRIMARY KEY,
   report INTEGER,         -- its row in report
@@ -389,5 +389,12 @@ CREATE TABLE finding(
   way INTEGER,
   giver INTEGER,          -- who handed over what came with calls
   status INTEGER,         -- what the call was answered with
-  calls TEXT              -- those that used up a pool
+  calls TEXT,             -- those that used up a pool
+  said TEXT,              -- the words of its note, with the names of the columns below
+  other INTEGER,          -- the place of another record
+  other_upid INTEGER,
+  how_many INTEGER,
+  of_how_many INTEGER,
+  how_long INTEGER,
+  usually INTEGER
 ) STRICT;

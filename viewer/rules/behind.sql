@@ -1,7 +1,7 @@
 -- W4: listeners that fall behind, which are findings of their own, one for each node: oneway sends to it wait longer
 -- and longer.
 -- needs: database/schema.sql: finding, raw_delivery, raw_record, raw_send, raw_thread, side_time; nodes.sql: node_of;
---   ages.sql: last, process_life; rule.sql: lossy; judging.py: counted, duration
+--   ages.sql: last, process_life; rule.sql: lossy
 -- after: used_up.sql
 -- makes: temporary tables: oneway_wait, slow_wait, by_quarter, not_come, behind; indexes: slow_wait_of, not_come_of
 
@@ -59,8 +59,9 @@ SELECT z.upid, z.ptr, z.cookie, (SELECT place FROM slow_wait s WHERE s.came
 FROM by_quarter a JOIN by_quarter z USING (upid, ptr, cookie)
 WHERE a.quarter = 1 AND z.quarter = 4 AND z.n >= :ENOUGH AND z.least > max(:VERY_LONG, :OLD * a.median)
   AND (z.upid, z.ptr, z.cookie) NOT IN (SELECT upid, ptr, cookie FROM behind);
-INSERT INTO finding(section, what, place, seq, upid, utid, code, ptr, cookie, relation, about, node, rule, note)
+INSERT INTO finding(section, what, place, seq, upid, utid, code, ptr, cookie, relation, about, node, rule,
+  said, how_long, usually, how_many)
 SELECT 'queues', 'behind', b.place, r.seq, b.upid, r.utid, r.code, b.ptr, b.cookie, 'at', b.upid, b.ptr,
-  'W4', 'one waited ' || duration(b.wait) || ', an earlier one ' || duration(b.quickest)
-    || iif(b.missing, '; ' || counted(b.missing, 'send') || ' did not come', '')
+  'W4', 'one waited {how_long}, an earlier one {usually}' || iif(b.missing, '; {how_many:send} did not come', ''),
+  b.wait, b.quickest, b.missing
 FROM behind b JOIN raw_record r USING (place);

@@ -1,7 +1,7 @@
 -- A, C, T, U: calls and served calls that are open.
 -- needs: database/schema.sql: finding, raw_call, raw_delivery, raw_thread, side_time; nodes.sql: who; records.sql:
 --   from_before; paths.sql: path_of; ages.sql: ended, last, life, old; rule.sql: lossy; waits.sql: full_pool,
---   lock_ring, pool, ring, step, waited, waits, waits_for; pools.sql: full_wait; judging.py: counted, duration
+--   lock_ring, pool, ring, step, waited, waits, waits_for; pools.sql: full_wait; judging.py: counted
 -- makes: temporary tables: keeps_busy
 
 -- ---- what findings are called
@@ -77,7 +77,8 @@ UPDATE finding SET rule = 'T1' WHERE rule IS NULL AND section IN ('calls', 'serv
 UPDATE finding SET rule = CASE WHEN l.ended_after < c.seq + c.dur_seq THEN 'T1'
     WHEN coalesce(l.ended, last.ts) - (SELECT ts FROM side_time x WHERE x.seq = c.seq + c.dur_seq) > :LONG THEN 'C1'
     ELSE 'C2' END,
-  note = 'replied at ' || c.closer
+  said = 'replied at {other}',
+  other = c.closer
 FROM waits w JOIN raw_call c ON c.place = w.delivery JOIN life l ON l.utid = w.utid, last
 WHERE rule IS NULL AND w.id = finding.id AND w.replied = 2;
 UPDATE finding SET rule = 'C3'
@@ -93,7 +94,7 @@ WHERE rule IS NULL AND upid NOT IN (SELECT upid FROM lossy) AND coalesce(target,
   AND id IN (SELECT w.id FROM waits w WHERE w.delivery IS NULL AND w.server_upid IN (SELECT upid FROM full_pool)
     UNION SELECT f.id FROM waits_for f JOIN waits w USING (id) WHERE w.delivery NOTNULL AND NOT f.by_main);
 -- Or waited for a pool that was used up, and since then only for a while.
-UPDATE finding SET rule = 'C7', note = 'it waited ' || duration(l.until - l.since) || ' for a looper'
+UPDATE finding SET rule = 'C7', said = 'it waited {how_long} for a looper', how_long = l.until - l.since
 FROM full_wait l
 WHERE rule IS NULL AND section = 'calls' AND what = 'open' AND l.place = finding.place
   AND age - (l.until - l.since) <= max(:LONG, :OLD * coalesce(longest, 0));

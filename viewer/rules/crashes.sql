@@ -37,7 +37,7 @@ CREATE UNIQUE INDEX temp.serving_upid ON serving(upid);
 -- The calls that failed because of such an end, and were the only one that the process served. If only their thread
 -- ended, the call failed before. A process that is started again has the same name, and its calls the same interface.
 CREATE TEMP TABLE fell AS
-SELECT f.id, p.name, f.code, n.interface, coalesce(a.ended - y.ts <= :LONG, 0) AS soon
+SELECT f.id, p.upid, p.name, f.code, n.interface, coalesce(a.ended - y.ts <= :LONG, 0) AS soon
 FROM finding f JOIN finding_names n USING (id) JOIN failure e USING (id) JOIN raw_send s ON s.place = e.place
   JOIN raw_delivery d ON d.place = s.delivery JOIN raw_thread t ON t.utid = d.utid
   JOIN ended_alone a ON a.upid = t.upid JOIN serving v ON v.upid = t.upid
@@ -45,7 +45,9 @@ FROM finding f JOIN finding_names n USING (id) JOIN failure e USING (id) JOIN ra
   JOIN side_time x ON x.seq = r.seq LEFT JOIN side_time y ON y.seq = d.seq
 WHERE f.rule = 'E3' AND s.certain AND v.n = 1 AND a.ended - x.ts <= :LONG;
 UPDATE finding SET rule = iif(o.soon AND o.n_soon >= :OFTEN, 'E10', 'E9'),
-  note = coalesce(o.name, 'its server') || ' ended so ' || o.n || ' times'
-FROM (SELECT id, name, soon, count(*) OVER one_path AS n, sum(soon) OVER one_path AS n_soon
+  said = iif(o.name IS NULL, 'its server', '{name}') || ' ended so {how_many} times',
+  other_upid = o.upid,
+  how_many = o.n
+FROM (SELECT id, upid, name, soon, count(*) OVER one_path AS n, sum(soon) OVER one_path AS n_soon
   FROM fell WINDOW one_path AS (PARTITION BY name, code, interface)) o
 WHERE o.id = finding.id AND o.n >= :OFTEN;

@@ -1,6 +1,6 @@
 -- D3, D4, D6, D8, T, U: deaths and clears.
--- needs: database/schema.sql: finding; records.sql: dead_record; paths.sql: given, way_path; ages.sql: begun, ended,
---   leaving, old, process_life; rule.sql: lossy
+-- needs: database/schema.sql: finding; records.sql: dead_record; paths.sql: given; ages.sql: begun, ended, leaving,
+--   old, process_life; rule.sql: lossy
 -- after: requests.sql
 -- makes: temporary tables: balance, begun_death; indexes: balance_at
 
@@ -28,7 +28,7 @@
 
 -- ---- what they say of which finding
 
-UPDATE finding SET rule = 'D3', note = 'the one at ' || d.place FROM finding d
+UPDATE finding SET rule = 'D3', said = 'the one at {other}', other = d.place FROM finding d
 WHERE finding.rule IS NULL AND finding.section = 'clears' AND finding.what = 'unconfirmed' AND +d.section = 'deaths'
   AND d.what = 'unacknowledged' AND d.upid = finding.upid AND d.cookie = finding.cookie;
 UPDATE finding SET rule = CASE WHEN later = 0 AND finding.id IN (SELECT id FROM ended)
@@ -42,8 +42,8 @@ FROM (SELECT f.upid FROM finding f WHERE f.rule = 'U4' AND f.section = 'deaths' 
   HAVING count(*) >= :OFTEN AND count(*) >= :NEARLY_ALL * (SELECT count(*) FROM dead_record d
     WHERE d.upid = f.upid AND d.kind = :BR_DEAD_BINDER)) p
 WHERE rule = 'U4' AND section = 'deaths' AND p.upid = finding.upid;
-UPDATE finding SET note = w.path FROM given g JOIN way_path w ON w.id = g.way
-WHERE rule = 'D8' AND g.generation = finding.generation;
+UPDATE finding SET said = '{way}', way = g.way FROM given g
+WHERE rule = 'D8' AND g.generation = finding.generation AND g.way NOTNULL;
 -- Answers to deaths and clears. Several of one cookie may be under way at once, so those of a cookie are counted: an
 -- answer is one too many if it makes more answers than questions, and more than any answer before it.
 CREATE TEMP TABLE balance AS

@@ -80,7 +80,7 @@ FROM (SELECT e.id, n.rule, n.place, count(*) OVER alike AS n, x.ts - y.ts AS sin
     LEFT JOIN side_time x ON x.seq = s.seq LEFT JOIN side_time y ON y.seq = t.seq
   WHERE e.kind = :BR_DEAD_REPLY AND n.place < e.place
   WINDOW alike AS (PARTITION BY n.rule, e.generation, e.utid, f.code));
-UPDATE finding SET rule = iif(t.rule = 'E2' AND t.goes_on, 'E11', t.rule), note = 'told at ' || t.place
+UPDATE finding SET rule = iif(t.rule = 'E2' AND t.goes_on, 'E11', t.rule), said = 'told at {other}', other = t.place
 FROM (SELECT id, min(rule) AS rule, place, goes_on FROM too_late WHERE certain GROUP BY id) t
 WHERE finding.rule IS NULL AND t.id = finding.id;
 -- A process that was frozen gets no calls until it is thawed.
@@ -99,11 +99,14 @@ FROM (SELECT e.id, e.utid, f.target, (SELECT min(c.place) FROM got_call c WHERE 
 WINDOW one AS (PARTITION BY utid, target, thawed);
 CREATE UNIQUE INDEX temp.in_freeze_of ON in_freeze(id);
 UPDATE finding SET rule = iif(n >= :TOO_MANY AND coalesce(lasted > :VERY_LONG, 0), 'E12', 'E4'),
-  note = 'one of ' || counted(n, 'call') || ' that its thread made while '
-    || (SELECT who FROM who WHERE upid = target) || ' was frozen'
+  said = 'one of {how_many:call} that its thread made while {who} was frozen',
+  other_upid = target,
+  how_many = n
 FROM in_freeze z WHERE rule IS NULL AND z.id = finding.id AND n >= :OFTEN;
 UPDATE finding SET rule = 'E8',
-  note = (SELECT who FROM who WHERE upid = target) || ' was frozen, and got a call again at ' || thawed
+  said = '{who} was frozen, and got a call again at {other}',
+  other_upid = target,
+  other = thawed
 FROM in_freeze z WHERE rule IS NULL AND z.id = finding.id AND thawed NOTNULL;
 UPDATE finding SET rule = CASE e.kind WHEN :BR_DEAD_REPLY THEN 'E3' WHEN :BR_FROZEN_REPLY THEN 'E4'
   ELSE iif(e.refused, 'E5', 'E6') END

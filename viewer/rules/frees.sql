@@ -29,7 +29,8 @@ WHERE EXISTS (SELECT 1 FROM finding WHERE section = 'frees') AND d.freed_by IS N
 CREATE INDEX temp.freed_address ON freed(upid, address, place);
 UPDATE finding SET
   rule = 'F1',
-  note = 'at ' || d.freed_by,
+  said = 'at {other}',
+  other = d.freed_by,
   relation = iif(d.kind = 'BR_REPLY', 'freed reply to', 'freed'),
   code = d.code,
   about = coalesce((SELECT v.upid FROM came_to v WHERE v.place = d.place),

@@ -25,7 +25,7 @@ UPDATE finding SET rule = iif((SELECT known FROM process_life p WHERE p.upid = f
 FROM freeze_dropped d JOIN raw_record r ON r.place = d.end LEFT JOIN side_time z ON z.seq = r.seq
 WHERE rule IS NULL AND section = 'freezes' AND d.place = finding.place
   AND coalesce(z.ts - (SELECT ts FROM side_time x WHERE x.seq = finding.seq) <= :LONG, 1);
-UPDATE finding SET rule = 'D3', note = 'the one at ' || f.place FROM finding f
+UPDATE finding SET rule = 'D3', said = 'the one at {other}', other = f.place FROM finding f
 WHERE finding.rule IS NULL AND finding.section = 'freeze_clears' AND finding.what = 'unconfirmed'
   AND +f.section = 'freezes' AND f.what = 'unacknowledged' AND f.upid = finding.upid AND f.cookie = finding.cookie;
 -- The driver tells a process nothing more of an object until it has acknowledged what it was told. Others are told
@@ -51,7 +51,8 @@ UPDATE finding SET rule = CASE WHEN later = 0 AND finding.id IN (SELECT id FROM 
   WHEN later > 1 AND finding.id IN (SELECT id FROM freeze_news) THEN 'D7' WHEN later > 1 THEN 'U4'
   WHEN finding.id IN (SELECT id FROM old) THEN 'U5' ELSE 'U6' END
 WHERE rule IS NULL AND section IN ('freezes', 'freeze_clears') AND what <> 'stray';
-UPDATE finding SET note = 'another was told at ' || n.place FROM freeze_news n WHERE rule = 'D7' AND n.id = finding.id;
+UPDATE finding SET said = 'another was told at {other}', other = n.place FROM freeze_news n
+WHERE rule = 'D7' AND n.id = finding.id;
 -- What answers nothing. The driver's books say that notifications wait for acknowledgement, and not how many.
 CREATE TEMP TABLE begun_freeze AS
 SELECT f.id, b.quiet, iif(f.section = 'freezes', o.freezes,

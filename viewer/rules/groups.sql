@@ -103,11 +103,16 @@ SELECT
 FROM named n JOIN finding_head h USING (id) GROUP BY 1;
 CREATE UNIQUE INDEX temp.common_of ON common(grp);
 
--- Of each path in a group how many there are, as far as it is counted.
+-- Of each path in a group how many there are, as far as it is counted. Of what came a way, the way is the path, and not
+-- the object.
 CREATE TEMP TABLE paths AS
 SELECT grp, sum(n_all) AS n_all
-FROM (SELECT h.grp, n.path, max(f.n_all) AS n_all FROM named n JOIN finding_head h USING (id) JOIN finding f USING (id)
-  WHERE f.n_all NOTNULL GROUP BY h.grp, n.path, iif(f.section = 'handles', f.upid, 0)) GROUP BY 1;
+FROM (
+  SELECT h.grp, max(f.n_all) AS n_all FROM named n JOIN finding_head h USING (id) JOIN finding f USING (id)
+  WHERE f.n_all NOTNULL
+  GROUP BY h.grp, f.relation, f.code, iif(f.relation = 'given', 0, f.about), iif(f.relation = 'given', 0, f.node), f.way,
+    f.giver, f.status, iif(f.relation = 'handle', f.handle, 0), iif(f.section = 'handles', f.upid, 0))
+GROUP BY 1;
 CREATE UNIQUE INDEX temp.paths_of ON paths(grp);
 
 -- A group has n findings of the n_all of its paths; those that are led do not count. Its rules begin with those of its

@@ -10,6 +10,7 @@ from viewer.database.sqlite import named_numbers, statements_of
 from viewer.rules import waiting
 from viewer.rules.catalogue import FOLDER, catalogue_of, files_in_order, fill
 from viewer.rules.names import Names, short_of
+from viewer.rules.notes import note_text
 from viewer.rules.paths import call_words, name_words, object_words, path_text, thing_words
 from viewer.rules.thresholds import THRESHOLDS
 from viewer.rules.verdicts import RANKS
@@ -33,8 +34,9 @@ NO_LONGER = ("DROP INDEX finding_of_section", "DROP TABLE sqlite_stat1")
 # The functions of which texts and keys are made.
 WORDS: dict[str, Callable] = {
     "duration": duration_of, "counted": counted, "status_name": status_name, "defect_key": defect_key,
-    "path_text": path_text, "call_words": call_words, "object_words": object_words, "name_words": name_words,
-    "thing_words": thing_words, "rank_of": RANKS.get, "bare_name": lambda name: name and short_of(name)}
+    "path_text": path_text, "note_text": note_text, "call_words": call_words, "object_words": object_words,
+    "name_words": name_words, "thing_words": thing_words, "rank_of": RANKS.get,
+    "bare_name": lambda name: name and short_of(name)}
 
 
 def judge(database: sqlite3.Connection, folder: pathlib.Path = FOLDER) -> None:

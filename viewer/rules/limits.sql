@@ -16,7 +16,7 @@ FROM book_stats WHERE moment = 'end';
 UPDATE finding SET note = note || '; ' || p.limits FROM pool_limit p
 WHERE finding.rule = 'C6' AND p.upid = (SELECT min(h.upid) FROM holder h JOIN full_pool USING (upid)
   WHERE h.id = finding.id);
-UPDATE finding SET note = note || '; ' || p.limits FROM waits w JOIN full_pool f ON f.upid = w.server_upid
+UPDATE finding SET note = coalesce(note || '; ', '') || p.limits FROM waits w JOIN full_pool f ON f.upid = w.server_upid
   JOIN pool_limit p ON p.upid = f.upid
 WHERE finding.rule = 'C7' AND w.id = finding.id AND w.delivery IS NULL;
 -- The note of the first refused oneway send says what was in the way then.

@@ -27,7 +27,8 @@ UPDATE finding SET rule = 'W1' WHERE rule IS NULL AND section = 'oneway'
 UPDATE finding SET rule = 'E3' WHERE rule IS NULL AND section = 'oneway' AND finding.id IN (SELECT id FROM ended);
 UPDATE finding SET rule = 'U1' WHERE rule IS NULL AND section = 'oneway' AND n_good >= :ENOUGH
   AND coalesce(age <= :USUAL * longest, age_seq <= :USUAL * longest_seq);
-UPDATE finding SET rule = 'W2', note = 'the one at ' || f.place FROM finding f JOIN raw_record r ON r.place = f.place
+UPDATE finding SET rule = 'W2', said = 'the one at {other}', other = f.place
+FROM finding f JOIN raw_record r ON r.place = f.place
 WHERE finding.rule IS NULL AND +finding.section = 'oneway' AND f.section = 'buffers' AND r.flags & :TF_ONE_WAY
   AND r.kind <> :BR_REPLY
   AND f.upid = finding.target AND f.ptr = finding.ptr AND f.cookie = finding.cookie;
@@ -38,15 +39,15 @@ FROM (SELECT 1 FROM finding WHERE section = 'oneway' AND rule IS NULL LIMIT 1)
   CROSS JOIN raw_delivery d JOIN raw_record r USING (place) JOIN raw_thread t ON t.utid = d.utid
 WHERE r.flags & :TF_ONE_WAY AND t.upid IN (SELECT target FROM finding WHERE section = 'oneway' AND rule IS NULL)
 GROUP BY 1, 2, 3;
-UPDATE finding SET rule = 'W2', note = 'the one at ' || o.place
+UPDATE finding SET rule = 'W2', said = 'the one at {other}', other = o.place
 FROM last_oneway o JOIN process_life p USING (upid) JOIN raw_record f ON f.place = o.freed_by
   JOIN side_time x ON x.seq = f.seq
 WHERE rule IS NULL AND section = 'oneway' AND (o.upid, o.ptr, o.cookie) = (target, finding.ptr, finding.cookie)
   AND o.freed_by > finding.place AND p.ended_after NOTNULL AND p.ended - x.ts <= :LONG;
 -- A buffer that others wait for is no matter of its thread alone.
 UPDATE finding SET waiting = w.n, rule = iif(rule = 'U6' AND finding.id IN (SELECT id FROM old), 'U5', rule)
-FROM (SELECT note, count(*) AS n FROM finding WHERE rule = 'W2' GROUP BY 1) w
-WHERE section = 'buffers' AND w.note = 'the one at ' || place;
+FROM (SELECT other, count(*) AS n FROM finding WHERE rule = 'W2' GROUP BY 1) w
+WHERE section = 'buffers' AND w.other = place;
 UPDATE finding SET rule = 'M1' WHERE rule IS NULL AND section = 'oneway' AND finding.upid IN (SELECT upid FROM lossy);
 UPDATE finding SET rule = CASE WHEN finding.id IN (SELECT id FROM old) THEN 'W3'
   WHEN age IS NULL AND later > 0 THEN 'W3'

@@ -1,8 +1,7 @@
 -- H3 to H11, T, U: references to handles and nodes that are held, and those that are balanced.
 -- needs: database/schema.sql: finding, raw_generation, raw_record, raw_thread, side_time; nodes.sql: who; records.sql:
---   told_death; paths.sql: given, given_way, thing_path, way_path; ages.sql: ended, last, leaving, process_life;
---   handles.sql: handle_row; rule.sql: lossy; waits.sql: waits; ways.sql: earlier, kept_handle, kept_way, let_go,
---   of_way, recorded; judging.py: counted, duration
+--   told_death; paths.sql: given, given_way, thing_path; ages.sql: ended, last, leaving, process_life; handles.sql:
+--   handle_row; rule.sql: lossy; waits.sql: waits; ways.sql: earlier, kept_handle, kept_way, let_go, of_way, recorded
 -- makes: temporary tables: mourned, dead_way, taken_again, reference_change, most_held, more_references, nearly_all,
 --   growing, cache, overdue, kept_elsewhere; indexes: taken_again_of, most_held_of, more_references_of, cache_of
 
@@ -68,14 +67,17 @@ FROM (SELECT f.id, f.upid, min(t.place) AS place, coalesce(p.ended, last.ts) - x
   FROM finding f JOIN told_death t USING (generation) JOIN process_life p ON p.upid = f.upid
     JOIN raw_record r ON r.place = t.place LEFT JOIN side_time x ON x.seq = r.seq, last
   WHERE f.section = 'handles' AND f.what = 'held' GROUP BY f.id);
-UPDATE finding SET rule = 'H3', note = 'told at ' || m.place FROM mourned m
+UPDATE finding SET rule = 'H3', said = 'told at {other}', other = m.place FROM mourned m
 WHERE rule IS NULL AND m.id = finding.id AND m.long;
 -- By which calls or replies they came, and how many of those that its process got so are such.
 CREATE TEMP TABLE dead_way AS
 SELECT v.upid, v.way, count(*) AS n FROM finding f JOIN given v USING (generation)
 WHERE f.rule = 'H3' AND v.way NOTNULL GROUP BY 1, 2;
-UPDATE finding SET note = note || '; ' || (SELECT path FROM way_path w WHERE w.id = d.way) || ': ' || d.n || ' of '
-  || (SELECT sum(w.n) FROM given_way w WHERE (w.upid, w.way) = (d.upid, d.way)) || ' that came so'
+UPDATE finding SET
+  said = 'told at {other}; {way}: {how_many} of {of_how_many} that came so',
+  way = d.way,
+  how_many = d.n,
+  of_how_many = (SELECT sum(w.n) FROM given_way w WHERE (w.upid, w.way) = (d.upid, d.way))
 FROM given v JOIN dead_way d USING (upid, way) WHERE rule = 'H3' AND v.generation = finding.generation;
 -- The most that a generation that is held had at once, if one thread took and let go of all. Records of several threads
 -- say nothing of that: one may write late that it let go, when another has taken it again. By these a generation has
@@ -112,11 +114,13 @@ FROM (SELECT generation, sum(n * (left >= :LATELY)) AS half, sum(n * (left >= :L
       LEFT JOIN side_time x ON x.seq = c.seq) GROUP BY 1)
 WHERE held - half >= max(:TOO_MANY, :GROWTH * held) AND half < later AND later < held;
 CREATE UNIQUE INDEX temp.more_references_of ON more_references(generation);
-UPDATE finding SET rule = iif(o.told NOTNULL, 'H11', 'H4'),
-  note = iif(m.strong > 1 AND g.strong > 0,
-    counted(g.acquired, 'time') || ', and let go of ' || counted(g.released, 'time'),
-    counted(g.increfs, 'time') || ', weakly, and let go of ' || counted(g.decrefs, 'time'))
-    || coalesce('; ' || o.told, '')
+UPDATE finding SET
+  rule = iif(o.told NOTNULL, 'H11', 'H4'),
+  said = iif(m.strong > 1 AND g.strong > 0, '{how_many:time}, and let go of {of_how_many:time}',
+    '{how_many:time}, weakly, and let go of {of_how_many:time}'),
+  how_many = iif(m.strong > 1 AND g.strong > 0, g.acquired, g.increfs),
+  of_how_many = iif(m.strong > 1 AND g.strong > 0, g.released, g.decrefs),
+  note = o.told
 FROM raw_generation g JOIN most_held m ON m.generation = g.id LEFT JOIN more_references o ON o.generation = g.id
 WHERE rule IS NULL AND section = 'handles' AND what = 'held' AND g.id = finding.generation
   AND (m.strong > 1 AND g.strong > 0 OR m.weak > 1 AND g.weak > 0);
@@ -150,12 +154,17 @@ WHERE rule IS NULL AND section = 'handles' AND what = 'held' AND k.generation = 
   AND k.way IN (SELECT way FROM nearly_all) AND k.way NOT IN (SELECT way FROM cache);
 -- H8. If others of the way were let go of, the longest of them says how long one is needed.
 CREATE TEMP TABLE overdue AS
-SELECT f.id, k.way, count(*) OVER (PARTITION BY k.way) AS of, l.n || ' others were let go of, each within '
-    || iif(l.longest IS NULL, counted(l.longest_seq, 'frame'), duration(l.longest)) AS told
+SELECT f.id, k.way, count(*) OVER (PARTITION BY k.way) AS of, l.n, l.longest, l.longest_seq
 FROM finding f JOIN kept_handle k USING (generation) JOIN let_go l ON l.way = k.way
 WHERE f.rule IS NULL AND f.section = 'handles' AND f.what = 'held' AND l.n >= :MANY AND NOT k.in_use
   AND coalesce(k.idle > max(:LONG, :OLD * l.longest), k.idle_seq > :OLD * l.longest_seq);
-UPDATE finding SET rule = 'H8', note = o.told FROM overdue o WHERE o.id = finding.id AND o.of >= :OFTEN;
+UPDATE finding SET
+  rule = 'H8',
+  said = '{how_many} others were let go of, each within ' || iif(o.longest IS NULL, '{of_how_many:frame}', '{usually}'),
+  how_many = o.n,
+  of_how_many = iif(o.longest IS NULL, o.longest_seq, NULL),
+  usually = o.longest
+FROM overdue o WHERE o.id = finding.id AND o.of >= :OFTEN;
 -- H9. What grows, whatever share of it is kept, and whether it is used.
 UPDATE finding SET rule = 'H9' FROM kept_handle k
 WHERE rule IS NULL AND section = 'handles' AND what = 'held' AND k.generation = finding.generation

@@ -55,7 +55,7 @@ DELETE FROM second_request WHERE before IS NULL OR EXISTS (SELECT 1 FROM dead_re
 DELETE FROM second_request WHERE EXISTS (SELECT 1 FROM raw_generation g WHERE g.upid = second_request.upid
   AND g.handle = second_request.handle AND g.end BETWEEN second_request.before AND second_request.place);
 CREATE UNIQUE INDEX temp.second_request_of ON second_request(upid, handle, cookie);
-UPDATE finding SET rule = 'D2', note = 'the one before is at ' || q.before FROM second_request q
+UPDATE finding SET rule = 'D2', said = 'the one before is at {other}', other = q.before FROM second_request q
 WHERE rule IS NULL AND section IN ('requests', 'clears')
   AND (q.upid, q.handle, q.cookie) = (finding.upid, finding.handle, finding.cookie);
 UPDATE finding SET rule = 'D5' WHERE rule IS NULL AND section = 'requests';

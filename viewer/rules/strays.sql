@@ -32,13 +32,14 @@ CREATE TEMP TABLE first_crossed AS
 SELECT utid, min(closer) AS closer FROM raw_call
 WHERE verdict = 4 AND EXISTS (SELECT 1 FROM finding WHERE section = 'strays' OR what = 'crossed') GROUP BY utid;
 CREATE UNIQUE INDEX temp.first_crossed_of ON first_crossed(utid);
-UPDATE finding SET rule = 'S1', note = 'the send at ' || s.place FROM raw_send s
+UPDATE finding SET rule = 'S1', said = 'the send at {other}', other = s.place FROM raw_send s
 WHERE rule IS NULL AND section = 'strays' AND s.refused = finding.place;
-UPDATE finding SET rule = 'S1', note = 'the send at ' || s.place FROM raw_call c JOIN raw_send s ON s.refused = c.closer
+UPDATE finding SET rule = 'S1', said = 'the send at {other}', other = s.place
+FROM raw_call c JOIN raw_send s ON s.refused = c.closer
 WHERE rule IS NULL AND what = 'crossed' AND c.place = finding.place;
 -- If a call was open, the driver tells the caller of a refused reply, and not the thread that replied. So what came
 -- before the capture does not matter.
-UPDATE finding SET rule = 'S2', note = 'refused at ' || s.refused FROM raw_send s
+UPDATE finding SET rule = 'S2', said = 'refused at {other}', other = s.refused FROM raw_send s
 WHERE rule IS NULL AND section = 'strays' AND s.place = finding.place AND s.refused IS NOT NULL;
 -- Of a thread that had calls open when the recording began, as many closers are theirs. It is known of a thread without
 -- a frame before the copy of the books. But a thread that reads first may have been in a write since before the

@@ -5,13 +5,14 @@
 -- makes: columns: id, kind, who, path, call, verdict, n, n_all, waiting, rules, age, place, own_path, note
 WITH each AS (
   SELECT *, max(min(rank) OVER (PARTITION BY defect), 2) AS least
-  FROM (SELECT x.defect, f.id, f.section, f.upid, f.place, f.path, f.n_all, f.waiting, f.age, f.rule, f.note, r.verdict,
-      rank_of(r.verdict) AS rank
+  FROM (SELECT x.defect, f.*, r.verdict, rank_of(r.verdict) AS rank
     FROM finding_defect x JOIN finding f ON f.id = x.finding JOIN rule r ON r.id = f.rule)),
 counted AS (SELECT * FROM each WHERE rank <= least),
 leading AS (SELECT *, row_number() OVER (PARTITION BY defect ORDER BY rank, place, id) AS nth FROM counted),
 paths AS (SELECT defect, sum(n_all) AS n_all
-  FROM (SELECT defect, max(n_all) AS n_all FROM counted GROUP BY defect, path, iif(section = 'handles', upid, 0))
+  FROM (SELECT defect, max(n_all) AS n_all FROM counted
+    GROUP BY defect, relation, code, iif(relation = 'given', 0, about), iif(relation = 'given', 0, node), way, giver,
+      status, iif(relation = 'handle', handle, 0), iif(section = 'handles', upid, 0))
   GROUP BY defect),
 sums AS (SELECT defect, count(*) AS n, max(coalesce(waiting, 0)) AS waiting, group_concat(DISTINCT rule) AS rules,
     max(age) AS age FROM counted GROUP BY defect)
