@@ -17,6 +17,7 @@ from checks.viewer.page.common import loaded, on_one_clock, texts_stored
 from checks.viewer.timeline.system_trace import AHEAD, SLEPT, SystemTrace
 from viewer.timeline import trace
 from viewer.timeline.tracks import Window
+from viewer.units import counted
 
 # Traces by the suffixes of their names, and how the arguments of slices are called in them.
 PLAIN, ANDROID, JSON = "plain.pftrace", "android.pftrace", "out.json.gz"
@@ -231,12 +232,22 @@ SELECT count(*), sum(client_dur), sum(server_dur) FROM android_binder_txns"""
 STATES = """
 INCLUDE PERFETTO MODULE android.binder;
 SELECT DISTINCT thread_state_type, thread_state FROM android_sync_binder_thread_state_by_txn ORDER BY 1, 2"""
+# Threads with slices, and those of them that the system trace says have run; and what it says of transactions.
+RAN = """
+INCLUDE PERFETTO MODULE android.binder;
+SELECT count(DISTINCT utid), count(DISTINCT iif(utid IN (SELECT utid FROM sched), utid, NULL)),
+  (SELECT count(*) FROM android_sync_binder_thread_state_by_txn)
+FROM thread_track WHERE id IN (SELECT track_id FROM slice)"""
 OURS = "SELECT extract_arg(arg_set_id, 'debug.place'), ts, dur FROM slice WHERE category IN ('call', 'served')"
+
+
+# How a system trace is made: whether processes begin in it, and in how many pieces it is written.
+WAYS = ((False, 1), (True, 1), (False, 20), (True, 20))
 
 
 def joined(room: pathlib.Path, system: bytes, ours: bytes) -> Iterator[pathlib.Path]:
     """Both traces as one: one behind the other, and in archives, as the page of Perfetto makes of several files."""
-    for name, data in (("both", system + ours), ("turned", ours + system)):
+    for name, data in (("theirs-first", system + ours), ("ours-first", ours + system)):
         (room / f"{name}.pftrace").write_bytes(data)
         yield room / f"{name}.pftrace"
     for name, data in (("system", system), ("ours", ours)):
@@ -255,14 +266,31 @@ def check_joined(what: str, tool: TraceProcessor, room: pathlib.Path, database: 
                  name: str, found: Counter, fail: Fail) -> None:
     """Processes are one, all calls are there, at the system's times, and the phone's own transactions are as before."""
     has_binder = name == PLAIN
-    phone = system.made(has_binder, not has_binder)
+    ran = set()
+    for has_tasks, pieces in WAYS:
+        phone = system.made(has_binder, not has_binder, has_tasks, pieces)
+        way = f"{what}, {name}, {'new processes, ' * has_tasks}{counted(pieces, 'piece')}"
+        ran |= check_way(way, tool, room, database, system, phone, name, found, fail)
+        found["joined in pieces" if pieces > 1 else "joined in one piece"] += 1
+    compare(f"{what}, {name}: threads that ran, rows of their states, in all ways", len(ran), 1, fail)
+
+
+def check_way(what: str, tool: TraceProcessor, room: pathlib.Path, database: sqlite3.Connection, system: SystemTrace,
+              phone: bytes, name: str, found: Counter, fail: Fail) -> set[tuple[str, ...]]:
+    """Returns what is said of the threads that ran, in each order of both files. Behind a trace in pieces our slices
+    come too late, as docs/PERFETTO.md says."""
+    has_binder, ran = name == PLAIN, set()
     (room / "phone.pftrace").write_bytes(phone)
     alone = tool.ask(room / "phone.pftrace", PHONE_S)
     due = {place: (system.boottime(ts), system.boottime(ts + dur) - system.boottime(ts) if dur is not None else None)
            for place, ts, dur in database.execute("SELECT place, ts, dur FROM call")}
     pids = Counter(pid for pid, in database.execute("SELECT DISTINCT pid FROM process"))
     for path in joined(room, phone, (room / name).read_bytes()):
-        told = f"{what}, {name}, {path.name}"
+        told = f"{what}, {path.name}"
+        if path.stem == "theirs-first" and "1 piece" not in what:
+            lost = len(due) - len(tool.ask(path, OURS))
+            compare(f"{told}: slices are lost", lost > 0, True, fail)
+            continue
         compare(f"{told}: faults", tool.ask(path, FAULTS), [], fail)
         compare(f"{told}: processes", {int(pid): int(n) for pid, n in tool.ask(path, PROCESSES)}, dict(pids), fail)
         theirs, ours, all_, numbers = map(int, tool.ask(path, UNDER_ONE)[0])
@@ -276,10 +304,12 @@ def check_joined(what: str, tool: TraceProcessor, room: pathlib.Path, database: 
             compare(f"{told}: the phone has some", int(alone[0][0]) > 0, True, fail)
             found["transactions of the phone: alone, joined"] = f"{alone[0][0]}, {tool.ask(path, PHONE_S)[0][0]}"
         else:
+            ran.add(tuple(tool.ask(path, RAN)[0]))
             states = [tuple(one) for one in tool.ask(path, STATES)]
             compare(f"{told}: who ran meanwhile",
                     {("binder_reply", "Running"), ("binder_txn", "S")} <= set(states), True, fail)
         found["joined traces"] += 1
+    return ran or {()}
 
 
 def side_of(sleeps: bool, room: pathlib.Path) -> pathlib.Path:
