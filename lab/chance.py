@@ -137,8 +137,8 @@ class Orders:
 
 
 def orders_for(tests: int, rate: float) -> int:
-    """How many orders tell a difference beside so many tests: enough for a p well below what the first one needs."""
-    return min(MOST_ORDERS, math.ceil(5 * max(tests, 1) / max(rate, 1e-9)))
+    """How many orders tell a difference beside so many tests: enough for half of the p that the first one needs."""
+    return min(MOST_ORDERS, math.ceil(2 * max(tests, 1) / max(rate, 1e-9)))
 
 
 def limit(ps: Iterable[float], rate: float) -> float:
