@@ -71,10 +71,11 @@ SELECT upid, 'calls ' || side, sum(report), sum(books) FROM (
   UNION ALL SELECT upid, side, 0, 1 FROM book_call e WHERE moment = 'end' AND NOT EXISTS (
     SELECT 1 FROM book_call b WHERE b.moment = 'begin' AND (b.upid, b.number) = (e.upid, e.number)))
 WHERE upid NOT IN (SELECT upid FROM book_call WHERE moment = 'begin' AND side = 'made') GROUP BY upid, side""",
-    # The driver says that deaths wait for acknowledgement, and not how many.
+    # The driver says that deaths wait for acknowledgement, and not how many. It drops a death with the last reference.
     "deaths": """
 SELECT upid, 'deaths not acknowledged', max(report), max(books) FROM (
   SELECT upid, 1 AS report, 0 AS books FROM finding WHERE section = 'deaths' AND what = 'unacknowledged'
+    AND rule IS NOT 'D9'
   UNION ALL SELECT upid, 0, deaths FROM compared)
 WHERE upid NOT IN (SELECT upid FROM book_opening WHERE moment = 'begin' AND deaths) GROUP BY upid""",
     # A request that waits for a death. The driver keeps it after it has told of the death, until nothing holds the

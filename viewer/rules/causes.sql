@@ -8,7 +8,7 @@
 CREATE TEMP TABLE of_death AS
 WITH death AS (SELECT id, upid, cookie, place, iif(rule = 'D8', 2, 4) AS rank,
     coalesce('process ' || target, 'object ' || generation, 'cookie ' || cookie) AS dead FROM finding
-  WHERE section = 'deaths' AND what = 'unacknowledged' AND rule <> 'L1')
+  WHERE section = 'deaths' AND what = 'unacknowledged' AND rule NOT IN ('L1', 'D9'))
 SELECT id, upid, coalesce('process ' || target, 'object ' || generation) AS dead, iif(rule = 'E1', 1, 3) AS rank, place
 FROM finding WHERE rule IN ('E1', 'H3')
 UNION ALL SELECT id, upid, dead, rank, place FROM death

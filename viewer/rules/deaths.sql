@@ -1,8 +1,8 @@
--- D3, D4, D6, D8, T, U: deaths and clears.
--- needs: database/schema.sql: finding; records.sql: dead_record; paths.sql: given; ages.sql: begun, ended, leaving,
---   old, process_life; rule.sql: lossy
+-- D3, D4, D6, D8, D9, T, U: deaths and clears.
+-- needs: database/schema.sql: book_handle, book_opening, finding, raw_generation; database/views.sql: process;
+--   records.sql: dead_record; paths.sql: given; ages.sql: begun, ended, leaving, old, process_life; rule.sql: lossy
 -- after: requests.sql
--- makes: temporary tables: balance, begun_death; indexes: balance_at
+-- makes: temporary tables: dropped_death, balance, begun_death; indexes: balance_at
 
 -- ---- what findings are called
 
@@ -25,9 +25,33 @@
 --   rests on: OFTEN, NEARLY_ALL
 --   met by: `deaths_not_acknowledged()`: a service acknowledges none of three deaths
 --   where frames are missing: M1
+-- D9 explained: The process let go of the handle after it was told: the driver drops the death with the last reference.
+--   met by: `deaths_not_acknowledged()`: the handles of the dead are released
 
 -- ---- what they say of which finding
 
+-- The servicemanager of Android up to 10 does so with every service that ends. A death whose request was cleared is no
+-- more that of the handle: it waits for its acknowledgement. Of a process that was met in mid-life, the driver's books
+-- say what it held before. If it asked for the death before too, no handle is known; then the books of the end say
+-- whether a death waits for its acknowledgement.
+CREATE TEMP TABLE dropped_death AS
+SELECT f.id FROM finding f JOIN process p USING (upid) JOIN raw_generation o ON o.id = f.generation
+WHERE f.section = 'deaths' AND f.what = 'unacknowledged' AND (p.met = 'from-start' AND o.end > f.place
+  OR p.met <> 'from-start' AND (SELECT sum(g.released + g.decrefs) > 0
+      AND max(sum(g.acquired - g.released) + coalesce(b.strong, 0),
+        sum(g.increfs - g.decrefs) + coalesce(b.weak, 0)) <= 0
+    FROM begun u JOIN raw_generation g ON g.upid = u.upid AND g.handle = o.handle AND g.n <= o.n
+      LEFT JOIN book_handle b ON b.moment = 'begin' AND b.upid = u.upid AND b.handle = o.handle
+    WHERE u.upid = f.upid AND u.quiet))
+  AND NOT EXISTS (SELECT 1 FROM dead_record c WHERE (c.upid, c.cookie) = (f.upid, f.cookie)
+    AND c.kind = :BC_CLEAR_DEATH_NOTIFICATION AND c.place > coalesce((SELECT max(q.place) FROM dead_record q
+      WHERE (q.upid, q.cookie) = (f.upid, f.cookie) AND q.kind = :BC_REQUEST_DEATH_NOTIFICATION AND q.place < f.place),
+      -1))
+UNION ALL SELECT f.id FROM finding f JOIN process p USING (upid) JOIN book_opening e USING (upid)
+WHERE f.section = 'deaths' AND f.what = 'unacknowledged' AND f.generation IS NULL AND p.met = 'in-mid-life'
+  AND e.moment = 'end' AND e.quiet AND NOT e.deaths
+  AND f.upid IN (SELECT upid FROM raw_generation WHERE released + decrefs > 0);
+UPDATE finding SET rule = 'D9' WHERE rule IS NULL AND id IN (SELECT id FROM dropped_death);
 UPDATE finding SET rule = 'D3', said = 'the one at {other}', other = d.place FROM finding d
 WHERE finding.rule IS NULL AND finding.section = 'clears' AND finding.what = 'unconfirmed' AND +d.section = 'deaths'
   AND d.what = 'unacknowledged' AND d.upid = finding.upid AND d.cookie = finding.cookie;

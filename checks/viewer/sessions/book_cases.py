@@ -1,8 +1,8 @@
 """Sessions that were met in mid-life, with the driver's book of what they held then."""
 
 from checks.kit.captures import (BC_ACQUIRE, BC_DEAD_BINDER_DONE, BC_RELEASE, BC_REPLY, BC_REQUEST_DEATH_NOTIFICATION,
-                                 BR_CLEAR_DEATH_NOTIFICATION_DONE, BR_RELEASE, BR_REPLY, BR_SPAWN_LOOPER, ENTER, each,
-                                 each_long, node, record, watch)
+                                 BR_CLEAR_DEATH_NOTIFICATION_DONE, BR_DEAD_BINDER, BR_RELEASE, BR_REPLY,
+                                 BR_SPAWN_LOOPER, ENTER, each, each_long, node, record, watch)
 from checks.viewer.sessions.cases import case
 from checks.viewer.sessions.session import DONE, Sent
 
@@ -68,6 +68,27 @@ def lets_go(s, had, times, lost=False, early=False):
     if lost:
         s.loses(client)
     client.main.writes(*each(BC_RELEASE, *[7] * times))
+
+
+@case("D9:1 H7:1", had=1)
+@case("H6:1 U4:1", had=2)
+@case("D9:1 H7:1", had=1, asked=False, waits=False)
+@case("H7:1 U4:1", had=1, asked=False, waits=True)
+@case("H7:1 U4:1", had=1, asked=False, waits=None)
+def lets_go_of_dead(s, had, asked=True, waits=None):
+    """A process lets go of a handle that it held before, when it was told of the death, and does not acknowledge that.
+    `asked`: it asked for the death after the recording began. `waits`: whether the book of the end has a death that
+    waits for its acknowledgement; None without a book."""
+    service, client = begun(s, ref(7, had), own(0x700))
+    if asked:
+        client.main.writes(watch(BC_REQUEST_DEATH_NOTIFICATION, 7, 0xD7))
+    client.main.reads(*each_long(BR_DEAD_BINDER, 0xD7))
+    client.main.writes(*each(BC_RELEASE, 7))
+    for _ in range(2):
+        client.main.writes(ENTER)
+    s.wait(1100)
+    if waits is not None:
+        s.books("end", of_200=DEAD if waits else "", of_100="")
 
 
 @case("H6:1", had=1)

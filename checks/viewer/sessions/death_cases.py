@@ -29,7 +29,7 @@ def callbacks_of_the_dead(s, dead, alive, done=9):
 
 @case("D8:3 H3:3", "real deaths not acknowledged: 3 of - handles, short-lived D8 (given by calls of code 4; with 3"
       " references to the dead)", "groups that are maybe: 0", "D8 by server 300: 3")
-@case("D8:3", "groups that are real: 1", lets_go=True)
+@case("D9:3", "groups that are real: 0", "groups that are maybe: 0", lets_go=True)
 @case("H3:2 U4:2", dead=2, wait=1100)
 @case("D8:4 H3:5", dead=5, done=1)
 @case("H3:5 U4:3", dead=5, done=2)
@@ -75,16 +75,16 @@ def deaths_not_acknowledged(s, dead=3, done=0, lets_go=False, last=0, wait=200, 
 @case("D3:1 E1:2 H3:1 U4:1", "real calls that failed: 2 of 2 code 7 to ", "groups that are maybe: 0",
       "groups that are explained: 0",
       "; with 1 reference to the dead and 1 death not acknowledged and 1 clear not confirmed)", clears=True, calls=2)
-@case("E1:2 U4:1", "real calls that failed: 2 of 2 code 7 to ", "groups that are maybe: 0",
-      "; with 1 death not acknowledged)", calls=2, lets_go=True)
+@case("D9:1 E1:2", "real calls that failed: 2 of 2 code 7 to ", "groups that are maybe: 0", calls=2, lets_go=True)
+@case("D9:1", "groups that are maybe: 0", "groups that are explained: 1", lets_go=True)
 @case("H3:2 U4:2", "maybe references to an object told dead: 2 of 2 handles, short-lived H3",
       "groups that are maybe: 1", "; with 2 deaths not acknowledged)", objects=2)
-@case("H3:1 U4:2", "maybe references to an object told dead: 1 of 1 handle 1, ", "groups that are maybe: 1",
-      "; with 2 deaths not acknowledged)", objects=2, lets_go_of=2)
+@case("D9:1 H3:1 U4:1", "maybe references to an object told dead: 1 of 1 handle 1, ", "groups that are maybe: 1",
+      "; with 1 death not acknowledged)", objects=2, lets_go_of=2)
 @case("H3:1 L1:1", "groups that are maybe: 1", "groups that are explained: 1", "1 of 1 that came so)", done=True,
       objects=2, lets_go_of=2, late=True)
-@case("H3:1 U4:2", "maybe references to an object told dead: 1 of 1 handle 1, ",
-      "maybe deaths not acknowledged: 1 of - handle 20, other 500 node 0x9000 U4", "groups that are maybe: 2",
+@case("D9:1 H3:1 U4:1", "maybe references to an object told dead: 1 of 1 handle 1, ",
+      "explained deaths not acknowledged: 1 of - handle 20, other 500 node 0x9000 D9", "groups that are maybe: 1",
       "; with 1 death not acknowledged)", other=True)
 def death(s, done=False, clears=False, calls=0, lets_go=False, objects=1, lets_go_of=0, other=False,
           late=False):
