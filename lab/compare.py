@@ -211,8 +211,14 @@ class Comparison:
         could not do not count."""
         return chance.least_p(self.sides.old, self.sides.new, having) <= self.rate
 
+    def rate_may_tell(self, found: list[Found]) -> bool:
+        """The same of findings an hour. If each capture has one finding, captures say it all."""
+        least = chance.least_order_p(self.sides.old, self.sides.new, len(found))
+        return least <= self.rate and any(one.n > 1 for one in found)
+
     def tested(self, found: dict[tuple, list[Found]]) -> list[Row]:
-        orders = chance.orders_for(2 * sum(self.may_tell(len(some)) for some in found.values()), self.rate)
+        tests = sum(self.may_tell(len(some)) + self.rate_may_tell(some) for some in found.values())
+        orders = chance.orders_for(tests, self.rate)
         return [self.row(defect, some, orders) for defect, some in found.items()]
 
     def row(self, defect: tuple, found: list[Found], orders: int) -> Row:
@@ -221,9 +227,8 @@ class Comparison:
         if self.may_tell(len(found)):
             p_captures = chance.fisher(before.captures, self.sides.old, now.captures, self.sides.new)
         # If one side has none, its captures say it all.
-        if before.captures and now.captures and any(one.n > 1 for one in found):
-            if chance.least_order_p(self.sides.old, self.sides.new, len(found)) <= self.rate:
-                p_rate = self.sides.orders.p(((self.sides.place[one.capture], one.n) for one in found), orders)
+        if before.captures and now.captures and self.rate_may_tell(found):
+            p_rate = self.sides.orders.p(((self.sides.place[one.capture], one.n) for one in found), orders)
         real = before.real + now.real
         if real < len(found) and self.may_tell(real):
             p_real = chance.fisher(before.real, self.sides.old, now.real, self.sides.new)

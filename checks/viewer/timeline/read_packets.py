@@ -77,6 +77,13 @@ class ReadPackets(Read):
         self.correlated: dict[int, list] = defaultdict(list)
         self.system = {upid: pid if pid is not None else process for upid, process, pid in
                        database.execute("SELECT upid, process, pid FROM process")}
+        # When a thread may first be seen, and a process: a number may be given again.
+        self.seen: dict[tuple[int, int] | int, set[int]] = defaultdict(set)
+        for upid, thread, tid, ts in database.execute("SELECT t.upid, t.thread, t.tid, x.ts FROM thread t"
+                                                      " JOIN side_time x ON x.seq = t.first_seq"):
+            of = self.thread_of(upid, thread, tid)
+            self.seen[of].add(ts)
+            self.seen[of[0]].add(ts)
         for _, packet in fields(whole(path)):
             self.take(message(packet))
         self.end_of_file()
@@ -95,7 +102,7 @@ class ReadPackets(Read):
         for data in packet[6]:
             self.clocks.append({clock[1][0]: clock[2][0] for clock in map(message, message(data)[1])})
         for data in packet[60]:
-            self.take_track(message(data))
+            self.take_track(message(data), packet[8])
         for data in packet[126]:
             for one in map(message, message(data)[1]):
                 self.told[one[1][0].decode()] = one[2][0] if one[2] else one[3][0].decode()
@@ -103,8 +110,12 @@ class ReadPackets(Read):
             compare("the flags of an event", packet[13], [2], self.fail)
             self.take_event(packet[8][0], message(data))
 
-    def take_track(self, told: Message) -> None:
+    def take_track(self, told: Message, times: list[int]) -> None:
         uuid, = told[1]
+        if told[3] or told[4]:
+            seen = self.seen[self.track_of(told)]  # type: ignore[index]
+            compare(f"the time of {self.track_of(told)}, one of {seen}", (len(times), set(times) <= seen),
+                    (bool(seen), True), self.fail)
         if uuid in self.tracks or any(parent not in self.tracks for parent in told[5]):
             self.fail(f"a track twice, or before the one around it: {told}")
         self.tracks[uuid] = told
