@@ -113,6 +113,13 @@ def wrong_missing(text: str) -> Iterator[str]:
                 for rule in sorted(due.keys() | told.keys()) if due.get(rule) != told.get(rule))
 
 
+def wrong_orders(text: str) -> Iterator[str]:
+    """Rules that the page gives no place in the order of their section. Those of all sections have several, or none."""
+    placed = set(re.findall(r"\b[A-Z]\d+\b", "".join(re.findall(r"^    .*\n", text, re.MULTILINE))))
+    yield from (f"{rule.id} has no place in the order of its section" for rule in catalogue_of(FOLDER).rules
+                if rule.id not in placed and rule.file != "rule.sql")
+
+
 def stored_rules() -> set[tuple[str, str]]:
     """The scenarios of samples/driver, each with its rules of verdict real or maybe."""
     return {(fields[0], rule) for fields in verdicts() for rule in fields[-1].split(",")}
@@ -134,9 +141,11 @@ def wrong_sessions(cases: Iterable[Case]) -> Iterator[str]:
 def faults_of_page(cases: Iterable[Case]) -> Iterator[str]:
     """What is wrong with the page, with what the files of rules say, and with the stored groups that they name."""
     text = PAGE.read_text("utf-8")
-    for what in (*stale(text), *wrong_thresholds(text), *wrong_missing(text)):
+    if wrong := list(wrong_rules(catalogue_of(FOLDER).rules)):
+        yield from wrong
+        return
+    for what in (*stale(text), *wrong_thresholds(text), *wrong_missing(text), *wrong_orders(text)):
         yield f"docs/RULES.md: {what}"
-    yield from wrong_rules(catalogue_of(FOLDER).rules)
     yield from wrong_sessions(cases)
     for scenario, why, *group in verdicts():
         if why not in ("fault", "more"):
