@@ -197,7 +197,7 @@ boot() { # KERNEL PLAN OUT WORDS
   rm -f -- "$room/disk" && truncate -s 3G "$room/disk"
   # shellcheck disable=SC2086
   timeout "$limit" nice -n "$(($(nice) < 10 ? 10 - $(nice) : 0))" $emulator -m 4G -smp 4 -nographic -no-reboot \
-    -nodefaults -serial stdio -kernel "$(find "$1/" -name 'vmlinuz*' | head -n 1)" -initrd "$room/initramfs.gz" \
+    -nodefaults -serial stdio -kernel "$(bootable "$1")" -initrd "$room/initramfs.gz" \
     -drive "file=$room/disk,format=raw,if=virtio" \
     -append "$words panic=-1 quiet rdinit=/init security=selinux selinux=1 $4" </dev/null >"$3/console" 2>&1 || true
   tar xif "$room/disk" -C "$3" 2>/dev/null || true	# several archives, with zeros between them

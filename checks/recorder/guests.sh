@@ -78,6 +78,23 @@ fetch_kernel() { # SERIES, or newest
   return 1
 }
 
+# Prints the file by which QEMU boots a kernel. For x86-64 that is the kernel that its image has packed, if QEMU can begin
+# with that (by the note PHYS32_ENTRY): a translated processor unpacks an image longer than it does all the rest.
+bootable() { # KERNEL
+  local image how magic at
+  image=$(find "$1/" -name 'vmlinuz*' | head -n 1)
+  if [[ $machine == x86_64 && ! -e $1/unpacked ]]; then
+    while read -r magic how; do
+      at=$(LC_ALL=C grep -obUaP "$magic" "$image" | head -n 1 | cut -d: -f1) || continue
+      tail -c "+$((at + 1))" "$image" | $how >"$1/unpacked" 2>/dev/null || true
+      if readelf -n "$1/unpacked" 2>/dev/null | grep -q '(0x00000012)'; then break; fi
+      : >"$1/unpacked"
+    done <<<$'\\xfd7zXZ\\x00 xz -dc --single-stream\n\\x28\\xb5\\x2f\\xfd zstd -dc'
+  fi
+  if [[ -s $1/unpacked ]]; then image=$1/unpacked; fi
+  printf '%s\n' "$image"
+}
+
 # A compiler for arm64, which finds Debian's libraries.
 make_compiler_for_arm64() {
   local folder=$room/libraries-arm64

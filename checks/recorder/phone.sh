@@ -159,7 +159,7 @@ boot() { # KERNEL SHELL POLICY CONSOLE
   for port in {0..4}; do forward+=",hostfwd=tcp:127.0.0.1:${ports[port]}-:$((5555 + port))"; done
   # shellcheck disable=SC2086
   nice -n "$(($(nice) < 10 ? 10 - $(nice) : 0))" $emulator -m 1G -smp 1 -nographic -no-reboot -nodefaults \
-    -serial stdio -kernel "$(find "$1/" -name 'vmlinuz*' | head -n 1)" -initrd "$room/initramfs.gz" \
+    -serial stdio -kernel "$(bootable "$1")" -initrd "$room/initramfs.gz" \
     -netdev "user,id=net$forward" -device virtio-net-pci,netdev=net,romfile= \
     -append "$words ${3:+security=selinux} panic=-1 quiet mitigations=off rdinit=/init" </dev/null >"$4" 2>&1 &
   qemu=$!

@@ -58,7 +58,7 @@ boot() { # KERNEL TO: boots the kernel, and unpacks what its guest leaves
   rm -f -- "$room/disk" && truncate -s 64M "$room/disk"
   # shellcheck disable=SC2086,SC2154
   timeout 600 $emulator -m 1G -smp 1 -nographic -no-reboot -nodefaults -serial stdio \
-    -kernel "$(find "$1/" -name 'vmlinuz*' | head -n 1)" -initrd "$room/initramfs.gz" \
+    -kernel "$(bootable "$1")" -initrd "$room/initramfs.gz" \
     -drive "file=$room/disk,format=raw,if=virtio" -append "$words panic=-1 quiet rdinit=/init" \
     </dev/null >"$room/console" 2>&1 || true
   grep -q '^init: done' "$room/console" || stop "the guest did not come to its end: see $room/console"
