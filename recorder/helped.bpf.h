@@ -126,9 +126,8 @@ static __always_inline struct pt_regs *registers_of(struct task_struct *of)
 	struct task_struct___stack *task = (void *)of;
 	u64 bytes = 0, stack = (u64)BPF_CORE_READ(task, stack);
 	if (bpf_core_field_exists(task->stack_vm_area))
-		bytes = BPF_CORE_READ(task, stack_vm_area, size) - PAGE_BYTES;
-	if (!bytes)
-		bytes = 16384;
+		bytes = BPF_CORE_READ(task, stack_vm_area, size);
+	bytes = bytes ? bytes - PAGE_BYTES : 16384;
 	return (void *)(stack + bytes - bpf_core_type_size(struct pt_regs___of_kernel));
 }
 #endif
