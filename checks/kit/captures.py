@@ -5,90 +5,96 @@ also has the captures of samples/, byte for byte. What the program writes for ea
 crates/audit_cases/stdout. `checks/run captures` compares them.
 """
 
+from typing import Any, Callable, Iterable, Sequence
+
 # ---- numbers, frames, records, attachments, objects
 
 
-def u32(number):
+def u32(number: int) -> bytes:
     return number.to_bytes(4, "little")
 
 
-def u64(number):
+def u64(number: int) -> bytes:
     return number.to_bytes(8, "little")
 
 
-def frame_header(direction, sequence, process, thread, commands, attachments, device=0):
+def frame_header(direction: int, sequence: int, process: int, thread: int, commands: int, attachments: int,
+                 device: int = 0) -> bytes:
     """The header of a frame with these lengths of command bytes and attachment bytes. A device other
     than 0 needs version 2."""
     return (u64(sequence) + u32(process) + u32(thread) + bytes([direction, 0, 0, 0])
             + u32(commands) + u32(attachments) + u32(device))
 
 
-def frame(direction, sequence, process, thread, records=(), entries=(), device=0):
+def frame(direction: int, sequence: int, process: int, thread: int, records: Sequence[bytes] = (),
+          entries: Sequence[bytes] = (), device: int = 0) -> bytes:
     commands, attachments = b"".join(records), b"".join(entries)
     lengths = len(commands), len(attachments)
     header = frame_header(direction, sequence, process, thread, *lengths, device)
     return header + commands + attachments
 
 
-def write(sequence, process, thread, *records, device=0):
+def write(sequence: int, process: int, thread: int, *records: bytes, device: int = 0) -> bytes:
     return frame(1, sequence, process, thread, records, device=device)
 
 
-def read(sequence, process, thread, *records, entries=(), device=0):
+def read(sequence: int, process: int, thread: int, *records: bytes, entries: Sequence[bytes] = (),
+         device: int = 0) -> bytes:
     return frame(2, sequence, process, thread, records, entries, device)
 
 
-def record(code, *numbers):
+def record(code: int, *numbers: bytes) -> bytes:
     """A record whose payload is these numbers, given as bytes, and then zeros up to the code's size."""
     return u32(code) + b"".join(numbers).ljust(code >> 16 & 0x3FFF, b"\0")
 
 
-def transaction(kind, target=0, code=0, flags=0, sender=0, sizes=(0, 0), buffer=0):
+def transaction(kind: int, target: int = 0, code: int = 0, flags: int = 0, sender: int = 0,
+                sizes: Sequence[int] = (0, 0), buffer: int = 0) -> bytes:
     """A transaction or reply record. The sizes are data_size and offsets_size."""
     return record(kind, u64(target), u64(0), u32(code), u32(flags), u32(sender), u32(0),
                   u64(sizes[0]), u64(sizes[1]), u64(buffer))
 
 
-def each(code, *numbers):
+def each(code: int, *numbers: int) -> list[bytes]:
     """Records of this code, one for each u32: references to handles."""
     return [record(code, u32(number)) for number in numbers]
 
 
-def each_long(code, *numbers):
+def each_long(code: int, *numbers: int) -> list[bytes]:
     """Records of this code, one for each u64: freed buffers, cookies."""
     return [record(code, u64(number)) for number in numbers]
 
 
-def node(code, ptr, cookie):
+def node(code: int, ptr: int, cookie: int) -> bytes:
     return record(code, u64(ptr), u64(cookie))
 
 
-def watch(code, handle, cookie):
+def watch(code: int, handle: int, cookie: int) -> bytes:
     """A request for a death or a freeze notification, or its clear."""
     return record(code, u32(handle), u64(cookie))
 
 
-def frozen(cookie, is_frozen):
+def frozen(cookie: int, is_frozen: int) -> bytes:
     """A freeze notification."""
     return record(BR_FROZEN_BINDER, u64(cookie), u32(is_frozen), u32(0))
 
 
-def entry(offset, body, listed):
+def entry(offset: int, body: bytes, listed: bytes) -> bytes:
     """An attachment entry for the record at this offset of the command bytes."""
     return u32(offset) + u32(len(body)) + u32(len(listed)) + body + listed
 
 
-def offsets(*numbers):
+def offsets(*numbers: int) -> bytes:
     """The list of these offsets of objects."""
     return b"".join(map(u64, numbers))
 
 
-def places_of(parts):
+def places_of(parts: Sequence[bytes]) -> list[int]:
     """Where each of these byte strings begins when they are joined."""
     return [sum(map(len, parts[:index])) for index in range(len(parts))]
 
 
-def changed(capture, *changes):
+def changed(capture: bytes, *changes: tuple[int, bytes]) -> bytes:
     """The capture with other bytes at some places."""
     for place, other in changes:
         capture = capture[:place] + other + capture[place + len(other):]
@@ -153,12 +159,12 @@ CALL_AND_REPLY = HEADER + write(1, 100, 101, transaction(BC_TRANSACTION, target=
     transaction(BR_REPLY, buffer=0x7000))
 
 
-def oneway(*sizes):
+def oneway(*sizes: int) -> bytes:
     """A oneway transaction that is delivered with these sizes."""
     return transaction(BR_TRANSACTION, flags=1, sizes=sizes, buffer=0x9000)
 
 
-def attached(sequence, process, *attachments, device=0):
+def attached(sequence: int, process: int, *attachments: tuple[bytes, bytes], device: int = 0) -> bytes:
     """A read of oneway transactions, each with an attachment entry of its own: a body and a list."""
     return read(sequence, process, 101,
                 *(oneway(len(body), len(listed)) for body, listed in attachments),
@@ -179,24 +185,24 @@ DELIVERY = HEADER + attached(1, 100, ONE_HANDLE)
 DELIVERIES = DELIVERY + attached(2, 100, ONE_HANDLE) + attached(3, 100, ONE_HANDLE)
 
 
-def one_record(code, payload=b""):
+def one_record(code: int, payload: bytes = b"") -> bytes:
     """A write of this code and payload, whether or not the size in the code is the payload's."""
     return HEADER + write(1, 1, 1, u32(code) + payload)
 
 
-def loopers(frames, wrong=()):
+def loopers(frames: int, wrong: tuple[int, ...] = ()) -> bytes:
     """Writes of one BC_ENTER_LOOPER each; the frames in `wrong` have a BR_NOOP instead."""
     return HEADER + b"".join(
         write(k, 1, 1, record(BR_NOOP) if k in wrong else ENTER) for k in range(1, frames + 1))
 
 
-def each_sort():
+def each_sort() -> bytes:
     """One BINDER, two of the next sort, and so on up to seven of the last."""
     objects = [sort for number, sort in enumerate(SORTS, 1) for _ in range(number)]
     return HEADER + attached(1, 100, (b"".join(objects), offsets(*places_of(objects))))
 
 
-def of_all_kinds(**fields):
+def of_all_kinds(**fields: Any) -> list[list[bytes]]:
     """The transactions and replies that a write may have, and those that a read may have, one of
     each kind."""
     return [[transaction(kind, **fields) for kind in kinds] for kinds in (
@@ -204,14 +210,14 @@ def of_all_kinds(**fields):
         (BR_TRANSACTION, BR_TRANSACTION_SEC_CTX, BR_REPLY))]
 
 
-def attachments_of_all_kinds():
+def attachments_of_all_kinds() -> bytes:
     sent, returned = of_all_kinds(sizes=(24, 8))
     entries = [[entry(place, *ONE_HANDLE) for place in places_of(it)] for it in (sent, returned)]
     return (HEADER + frame(1, 1, 100, 101, sent, entries[0])
             + frame(2, 2, 100, 101, returned, entries[1]))
 
 
-def of_handle(sort, handle):
+def of_handle(sort: int, handle: int) -> bytes:
     """An object of this sort with this handle."""
     return changed(SORTS[sort], (8, u32(handle)))
 
@@ -222,18 +228,19 @@ TAKEN = write(2, 100, 101, record(BC_ACQUIRE, u32(7)))
 FREED = write(3, 100, 102, record(BC_FREE_BUFFER, u64(0x9000)))
 
 
-def held_references():
+def held_references() -> bytes:
     """Deliveries of each kind to three processes on two devices. Two are kept: a SEC_CTX one with a
     WEAK_HANDLE and a HANDLE of 5, and a reply with two HANDLEs of 9. One is freed, and its address is
     delivered again with a HANDLE of 5 and kept. One has no attachment entry. Process 200 keeps a
     HANDLE of 5 too. So does process 100 on device 1, where a good object comes after a bad one and
     does not count. A sent transaction has a HANDLE of 6, and one delivery also has a BINDER."""
-    def kept(kind, buffer, *objects, flags=0):
+    def kept(kind: int, buffer: int, *objects: bytes, flags: int = 0) -> tuple[bytes, tuple[bytes, bytes]]:
         body, listed = b"".join(objects), offsets(*places_of(objects))
         return transaction(kind, flags=flags, sizes=(len(body), len(listed)), buffer=buffer), (
             body, listed)
 
-    def of(sequence, process, *deliveries, device=0, make=read):
+    def of(sequence: int, process: int, *deliveries: tuple[bytes, tuple[bytes, bytes]], device: int = 0,
+           make: Callable = read) -> bytes:
         records = [it for it, _ in deliveries]
         entries = [entry(place, *both) for place, (_, both) in zip(places_of(records), deliveries)]
         direction = 2 if make is read else 1
@@ -261,12 +268,12 @@ def held_references():
     )
 
 
-def flags_of_all_kinds():
+def flags_of_all_kinds() -> bytes:
     sent, returned = of_all_kinds(flags=0xFFFFFFFF)
     return HEADER + write(1, 200, 201, *sent) + read(2, 100, 101, *returned)
 
 
-def handles():
+def handles() -> bytes:
     """Two processes, whose frames alternate. In one of them each of the four commands names a handle
     that no other command names, 1 to 4. The strong and the weak count of 5 differ, 6 falls below 0
     and comes back above it, 7 and 8 end at 0, and 9 is only in a transaction. The other process
@@ -286,7 +293,7 @@ def handles():
     )
 
 
-def nodes():
+def nodes() -> bytes:
     """In the first process each of the six records names a node that no other record names, ptr 1 to
     6. Two nodes have one ptr. One falls below 0 and comes back, and is still due. The second process
     has a node of the same ptr and cookie, which ends at 0, and one that the driver gives back without
@@ -309,13 +316,13 @@ def nodes():
     )
 
 
-def buffers():
+def buffers() -> bytes:
     """0x10 is freed before its delivery, and after it by another thread. 0x20 is delivered twice and
     freed once; 0x30 is delivered twice and freed three times; 0x40 is delivered again after its free.
     0x50 is freed only by another process, once before its delivery and once after it. Of the replies
     0x60 is freed and 0x70 is not; of the deliveries with a security context 0x80 and not 0x90; of
     the oneway ones 0xb0 and not 0xa0. The other process gets 0x20 too."""
-    def deliver(address, kind=BR_TRANSACTION, **fields):
+    def deliver(address: int, kind: int = BR_TRANSACTION, **fields: Any) -> bytes:
         return transaction(kind, buffer=address, **fields)
     return HEADER + write(
         1, 100, 101, *each_long(BC_FREE_BUFFER, 0x10),
@@ -340,14 +347,14 @@ def buffers():
     )
 
 
-def requests():
+def requests() -> bytes:
     """What ends a request: a clear with its handle and cookie, or a death with its cookie. What does
     not: a clear with only one of the two, a clear or a death before it or in another process, an
     acknowledgement, a confirmation."""
-    def request(*which):
+    def request(*which: int) -> bytes:
         return watch(BC_REQUEST_DEATH_NOTIFICATION, *which)
 
-    def clear(*which):
+    def clear(*which: int) -> bytes:
         return watch(BC_CLEAR_DEATH_NOTIFICATION, *which)
     return HEADER + write(
         1, 100, 101, clear(1, 0xA1), request(1, 0xA1), request(2, 0xA2), request(3, 0xA3),
@@ -370,7 +377,7 @@ def requests():
     )
 
 
-def deaths_and_clears():
+def deaths_and_clears() -> bytes:
     """Deaths and clears alike, with the same cookies: 1 is answered by another thread, 2 before it
     comes, 3 comes twice and is answered once, 4 is answered twice, 5 is answered by another process;
     0 and the greatest are not answered. The clears with cookie 3 have two handles."""
@@ -393,7 +400,7 @@ def deaths_and_clears():
     )
 
 
-def processes():
+def processes() -> bytes:
     """Processes whose numbers fall, each with an empty first frame but for 10 and 0. Their references
     come later, in another order. The greatest number is first, and 0 last; 35 does nothing else."""
     falling = MAX_32, 40, 35, 30, 20
@@ -418,7 +425,7 @@ def processes():
     )
 
 
-def oneway_replies():
+def oneway_replies() -> bytes:
     """`TF_ONE_WAY` on a reply means nothing: the received reply answers a call, and the sent one
     replies to a served call. The sent one is refused; no oneway transaction is refused."""
     return HEADER + read(
@@ -436,7 +443,7 @@ def oneway_replies():
     )
 
 
-def threads_of_one_number():
+def threads_of_one_number() -> bytes:
     """Thread 7 of two processes. The reply answers the call of one of them, which is not the last
     call. The error reply answers the call of the other, whose thread sent no oneway transaction."""
     return HEADER + write(
@@ -454,7 +461,7 @@ def threads_of_one_number():
     )
 
 
-def threads_that_fall():
+def threads_that_fall() -> bytes:
     """Threads 9, 5 and 1 of one process in this order. Each has rows in some of the sections of
     calls, and their rows alternate."""
     return HEADER + write(
@@ -480,7 +487,7 @@ def threads_that_fall():
     )
 
 
-def refused_behind_a_call():
+def refused_behind_a_call() -> bytes:
     """A oneway transaction after a call is refused, and the call is answered. Then a call after a
     oneway transaction fails."""
     return HEADER + write(
@@ -498,7 +505,7 @@ def refused_behind_a_call():
     )
 
 
-def nested_calls():
+def nested_calls() -> bytes:
     """Two threads of a process whose frames alternate. In one of them a call is made within a served
     call within a call, and each has its reply; two more replies close nothing. In the other a served
     call within a call within a served call has no reply of its own, so all three have a wrong closer
@@ -530,12 +537,12 @@ def nested_calls():
     )
 
 
-def in_a_frame(sequence, thread, one):
+def in_a_frame(sequence: int, thread: int, one: bytes) -> bytes:
     """A frame of process 100 with this record: a write or a read, by the letter of its code."""
     return frame(1 if one[1:2] == b"c" else 2, sequence, 100, thread, [one])
 
 
-def in_threads_of_their_own(threads):
+def in_threads_of_their_own(threads: Iterable[list[bytes]]) -> bytes:
     """The records of each of these threads, 1, 2 and so on, in a frame for each record. At the end
     the buffers at 0 are freed."""
     told = [(at, one) for at, records in enumerate(threads, 1) for one in records]
@@ -544,7 +551,7 @@ def in_threads_of_their_own(threads):
         len(frames) + 1, 100, 1, *each_long(BC_FREE_BUFFER, 0))
 
 
-def verdicts():
+def verdicts() -> bytes:
     """Each of the four openers, closed by nothing and by each of the six closers. Threads 1 to 7
     have the first opener, 8 to 14 the second, and so on."""
     openers = BC_TRANSACTION, BC_TRANSACTION_SG, BR_TRANSACTION, BR_TRANSACTION_SEC_CTX
@@ -554,7 +561,7 @@ def verdicts():
         for opener in openers for closer in ((), *((one,) for one in closers)))
 
 
-def marks():
+def marks() -> bytes:
     """Between a oneway send and an error reply one record: of each kind in threads 1 to 41, and in the
     last two threads another oneway send, and a oneway transaction that is received."""
     send = transaction(BC_TRANSACTION, flags=1)
@@ -563,14 +570,14 @@ def marks():
     return in_threads_of_their_own([send, one, record(BR_FAILED_REPLY)] for one in between)
 
 
-def oneway_traffic():
+def oneway_traffic() -> bytes:
     """Three processes; the first one has an empty first frame. Several threads send to handles in no
     order, and some sends have other flags besides `TF_ONE_WAY`. Calls and replies do not count. Of
     three refused sends one is a reply."""
-    def send(target, size, kind=BC_TRANSACTION, flags=1):
+    def send(target: int, size: int, kind: int = BC_TRANSACTION, flags: int = 1) -> bytes:
         return transaction(kind, target=target, flags=flags, sizes=(size, 0))
 
-    def got(size, kind=BR_TRANSACTION, flags=1):
+    def got(size: int, kind: int = BR_TRANSACTION, flags: int = 1) -> bytes:
         return transaction(kind, target=7, flags=flags, sizes=(size, 8))
     return HEADER + write(
         1, 300, 1,
@@ -599,17 +606,17 @@ def oneway_traffic():
     )
 
 
-def one_number_on_two_devices():
+def one_number_on_two_devices() -> bytes:
     """Thread 101 of process 100 on device 3 and on device 0, with the same handles, nodes, addresses
     and cookies. What is opened on one device is closed only on the other. So in each ledger all that
     is opened stays open, and each close is a stray. Each device also has a oneway transaction."""
-    def on_3(direction, sequence, *records):
+    def on_3(direction: int, sequence: int, *records: bytes) -> bytes:
         return frame(direction, sequence, 100, 101, records, device=3)
 
-    def on_0(direction, sequence, *records):
+    def on_0(direction: int, sequence: int, *records: bytes) -> bytes:
         return frame(direction, sequence, 100, 101, records, device=0)
 
-    def send(size):
+    def send(size: int) -> bytes:
         return transaction(BC_TRANSACTION, target=5, code=1, flags=1, sizes=(size, 0))
     return HEADER_2 + on_3(
         1, 1, *each(BC_ACQUIRE, 5, 5), *each(BC_INCREFS, 6),
@@ -634,7 +641,7 @@ def one_number_on_two_devices():
     )
 
 
-def threads_of_two_devices():
+def threads_of_two_devices() -> bytes:
     """Thread 7 of process 100 on devices 1 and 2. The reply answers the call on device 1, which is not
     the last call. The error reply on device 2 answers the call there, since the oneway transaction
     before it was sent on the other device."""
@@ -653,10 +660,10 @@ def threads_of_two_devices():
     )
 
 
-def sends_of_three_devices():
+def sends_of_three_devices() -> bytes:
     """Oneway sends of one thread number to one handle, on device 0 and on the greatest device. Device
     1 has an error reply and no send. The greatest has an error reply that refuses its own send."""
-    def send(size):
+    def send(size: int) -> bytes:
         return transaction(BC_TRANSACTION, target=2, flags=1, sizes=(size, 0))
     return HEADER_2 + write(
         1, 100, 101, send(8),
@@ -671,7 +678,7 @@ def sends_of_three_devices():
     )
 
 
-def turns_of_two_devices():
+def turns_of_two_devices() -> bytes:
     """A served call on device 1 and a call on device 0, of one thread number, by turns: neither is
     within the other. On the greatest device the thread serves another call, which stays open in spite
     of a reply on device 0."""
@@ -690,7 +697,7 @@ def turns_of_two_devices():
     )
 
 
-def processes_of_devices():
+def processes_of_devices() -> bytes:
     """Processes on several devices, in the order of neither number. Some have an empty first frame.
     Process 2 on device 1 and process 1 on device 2 are two processes."""
     first = (2, 1), (1, 2), (MAX_32, 1), (1, MAX_32), (0, 2), (2, 2)
@@ -713,7 +720,7 @@ def processes_of_devices():
     )
 
 
-def rows_of_one_device():
+def rows_of_one_device() -> bytes:
     """A row in each section with places, all of process 100 on device 7."""
     return HEADER_2 + write(
         1, 100, 101, transaction(BC_TRANSACTION, target=1, code=2, flags=0x82),
@@ -733,7 +740,7 @@ def rows_of_one_device():
     )
 
 
-def eight_frames():
+def eight_frames() -> bytes:
     """Frames of two processes, with a fault of the objects in two of their four attachments: at 16, 56, 204 (no
     records), 236, 392, 508, 612 and 924, with the sequences 5, 6, 7, 10, 11, 12, 20 and 21. Transactions and replies
     are at 92, 272, 440, 540, 644 and 720, opaque records at 424 and 960."""

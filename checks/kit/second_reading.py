@@ -18,7 +18,7 @@ import struct
 import sys
 from collections import Counter
 from itertools import accumulate
-from typing import NamedTuple
+from typing import Any, Callable, Iterable, Iterator, NamedTuple, TypeVar, ValuesView
 
 # ---- the tables: for each number the payload sizes, and the name for each size
 
@@ -121,7 +121,7 @@ class Process(NamedTuple):
     device: int
     number: int
 
-    def __str__(self):
+    def __str__(self) -> str:
         return f"{self.device} {self.number}"
 
 
@@ -158,7 +158,7 @@ class Event(NamedTuple):
     entry: Entry | None
 
 
-def number(data, at, size):
+def number(data: bytes, at: int, size: int) -> int:
     """The number in the `size` bytes there, the lowest byte first."""
     return int.from_bytes(data[at:at + size], "little")
 
@@ -166,28 +166,33 @@ def number(data, at, size):
 # The fields of a transaction or reply.
 
 
-def target_handle(event):
+def target_handle(event: Event) -> int:
     return number(event.payload, 0, 4)
 
 
-def transaction_code(event):
+def transaction_code(event: Event) -> int:
     return number(event.payload, 16, 4)
 
 
-def flags(event):
+def flags(event: Event) -> int:
     return number(event.payload, 20, 4)
 
 
-def sender_pid(event):
+def sender_pid(event: Event) -> int:
     return int.from_bytes(event.payload[24:28], "little", signed=True)
 
 
-def data_size(event):
+def data_size(event: Event) -> int:
     return number(event.payload, 32, 8)
 
 
-def buffer(event):
+def buffer(event: Event) -> int:
     return number(event.payload, 48, 8)
+
+
+Thing = TypeVar("Thing")
+Key = TypeVar("Key")
+Moved = TypeVar("Moved", Frame, Event)
 
 
 # ---- from bytes to frames and events, or to the first fault
@@ -196,7 +201,7 @@ def buffer(event):
 VERSIONS = {b"BNDRCAP1": 1, b"BNDRCAP2": 2}
 
 
-def version_of(capture):
+def version_of(capture: bytes) -> int:
     """The version in the file header."""
     if len(capture) < 16:
         raise Fault("HeaderShort", 0)
@@ -214,7 +219,7 @@ def version_of(capture):
 FRAME_HEADER = struct.Struct("<QIIB3sIII")
 
 
-def read_frame(capture, version, place, before):
+def read_frame(capture: bytes, version: int, place: int, before: Frame | None) -> Frame:
     """The frame that begins there. `before` is the frame before it, if there is one."""
     if place + 32 > len(capture):
         raise Fault("FrameShort", place)
@@ -234,7 +239,7 @@ def read_frame(capture, version, place, before):
                  capture[first:second], capture[second:end])
 
 
-def kind_of(code, direction, place):
+def kind_of(code: int, direction: int, place: int) -> str:
     """The name of a code word at this place, in a frame of this direction."""
     letter, bits, table = DIRECTIONS[direction]
     size = code >> 16 & 0x3FFF
@@ -248,7 +253,7 @@ def kind_of(code, direction, place):
     return sizes[size]
 
 
-def read_records(frame):
+def read_records(frame: Frame) -> list[Record]:
     records, commands, offset = [], frame.commands, 0
     while offset < len(commands):
         place, first = frame.place + 32 + offset, offset + 4
@@ -264,7 +269,7 @@ def read_records(frame):
     return records
 
 
-def read_entries(frame, records):
+def read_entries(frame: Frame, records: list[Record]) -> dict[int, Entry]:
     """The attachment entries of a frame, by the offsets of their records."""
     if not frame.attachments:
         return {}
@@ -289,7 +294,7 @@ def read_entries(frame, records):
     return entries
 
 
-def events_of(frame):
+def events_of(frame: Frame) -> list[Event]:
     """The records of a frame, each with its attachment entry if it has one."""
     records = read_records(frame)
     entries = read_entries(frame, records)
@@ -298,7 +303,7 @@ def events_of(frame):
             for record in records]
 
 
-def read_part(part, before):
+def read_part(part: bytes, before: Frame | None) -> tuple[list[Frame], list[Event]]:
     """The frames and the events of a part. `before` is the frame before it, if there is one."""
     version, place = version_of(part), 16
     frames, events = [], []
@@ -310,14 +315,16 @@ def read_part(part, before):
     return frames, events
 
 
-def moved(things, base):
+def moved(things: Iterable[Moved], base: int) -> list[Moved]:
     """The frames or events, each this many bytes further on."""
-    return [thing._replace(place=base + thing.place) for thing in things] if base else things
+    return [thing._replace(place=base + thing.place) for thing in things] if base else list(things)
 
 
-def read_parts(parts):
+def read_parts(parts: list[bytes]) -> tuple[list[Frame], list[Event]]:
     """The frames and the events of parts without a fault, at their places in the joined capture."""
-    frames, events, base = [], [], 0
+    frames: list[Frame] = []
+    events: list[Event] = []
+    base = 0
     for number, part in enumerate(parts, 1):
         try:
             more, told = read_part(part, frames[-1] if frames else None)
@@ -332,34 +339,34 @@ def read_parts(parts):
 # ---- totals and codes
 
 
-def different(things):
+def different(things: Iterable[Key]) -> list[Key]:
     """These things without repetitions, each where it comes first."""
     return list(dict.fromkeys(things))
 
 
-def grouped(things, key):
+def grouped(things: Iterable[Thing], key: Callable[[Thing], Key]) -> dict[Key, list[Thing]]:
     """For each key the list of the things that have it, in their order."""
-    groups = {}
+    groups: dict[Key, list[Thing]] = {}
     for thing in things:
         groups.setdefault(key(thing), []).append(thing)
     return groups
 
 
-def by_place(events):
+def by_place(events: list[Event]) -> list[Event]:
     return sorted(events, key=lambda event: event.place)
 
 
-def of_kind(events, *kinds):
+def of_kind(events: list[Event], *kinds: str) -> list[Event]:
     return [event for event in events if event.kind in kinds]
 
 
-def totals(frames, events):
+def totals(frames: list[Frame], events: list[Event]) -> list[str]:
     missing = frames[-1].sequence - frames[0].sequence - (len(frames) - 1) if frames else 0
     opaque = len(of_kind(events, "OPAQUE"))
     return [f"frames {len(frames)} records {len(events)} opaque {opaque} missing {missing}"]
 
 
-def codes(events):
+def codes(events: list[Event]) -> list[str]:
     found = Counter((event.code, event.kind) for event in events)
     rows = [f"  0x{code:08x} {kind} {found[code, kind]}" for code, kind in sorted(found)]
     return [f"codes {len(rows)}", *rows]
@@ -368,24 +375,25 @@ def codes(events):
 # ---- the calls of each thread
 
 
-def is_oneway(event):
+def is_oneway(event: Event) -> bool:
     return flags(event) & TF_ONE_WAY != 0
 
 
-def is_oneway_send(event):
+def is_oneway_send(event: Event) -> bool:
     return event.kind in SENT_TRANSACTIONS and is_oneway(event)
 
 
-def is_mark(event):
+def is_mark(event: Event) -> bool:
     if event.kind in GOT_TRANSACTIONS:
         return not is_oneway(event)
     return event.kind in (
         *SENT_TRANSACTIONS, *SENT_REPLIES, "BR_REPLY", *CONFIRMATIONS, *ERROR_REPLIES)
 
 
-def refused_sends(thread):
+def refused_sends(thread: list[Event]) -> list[Event | None]:
     """For each event of a thread the send that it reports as refused, or None."""
-    sends, latest = [], None
+    sends: list[Event | None] = []
+    latest = None
     for event in thread:
         tells = (event.kind in ERROR_REPLIES and latest is not None
                  and (is_oneway_send(latest) or latest.kind in SENT_REPLIES))
@@ -395,17 +403,17 @@ def refused_sends(thread):
     return sends
 
 
-def is_opener(event):
+def is_opener(event: Event) -> bool:
     return event.kind in (*SENT_TRANSACTIONS, *GOT_TRANSACTIONS) and not is_oneway(event)
 
 
-def is_closer(event, refused):
+def is_closer(event: Event, refused: Event | None) -> bool:
     """Whether an event closes a call. `refused` is the send that it reports as refused, or None."""
     return (event.kind in ("BR_REPLY", *SENT_REPLIES)
             or event.kind in ERROR_REPLIES and refused is None)
 
 
-def ends_of(openers, closers):
+def ends_of(openers: list[bool], closers: list[bool]) -> dict[int, int | None]:
     """Where each opener is closed: the index of the first event at which the closers since the
     opener are as many as the openers, the opener included; None if there is no such event. The lists
     say for each event of the thread whether it is an opener, and whether it is a closer.
@@ -422,7 +430,7 @@ def ends_of(openers, closers):
     return ends
 
 
-def verdict(opener, closer):
+def verdict(opener: Event, closer: Event | None) -> str:
     if closer is None:
         return "open"
     if opener.kind in SENT_TRANSACTIONS:
@@ -439,7 +447,7 @@ class Calls(NamedTuple):
     refused: list  # for each refused send: the event that reports it, and the send
 
 
-def calls_of_thread(thread):
+def calls_of_thread(thread: list[Event]) -> Calls:
     sends = refused_sends(thread)
     openers = [is_opener(event) for event in thread]
     closers = [is_closer(event, send) for event, send in zip(thread, sends)]
@@ -455,7 +463,7 @@ def calls_of_thread(thread):
     return Calls(judged, strays, refused)
 
 
-def calls_of(events):
+def calls_of(events: list[Event]) -> Calls:
     judged, strays, refused = [], [], []
     for events_of_thread in grouped(events, lambda event: (event.process, event.thread)).values():
         thread = calls_of_thread(events_of_thread)
@@ -466,13 +474,13 @@ def calls_of(events):
                  sorted(refused, key=lambda row: row[0].place))
 
 
-def call_row(event, shown, verdict, closer):
+def call_row(event: Event, shown: int, verdict: str, closer: Event | None) -> str:
     """A row of `calls` or `served`. `shown` is the field in which the two sections differ."""
     return (f"  {event.place} {event.process} {event.thread} {shown} {transaction_code(event)}"
             f" {verdict} {'-' if closer is None else closer.place}")
 
 
-def calls(found):
+def calls(found: Calls) -> list[str]:
     made = [row for row in found.judged if row[0].kind in SENT_TRANSACTIONS]
     verdicts = [row[1] for row in made]
     answered, failed = verdicts.count("answered"), verdicts.count("failed")
@@ -482,7 +490,7 @@ def calls(found):
               for row in made if row[1] != "answered")]
 
 
-def served(found):
+def served(found: Calls) -> list[str]:
     got = [row for row in found.judged if row[0].kind in GOT_TRANSACTIONS]
     verdicts = [row[1] for row in got]
     replied, crossed = verdicts.count("replied"), verdicts.count("crossed")
@@ -491,22 +499,22 @@ def served(found):
               for row in got if row[1] != "replied")]
 
 
-def thread_row(event):
+def thread_row(event: Event) -> str:
     return f"  {event.place} {event.process} {event.thread} {event.kind}"
 
 
-def strays(found):
+def strays(found: Calls) -> list[str]:
     return [f"strays {len(found.strays)}", *map(thread_row, found.strays)]
 
 
-def refused(found):
+def refused(found: Calls) -> list[str]:
     return [f"refused {len(found.refused)}", *(thread_row(row[0]) for row in found.refused)]
 
 
 # ---- what each process holds
 
 
-def count(events, up, down):
+def count(events: list[Event], up: str, down: str) -> tuple[int, int]:
     """The number of events of kind `up` less those of kind `down`, and the least value that it ever
     had, beginning with 0."""
     values = [0]
@@ -515,24 +523,24 @@ def count(events, up, down):
     return values[-1], min(values)
 
 
-def of_each_process(processes, events):
+def of_each_process(processes: list[Process], events: list[Event]) -> list[tuple[Process, list[Event]]]:
     """Each of the processes, with its own events."""
     own = grouped(events, lambda event: event.process)
     return [(process, own.get(process, [])) for process in processes]
 
 
-def of_rising_keys(events, key):
+def of_rising_keys(events: list[Event], key: Callable[[Event], Any]) -> list[tuple[Any, list[Event]]]:
     """Each key of these events, in rising order, with the events that have it."""
     return sorted(grouped(events, key).items())
 
 
-def handle_of(event):
+def handle_of(event: Event) -> int:
     return number(event.payload, 0, 4)
 
 
-def held_by(deliveries):
+def held_by(deliveries: list[Event]) -> Counter[tuple[str, int]]:
     """How many objects with a handle these deliveries have, by the name of the object and the handle."""
-    held = Counter()
+    held: Counter[tuple[str, int]] = Counter()
     for delivery in deliveries:
         if delivery.entry is not None:
             good, _ = objects_of(delivery.entry)
@@ -541,7 +549,7 @@ def held_by(deliveries):
     return held
 
 
-def handles(processes, events):
+def handles(processes: list[Process], events: list[Event]) -> list[str]:
     named = of_kind(events, "BC_ACQUIRE", "BC_RELEASE", "BC_INCREFS", "BC_DECREFS")
     unfreed = BUFFERS.outstanding(events)
     rows, unbalanced = [], 0
@@ -558,11 +566,11 @@ def handles(processes, events):
     return [f"handles {len(rows)} unbalanced {unbalanced}", *rows]
 
 
-def node_of(event):
+def node_of(event: Event) -> tuple[int, int]:
     return number(event.payload, 0, 8), number(event.payload, 8, 8)
 
 
-def nodes(processes, events):
+def nodes(processes: list[Process], events: list[Event]) -> list[str]:
     named = of_kind(events, "BR_ACQUIRE", "BR_RELEASE", "BR_INCREFS", "BR_DECREFS",
                     "BC_ACQUIRE_DONE", "BC_INCREFS_DONE")
     rows, unbalanced = [], 0
@@ -582,14 +590,14 @@ class Ledger(NamedTuple):
     """Records that open and close something by a key, each process for itself."""
     opens: tuple
     closes: tuple
-    key: object  # the function from an event to its key
+    key: Callable[[Event], Any]
 
-    def of_each_key(self, events):
+    def of_each_key(self, events: list[Event]) -> ValuesView[list[Event]]:
         """For each key in each process, the list of the events that have it."""
         ours = of_kind(events, *self.opens, *self.closes)
         return grouped(ours, lambda event: (event.process, self.key(event))).values()
 
-    def outstanding(self, events):
+    def outstanding(self, events: list[Event]) -> list[Event]:
         """The opens without a later close of their key."""
         found = []
         for same in self.of_each_key(events):
@@ -597,7 +605,7 @@ class Ledger(NamedTuple):
             found += [event for event in same if event.place > max(closes, default=-1)]
         return by_place(found)
 
-    def strays(self, events):
+    def strays(self, events: list[Event]) -> list[Event]:
         """The closes whose latest earlier event of their key is not an open."""
         found = []
         for same in self.of_each_key(events):
@@ -607,22 +615,22 @@ class Ledger(NamedTuple):
         return by_place(found)
 
 
-def cookie_of(event):
+def cookie_of(event: Event) -> int:
     """The cookie of a death, of its acknowledgement, or of the confirmation of a clear."""
     return number(event.payload, 0, 8)
 
 
-def cookie_behind_handle(event):
+def cookie_behind_handle(event: Event) -> int:
     """The cookie of a request or of a clear."""
     return number(event.payload, 4, 8)
 
 
-def address_of(event):
+def address_of(event: Event) -> int:
     """The address of a delivery or of a free."""
     return buffer(event) if event.kind in DELIVERIES else number(event.payload, 0, 8)
 
 
-def cleared_cookie(event):
+def cleared_cookie(event: Event) -> int:
     """The cookie of a clear or of its confirmation."""
     confirms = event.kind == "BR_CLEAR_DEATH_NOTIFICATION_DONE"
     return cookie_of(event) if confirms else cookie_behind_handle(event)
@@ -634,25 +642,25 @@ CLEARS = Ledger(
     ("BC_CLEAR_DEATH_NOTIFICATION",), ("BR_CLEAR_DEATH_NOTIFICATION_DONE",), cleared_cookie)
 
 
-def buffers(events):
+def buffers(events: list[Event]) -> list[str]:
     leaked = BUFFERS.outstanding(events)
     return [f"buffers {len(of_kind(events, *DELIVERIES))} leaked {len(leaked)}",
             *(f"  {event.place} {event.process} 0x{address_of(event):x} {data_size(event)}"
               f" {event.kind}" for event in leaked)]
 
 
-def frees(events):
+def frees(events: list[Event]) -> list[str]:
     stray = BUFFERS.strays(events)
     return [f"frees {len(of_kind(events, 'BC_FREE_BUFFER'))} stray {len(stray)}",
             *(f"  {event.place} {event.process} 0x{BUFFERS.key(event):x}" for event in stray)]
 
 
-def last_places(events, key):
+def last_places(events: list[Event], key: Callable[[Event], Any]) -> dict[tuple[Process, Any], int]:
     """For each key the place of the last of these events that has it."""
     return {key(event): event.place for event in events}
 
 
-def requests(events):
+def requests(events: list[Event]) -> list[str]:
     """A request is standing if nothing after it ends it. It is ended by a clear in its process with
     its handle and cookie, which are the payload of both, or by a death in its process with its
     cookie."""
@@ -669,7 +677,7 @@ def requests(events):
               f" 0x{cookie_behind_handle(event):x}" for event in standing)]
 
 
-def open_and_stray(name, open_name, ledger, events):
+def open_and_stray(name: str, open_name: str, ledger: Ledger, events: list[Event]) -> list[str]:
     """The section of a ledger that lists what is open and what is stray in one list."""
     outstanding, stray = ledger.outstanding(events), ledger.strays(events)
     told = [(event, open_name) for event in outstanding] + [(event, "stray") for event in stray]
@@ -679,23 +687,23 @@ def open_and_stray(name, open_name, ledger, events):
                     for event, what in sorted(told, key=lambda row: row[0].place))]
 
 
-def deaths(events):
+def deaths(events: list[Event]) -> list[str]:
     return open_and_stray("deaths", "unacknowledged", DEATHS, events)
 
 
-def clears(events):
+def clears(events: list[Event]) -> list[str]:
     return open_and_stray("clears", "unconfirmed", CLEARS, events)
 
 
 # ---- oneway transactions
 
 
-def sizes(events):
+def sizes(events: list[Event]) -> str:
     """The number of these events, and the sum of their data sizes."""
     return f"{len(events)} {sum(map(data_size, events))}"
 
 
-def oneway(processes, events, found):
+def oneway(processes: list[Process], events: list[Event], found: Calls) -> list[str]:
     sent = [event for event in events if is_oneway_send(event)]
     received = [event for event in of_kind(events, *GOT_TRANSACTIONS) if is_oneway(event)]
     refused = [send for _, send in found.refused if is_oneway_send(send)]
@@ -712,7 +720,7 @@ def oneway(processes, events, found):
 # ---- objects and flags
 
 
-def cause_of(body, end, offset):
+def cause_of(body: bytes, end: int, offset: int) -> str | None:
     """What makes the object at this offset bad; None for a good one. The object before it ends at `end`."""
     if offset % 4 != 0:
         return "Misaligned"
@@ -727,12 +735,13 @@ def cause_of(body, end, offset):
     return None
 
 
-def objects_of(entry):
+def objects_of(entry: Entry) -> tuple[list[tuple[str, int]], tuple[int, int, str] | None]:
     """The names and offsets of the good objects before the first bad one; and the index, the offset
     and the cause of that one, or None."""
     if len(entry.listed) % 8 != 0:
         return [], (0, 0, "ListLength")
-    good, end = [], 0
+    good: list[tuple[str, int]] = []
+    end = 0
     for index in range(len(entry.listed) // 8):
         offset = number(entry.listed, 8 * index, 8)
         cause = cause_of(entry.body, end, offset)
@@ -744,7 +753,7 @@ def objects_of(entry):
     return good, None
 
 
-def objects(events):
+def objects(events: list[Event]) -> list[str]:
     names, rows = [], []
     for event in events:
         if event.entry is not None:
@@ -758,7 +767,7 @@ def objects(events):
     return [f"objects {counts} bad {len(rows)}", *rows]
 
 
-def unknown_flags(events):
+def unknown_flags(events: list[Event]) -> list[str]:
     rows = [f"  {event.place} {event.process} 0x{flags(event) & ~KNOWN_FLAGS:08x}"
             for event in of_kind(events, *TRANSACTIONS_AND_REPLIES)
             if flags(event) & ~KNOWN_FLAGS != 0]
@@ -768,7 +777,7 @@ def unknown_flags(events):
 # ---- the texts, and the command line
 
 
-def report_of(frames, events):
+def report_of(frames: list[Frame], events: list[Event]) -> list[str]:
     """The lines of the report."""
     processes = different(frame.process for frame in frames)
     found = calls_of(events)
@@ -793,7 +802,7 @@ def report_of(frames, events):
     ]
 
 
-def reading_of_parts(parts, first_fault=False):
+def reading_of_parts(parts: list[bytes], first_fault: bool = False) -> tuple[int, list[str]]:
     """The auditor's answer to a capture of these parts: its status and its lines."""
     try:
         frames, events = read_parts(parts)
@@ -804,19 +813,19 @@ def reading_of_parts(parts, first_fault=False):
     return 0, ["no malformed record"] if first_fault else report_of(frames, events)
 
 
-def reading(capture, first_fault=False):
+def reading(capture: bytes, first_fault: bool = False) -> tuple[int, list[str]]:
     """The same for a capture of one part."""
     return reading_of_parts([capture], first_fault)
 
 
-def cases(folder):
+def cases(folder: pathlib.Path) -> Iterator[tuple[str, list[str]]]:
     """The cases of the folder, each with its line and the stored answer."""
     for case in (folder / "stdout").read_text("utf-8").removeprefix(">").split("\n>"):
         line, _, answer = case.partition("\n")
         yield line.removeprefix(" "), answer.rstrip("\n").split("\n")
 
 
-def differences(folder):
+def differences(folder: pathlib.Path) -> Iterator[str]:
     """The lines of the cases whose stored answer about a capture differs from the one here."""
     for line, answer in cases(folder):
         words = line.split("\t")
@@ -828,13 +837,13 @@ def differences(folder):
                 yield line
 
 
-def print_reading(files, first_fault):
+def print_reading(files: list[str], first_fault: bool) -> int:
     status, lines = reading_of_parts([pathlib.Path(file).read_bytes() for file in files], first_fault)
     print("\n".join(lines))
     return status
 
 
-def main(words):
+def main(words: list[str]) -> int:
     match words:
         case []:
             lines = list(differences(pathlib.Path(__file__).resolve().parents[2] / "crates/audit_cases"))

@@ -46,7 +46,8 @@ class Node:
 
     def __init__(self, owner, ptr):
         self.owner, self.ptr = owner, ptr
-        self.references, self.announced, self.busy, self.waiting = 0, False, False, deque()
+        self.references, self.announced, self.busy = 0, False, False
+        self.waiting: deque[Sent] = deque()
 
 
 class Freeze:
@@ -79,16 +80,18 @@ class Buffer:
 
 
 class Process:
-    def __init__(self, world, number):
-        self.world, self.number = world, number
-        self.handles, self.buffers, self.todo, self.threads, self.nodes = {}, {}, deque(), [], []
-        self.listeners, self.in_use, self.leaving, self.dead = [], Counter(), set(), False
+    def __init__(self, driver, number):
+        self.driver, self.number = driver, number
+        self.handles, self.buffers, self.threads, self.nodes = {}, {}, [], []
+        self.todo: deque[object] = deque()
+        self.in_use: Counter[int] = Counter()
+        self.listeners, self.leaving, self.dead = [], set(), False
         self.frozen, self.told = False, []
 
     def thread(self, looper):
         made = Thread(self, self.number + len(self.threads), looper)
         self.threads.append(made)
-        self.world.threads.append(made)
+        self.driver.threads.append(made)
         return made
 
     def new_node(self):
@@ -100,7 +103,7 @@ class Process:
         for handle, reference in self.handles.items():
             if reference.node is node:
                 return handle
-        handle = 0 if node is self.world.manager else next(n for n in range(1, 1000) if n not in self.handles)
+        handle = 0 if node is self.driver.manager else next(n for n in range(1, 1000) if n not in self.handles)
         self.handles[handle] = Reference(node)
         node.references += 1
         return handle
@@ -137,13 +140,14 @@ class Thread:
 
     def __init__(self, process, number, looper):
         self.process, self.number, self.looper = process, number, looper
-        self.todo, self.stack, self.wake, self.blocked, self.given = deque(), [], 0, False, []
+        self.todo: deque[object] = deque()
+        self.stack, self.wake, self.blocked, self.given = [], 0, False, []
         self.writing = ()
         self.life = None
 
     @property
-    def world(self):
-        return self.process.world
+    def driver(self):
+        return self.process.driver
 
     def is_idle(self):
         return self.looper and not self.stack
@@ -152,7 +156,7 @@ class Thread:
         return bool(self.todo) or self.is_idle() and bool(self.process.todo)
 
 
-class World:
+class Driver:
     """All processes, and the frames so far. What happens next is drawn from a seed."""
 
     def __init__(self, seed):
@@ -385,10 +389,10 @@ class Actor:
 
     def __init__(self, thread, habits):
         self.thread, self.habits, self.owed, self.late = thread, habits, [], []
-        self.process, self.world = thread.process, thread.world
+        self.process, self.driver = thread.process, thread.driver
 
     def pause(self, least, most):
-        return self.world.random.randint(least, most)
+        return self.driver.random.randint(least, most)
 
     def call(self, commands, wait):
         """One call into the driver: what it writes, and whether it then waits for work. Returns what it read."""
@@ -401,9 +405,9 @@ class Actor:
                     body = sent.text + b"".join(node_of(what) if kind == "own" else of_handle(2, what)
                                                 for kind, what in sent.objects)
                     entries.append((at, body, offsets(*range(len(sent.text), len(body), 24))))
-            self.world.note(1, self.thread, records, marks, entries)
+            self.driver.note(1, self.thread, records, marks, entries)
             self.thread.writing = commands
-            yield self.pause(0, 2 if self.world.often(90) else 20)
+            yield self.pause(0, 2 if self.driver.often(90) else 20)
             for _, _, act in commands:
                 act()
             self.thread.writing = ()
@@ -423,7 +427,7 @@ class Actor:
                 got = work
                 records.append(record(BR_DEAD_REPLY))
             elif work[0] == "freeze":
-                records.append(self.world.tell(self.process, work[1]))
+                records.append(self.driver.tell(self.process, work[1]))
                 if not work[1].cleared:
                     marks.append((len(records) - 1, "told", work[1].told))
                     self.owe_acknowledgement(work[1])
@@ -435,16 +439,16 @@ class Actor:
             if got is not None:
                 self.thread.stack.remove(("made", got[1]))
             yield self.pause(0, 1)
-            self.world.note(2, self.thread, records, marks)
+            self.driver.note(2, self.thread, records, marks)
             self.answer_nodes(records)
         return got
 
     def owe_acknowledgement(self, freeze):
         """It is owed at once, but for what the process never acknowledges."""
-        freeze.ignored = self.world.often(self.habits.ignores)
+        freeze.ignored = self.driver.often(self.habits.ignores)
         if not freeze.ignored:
             self.owed.append((record(BC_FREEZE_NOTIFICATION_DONE, u64(freeze.cookie)), None,
-                              lambda: self.world.acknowledge(self.process, freeze.cookie)))
+                              lambda: self.driver.acknowledge(self.process, freeze.cookie)))
 
     def answer_nodes(self, records):
         for text in records:
@@ -467,20 +471,20 @@ class Actor:
             made = transaction(BR_TRANSACTION, sent.target.ptr, sent.code, sent.flags, told,
                                (len(got.body), len(got.listed)), got.address)
         records.append(made)
-        yield self.pause(0, 1) if self.world.often(95) else self.pause(2, 12)
-        self.world.note(2, self.thread, records, [*marks, (len(records) - 1, "came", sent)],
-                        [(len(records) - 1, got.body, got.listed)])
+        yield self.pause(0, 1) if self.driver.often(95) else self.pause(2, 12)
+        self.driver.note(2, self.thread, records, [*marks, (len(records) - 1, "came", sent)],
+                         [(len(records) - 1, got.body, got.listed)])
         self.answer_nodes(records)
 
     # -- commands
 
     def send(self, handle, code, flags, text, objects=()):
         return self.command(BC_TRANSACTION, handle, Sent(self.thread, code, flags, text, list(objects)),
-                            lambda sent: self.world.transact(self.thread, handle, sent))
+                            lambda sent: self.driver.transact(self.thread, handle, sent))
 
     def reply(self, text, objects=()):
         return self.command(BC_REPLY, 0, Sent(self.thread, 0, 0, text, list(objects)),
-                            lambda sent: self.world.reply(self.thread, sent))
+                            lambda sent: self.driver.reply(self.thread, sent))
 
     def command(self, kind, handle, sent, act):
         """A send. Until the driver has taken it, its handles are in use."""
@@ -494,16 +498,16 @@ class Actor:
         return transaction(kind, handle, sent.code, sent.flags, 0, size), sent, taken
 
     def free(self, address):
-        return (record(BC_FREE_BUFFER, u64(address)), None, lambda: self.world.free(self.process, address))
+        return (record(BC_FREE_BUFFER, u64(address)), None, lambda: self.driver.free(self.process, address))
 
     def take(self, handle):
-        return record(BC_ACQUIRE, u32(handle)), None, lambda: self.world.change(self.process, handle, 1)
+        return record(BC_ACQUIRE, u32(handle)), None, lambda: self.driver.change(self.process, handle, 1)
 
     def let_go(self, handle):
         self.process.leaving.add(handle)
 
         def taken():
-            self.world.change(self.process, handle, -1)
+            self.driver.change(self.process, handle, -1)
             self.process.leaving.discard(handle)
         return record(BC_RELEASE, u32(handle)), None, taken
 
@@ -515,7 +519,7 @@ class Actor:
     def use(self, got):
         """What a thread does with a delivery before it frees it: it takes the handles in it."""
         for handle in self.handles_in(got):
-            if self.process.handles[handle].taken == 0 or self.world.often(20):
+            if self.process.handles[handle].taken == 0 or self.driver.often(20):
                 yield self.take(handle)
 
     def serve(self, got):
@@ -525,31 +529,31 @@ class Actor:
         if self.habits.listens and sent.code == 3:
             self.process.listeners += self.handles_in(got)
         if sent.oneway:
-            if takes or self.world.often(30):
+            if takes or self.driver.often(30):
                 yield from self.call(takes + self.due(), False)
             yield self.pause(*self.habits.works)
             self.owed.append(self.free(got.address))
             return
         if takes:
             yield from self.call(takes, False)
-        if sent.code != 1 and self.world.often(self.habits.nests) and len(self.thread.stack) < 3:
+        if sent.code != 1 and self.driver.often(self.habits.nests) and len(self.thread.stack) < 3:
             yield from self.act()
         yield self.pause(*self.habits.works)
-        text, objects = self.world.random.choice(TEXTS[:2]), []
+        text, objects = self.driver.random.choice(TEXTS[:2]), []
         if sent.code == 1:
             known = self.known()
-            objects = [("of", self.world.random.choice(known))] if known else []
+            objects = [("of", self.driver.random.choice(known))] if known else []
         elif sent.code == 4:
             objects = [("own", self.some_node())]
-        early = self.world.often(50)
+        early = self.driver.often(50)
         freed = self.free(got.address)
         replied = self.reply(text, objects)
         yield from self.call([freed, replied] if early else [replied, freed], False)
         yield from self.drained()
 
     def some_node(self):
-        if self.process.nodes and self.world.often(30):
-            return self.world.random.choice(self.process.nodes)
+        if self.process.nodes and self.driver.often(30):
+            return self.driver.random.choice(self.process.nodes)
         return self.process.new_node()
 
     def due(self):
@@ -585,7 +589,7 @@ class Actor:
     def act(self):
         """One thing that a thread does by itself."""
         yield from self.drained()
-        draw, text = self.world.random, self.world.random.choice(TEXTS)
+        draw, text = self.driver.random, self.driver.random.choice(TEXTS)
         what = draw.choices(ACTS, self.habits.weights)[0]
         known = self.known()
         if what == "find" or not known:
@@ -599,8 +603,8 @@ class Actor:
         elif what == "oneway":
             yield from self.oneways([draw.choice(known)], 5, text)
         elif what == "give":
-            given = ("of", draw.choice(known)) if self.world.often(50) else ("own", self.some_node())
-            if self.world.often(50):
+            given = ("of", draw.choice(known)) if self.driver.often(50) else ("own", self.some_node())
+            if self.driver.often(50):
                 yield from self.oneways([draw.choice(known)], 6, text, [given])
             else:
                 yield from self.full_call(draw.choice(known), 6, text, [given])
@@ -634,14 +638,14 @@ class Actor:
             self.process.in_use[handle] -= 1
         if self.process.handles[handle].freeze is not None:
             return (watch(BC_CLEAR_FREEZE_NOTIFICATION, handle, cookie), None,
-                    lambda: taken(lambda: self.world.clear(self.process, handle)))
+                    lambda: taken(lambda: self.driver.clear(self.process, handle)))
         return (watch(BC_REQUEST_FREEZE_NOTIFICATION, handle, cookie), None,
-                lambda: taken(lambda: self.world.watch(self.process, handle, cookie)))
+                lambda: taken(lambda: self.driver.watch(self.process, handle, cookie)))
 
     def oneways(self, handles, code, text, objects=()):
         """The same text to each of these handles, in one write or in several."""
         sends = [self.send(handle, code, ONE_WAY, text, objects) for handle in handles]
-        for some in ([sends] if self.world.often(30) else [[it] for it in sends]):
+        for some in ([sends] if self.driver.often(30) else [[it] for it in sends]):
             yield from self.call(self.due() + some, False)
             yield from self.drained()
 
@@ -677,8 +681,8 @@ class Habits(NamedTuple):
     ignores: int = 0
 
 
-def began(world, loopers, others, habits):
-    process = world.process()
+def began(driver, loopers, others, habits):
+    process = driver.process()
     for at in range(loopers + others):
         thread = process.thread(at < loopers)
         thread.life = Actor(thread, habits).live()

@@ -23,7 +23,7 @@ from checks.kit.checking import Fail, check
 from checks.kit.programs import LISTING, ROOT
 from checks.kit.second_reading import (DELIVERIES, NEWER, Event, address_of, cookie_behind_handle, cookie_of, grouped,
                                        handle_of, objects_of, number, read_parts, reading)
-from checks.kit.simulated import Habits, Truth, World, began, capture_of
+from checks.kit.simulated import Driver, Habits, Truth, began, capture_of
 from viewer.database import loading, raw_tables
 from viewer.database.programs import build_programs
 from viewer.database.sqlite import open_database
@@ -43,19 +43,19 @@ SCENES = {
 def played(scene: str, way: str, seed: int) -> Truth:
     """The capture of a session in which processes are frozen and thawed: whole, begun in mid-life, or with frames
     lost."""
-    world = World(f"freezes {scene} {seed}")
-    world.manager = began(world, 1, 0, MANAGER).new_node()
-    for _ in range(world.random.randint(3, 5)):
-        began(world, world.random.randint(1, 3), world.random.randint(1, 2), SCENES[scene])
+    driver = Driver(f"freezes {scene} {seed}")
+    driver.manager = began(driver, 1, 0, MANAGER).new_node()
+    for _ in range(driver.random.randint(3, 5)):
+        began(driver, driver.random.randint(1, 3), driver.random.randint(1, 2), SCENES[scene])
 
     def freeze_or_thaw() -> None:
-        one = world.random.choice(world.processes)
-        world.freeze(one, not one.frozen)
-    world.play(FRAMES, freeze_or_thaw, share=3)
+        one = driver.random.choice(driver.processes)
+        driver.freeze(one, not one.frozen)
+    driver.play(FRAMES, freeze_or_thaw, share=3)
     draw = random.Random(f"{scene} {way} {seed}")
-    first = draw.randint(50, len(world.frames) // 2) if way == "cut" else 0
-    lost = draw.sample(range(1, len(world.frames)), 12) if way == "lost" else ()
-    return capture_of(world.frames, frozenset(lost), first)
+    first = draw.randint(50, len(driver.frames) // 2) if way == "cut" else 0
+    lost = draw.sample(range(1, len(driver.frames)), 12) if way == "lost" else ()
+    return capture_of(driver.frames, frozenset(lost), first)
 
 
 # ---- the second reading

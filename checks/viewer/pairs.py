@@ -24,7 +24,7 @@ from typing import NamedTuple
 from checks.kit.checking import Fail, check, row
 from checks.kit.programs import LISTING, ROOT
 from checks.kit.rows import rows_of
-from checks.kit.simulated import Habits, Truth, World, began, capture_of
+from checks.kit.simulated import Driver, Habits, Truth, began, capture_of
 from viewer.database.programs import build_programs
 
 FRAMES, SESSIONS = 900, 16
@@ -54,26 +54,26 @@ class Kind(NamedTuple):
 
 def played(kind: Kind, seed: int) -> Truth:
     """The capture of a session: whole, begun in mid-life, or with frames lost."""
-    world = World(f"{kind.scene} {seed}")
-    world.manager = began(world, 1, 0, MANAGER).new_node()
+    driver = Driver(f"{kind.scene} {seed}")
+    driver.manager = began(driver, 1, 0, MANAGER).new_node()
 
     def begin() -> None:
-        began(world, world.random.randint(1, 3), world.random.randint(1, 3), SCENES[kind.scene])
+        began(driver, driver.random.randint(1, 3), driver.random.randint(1, 3), SCENES[kind.scene])
 
     def restart() -> None:
         """One process ends, and another one begins."""
-        world.end(world.random.choice([it for it in world.processes[1:] if not it.dead]))
+        driver.end(driver.random.choice([it for it in driver.processes[1:] if not it.dead]))
         begin()
-    for _ in range(world.random.randint(3, 6)):
+    for _ in range(driver.random.randint(3, 6)):
         begin()
-    world.play(FRAMES, restart)
+    driver.play(FRAMES, restart)
     draw = random.Random(f"{kind} {seed}")
-    first = draw.randint(100, len(world.frames) // 2) if kind.way == "cut" else 0
+    first = draw.randint(100, len(driver.frames) // 2) if kind.way == "cut" else 0
     lost = set()
     for _ in range(draw.randint(1, 4) if kind.way == "lost" else 0):
-        at = draw.randint(20, len(world.frames) - 20)
+        at = draw.randint(20, len(driver.frames) - 20)
         lost.update(range(at, at + draw.choice((1, 1, 2, 10))))
-    return capture_of(world.frames, lost, first)
+    return capture_of(driver.frames, lost, first)
 
 
 class Pair(NamedTuple):
