@@ -4,8 +4,10 @@
 -- makes: temporary tables: buffer_path, send_path; indexes: buffer_path_of
 
 -- Buffers, by what they came for: of each path that has a finding how many there are, how many were freed, and how long
--- these were held.
-CREATE TEMP TABLE buffer_path AS
+-- these were held. Columns have types where findings are looked up by them: without, no index is used.
+CREATE TEMP TABLE buffer_path(relation TEXT, code INTEGER, about INTEGER, node INTEGER, n INTEGER, good INTEGER,
+  longest_seq INTEGER, longest INTEGER);
+INSERT INTO buffer_path
 WITH d AS (
   SELECT
     CASE WHEN r.kind = :BR_REPLY THEN 'reply to' WHEN r.flags & :TF_ONE_WAY THEN 'oneway at' ELSE 'at' END AS relation,
@@ -36,10 +38,10 @@ FROM (
   GROUP BY relation, code, about, node, cookie HAVING count(*) > count(freed_by))
 GROUP BY 1, 2, 3, 4;
 CREATE UNIQUE INDEX temp.buffer_path_of ON buffer_path(about, node, code, relation);
-UPDATE finding SET n_all = b.n, n_good = b.good, longest_seq = b.longest_seq, longest = b.longest
-FROM buffer_path b
-WHERE section = 'buffers' AND b.about = finding.about AND b.node IS finding.node AND b.code IS finding.code
-  AND b.relation = finding.relation;
+UPDATE finding SET (n_all, n_good, longest_seq, longest) = (
+  SELECT n, good, longest_seq, longest FROM buffer_path b
+  WHERE b.about = finding.about AND b.node IS finding.node AND b.code IS finding.code AND b.relation = finding.relation)
+WHERE section = 'buffers';
 
 -- Calls and oneway sends to a target, by code: how many were answered or delivered, and how long that took.
 CREATE TEMP TABLE send_path AS

@@ -72,7 +72,8 @@ CREATE INDEX temp.given_way_of ON given_way(way, upid);
 
 -- Those of a code to objects that came the same way are one path, since each of many short-lived objects may get one
 -- call. What the context manager gives are services, each with a path of its own.
-CREATE TEMP TABLE object_of AS
+CREATE TEMP TABLE object_of(generation INTEGER, way INTEGER, about INTEGER, node INTEGER);
+INSERT INTO object_of
 SELECT
   o.id AS generation,
   iif(g.sender NOT IN (SELECT upid FROM manager), g.way, NULL) AS way,
@@ -83,7 +84,8 @@ WHERE EXISTS (SELECT 1 FROM finding WHERE section = 'answers');
 CREATE UNIQUE INDEX temp.object_of_generation ON object_of(generation);
 -- How many were answered, and how many of these with a status; and the name of such calls, if those that have one
 -- agree.
-CREATE TEMP TABLE answered AS
+CREATE TEMP TABLE answered(code INTEGER, way INTEGER, about INTEGER, node INTEGER, n INTEGER, others INTEGER);
+INSERT INTO answered
 SELECT
   r.code,
   o.way,
@@ -97,7 +99,8 @@ FROM (SELECT 1 FROM object_of LIMIT 1) CROSS JOIN raw_call c JOIN raw_send s USI
 WHERE c.verdict = 1 AND c.served = 0 AND r.code IN (SELECT code FROM finding WHERE section = 'answers')
 GROUP BY 1, 2, 3, 4;
 CREATE UNIQUE INDEX temp.answered_of ON answered(code, way, about, node);
-CREATE TEMP TABLE way_named AS
+CREATE TEMP TABLE way_named(code INTEGER, way INTEGER, interface TEXT, others INTEGER, method TEXT);
+INSERT INTO way_named
 SELECT a.code, a.way, min(c.interface) AS interface, min(c.others) AS others, min(c.method) AS method
 FROM answered a JOIN object_of o USING (way) JOIN call_named c ON (c.code, c.upid, c.ptr) = (a.code, o.about, o.node)
 GROUP BY 1, 2
