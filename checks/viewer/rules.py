@@ -1,16 +1,19 @@
 """Checks the rules of `view` on small sessions, one on either side of each threshold and order; that the head of
 each SQL file of `view` says what its statements need and make; that nothing changes what is in a raw table; that
 docs/RULES.md has the thresholds and, for each rule, a session that gets it; and that all that wait for a call are
-counted, on made-up waits.
+counted, on made-up waits; and that wrong rules are told from the right ones.
 
     checks/run rules                    plays the sessions of sessions/*cases.py, and compares the rules that they get
     checks/run rules -- CASE..          plays these alone: `heads`, `page`, `waits`, or sessions, as `never_answered` in
                                         all its forms, or "never_answered wait=200"
     checks/run rules -- --show CASE..   also prints the findings of these sessions
-    checks/run rules -- --edits [EDIT]  also tries wrong rules: each edit of sessions/edits.txt must change what a
-                                        session or a scenario of samples/driver gets, or say why it changes nothing; a
-                                        line says what tells it. EDIT is a part of the names of some, or several with
-                                        commas
+    checks/run rules -- --wrong [WORD..]
+                                        plays all wrong forms of the rules, or those of these subjects, as `W2`: each
+                                        must change what a session or a scenario of samples/driver gets, or
+                                        wrong_rules/untold.txt must say why it changes nothing
+
+Wrong forms are made of the statements of the rules (wrong_rules/forms.py). Without a CASE those are played too that a
+change brings, by git: what is not committed, or else the last commit.
 """
 
 import argparse
@@ -19,22 +22,25 @@ import pathlib
 import sqlite3
 import subprocess
 from collections import Counter
-from concurrent.futures import ProcessPoolExecutor, ThreadPoolExecutor
+from concurrent.futures import ThreadPoolExecutor
 from itertools import repeat
 from typing import Callable, Iterable, Iterator
 
 from checks.kit.checking import FLAG, Fail, check
-from checks.kit.programs import CHECKS, DRIVER, LISTING, ROOT
-from checks.viewer.edits import Edit, edited, edits_of
+from checks.kit.programs import DRIVER, LISTING, ROOT
 from checks.viewer.heads import faults_of_heads
 from checks.viewer.rule_page import faults_of_page
 from checks.viewer.sessions.every import CASES, Case
 from checks.viewer.sessions.played import base_of, judged
 from checks.viewer.waits import faults_of_waits
+from checks.viewer.wrong_rules.example import faults_of_maker
+from checks.viewer.wrong_rules.judge import Judged, rows_of
+from checks.viewer.wrong_rules.play import Wrong, all_forms
+from checks.viewer.wrong_rules.tried import Cases, forms_of_change, play_all, said_of, tried, unexplained
 from viewer.database import loading, raw_tables
 from viewer.database.programs import build_programs
 from viewer.database.sqlite import open_database
-from viewer.rules import judging
+from viewer.rules.thresholds import THRESHOLDS
 
 
 def made(room: pathlib.Path, one: Case) -> bytes:
@@ -96,7 +102,7 @@ def shown(counts: Counter) -> str:
     return " ".join(f"{rule}:{count}" for rule, count in sorted(counts.items(), key=str))
 
 
-# ---- wrong rules
+# ---- scenarios
 
 
 def scenario(room: pathlib.Path, folder: pathlib.Path) -> bytes:
@@ -118,44 +124,6 @@ def groups_of(database: sqlite3.Connection) -> list[tuple]:
                             " FROM defect ORDER BY 1, 2, 3, 4").fetchall()
 
 
-# The databases of the cases, and those of the scenarios with their groups. Each process that tries edits has them from
-# the one that began it.
-BASES: list[bytes] = []
-SCENARIOS: dict[str, tuple[bytes, list[tuple]]] = {}
-
-
-def told_by(edit: Edit, room: pathlib.Path) -> str | None:
-    """What tells an edit from the right rules; None if nothing does."""
-    # Sessions that get the rule that its name begins with mostly tell it.
-    folder, rule = room / f"edit-{edit.name}", edit.name.partition("-")[0].upper()
-    try:
-        edited(edit, judging.FOLDER, folder)
-        for one, base in sorted(zip(CASES, BASES), key=lambda both: rule not in due_of(both[0])):
-            if faults_of(one, judged(base, folder)):
-                return one.name
-        for name, (base, due) in SCENARIOS.items():
-            if groups_of(judged(base, folder)) != due:
-                return f"scenario {name}"
-    except (ValueError, sqlite3.Error) as error:
-        return f"no edit: {error}"
-    return None
-
-
-def try_edits(room: pathlib.Path, bases: list[bytes], names: str) -> Iterator[str]:
-    """What is wrong with the stored edits."""
-    folders = [path for path in sorted(DRIVER.iterdir()) if path.is_dir()]
-    with ThreadPoolExecutor(os.cpu_count()) as pool:
-        made_of = list(pool.map(scenario, repeat(room), folders))
-    BASES[:] = bases
-    SCENARIOS.update({path.name: (base, groups_of(judged(base))) for path, base in zip(folders, made_of)})
-    edits = edits_of(CHECKS / "viewer/sessions/edits.txt", names)
-    with ProcessPoolExecutor(os.cpu_count()) as pool:
-        for edit, told in zip(edits, pool.map(told_by, edits, repeat(room))):
-            print(f"{edit.name}: {told or edit.nothing or 'nothing tells it'}")
-            if (told is None) != (edit.nothing is not None) or (told or "").startswith("no edit"):
-                yield f"edit {edit.name}: {told or 'nothing tells it from the right rules'}"
-
-
 def show(one: Case, database: sqlite3.Connection) -> None:
     """Prints the findings of a judged case."""
     print(f"== {one.name}: {one.due}")
@@ -166,29 +134,96 @@ def show(one: Case, database: sqlite3.Connection) -> None:
 
 # What is checked beside the sessions, by name.
 BESIDE: dict[str, Callable[[], Iterable[str]]] = {
-    "heads": faults_of_heads, "page": lambda: faults_of_page(CASES), "waits": faults_of_waits}
+    "heads": faults_of_heads, "page": lambda: faults_of_page(CASES), "waits": faults_of_waits,
+    "wrong-forms": faults_of_maker}
 
 
-def judge(given: argparse.Namespace, room: pathlib.Path, fail: Fail) -> None:
-    build_programs(ROOT)
-    raw_tables.loader()
-    for name, faults in BESIDE.items():
-        if name in given.cases:
-            for fault in faults():
-                fail(fault)
-    sessions = [one for one in CASES if one.name in given.cases]
+def bases_of(sessions: list[Case], room: pathlib.Path) -> Iterator[bytes]:
     with ThreadPoolExecutor(os.cpu_count()) as pool:
-        bases = list(pool.map(made, repeat(room), sessions))
-    for one, base in zip(sessions, bases):
+        yield from pool.map(made, repeat(room), sessions)
+
+
+def play_named(given: argparse.Namespace, room: pathlib.Path, fail: Fail) -> None:
+    """Plays the sessions that the command line names."""
+    sessions = [one for one in CASES if one.name in given.cases]
+    for one, base in zip(sessions, bases_of(sessions, room)):
         database = judged(base)
         if given.show:
             show(one, database)
         for fault in faults_of(one, database):
             fail(f"{one.name}: {fault}")
-    if given.edits is not None:
-        for what in try_edits(room, bases, given.edits):
-            fail(what)
+
+
+def all_sessions(room: pathlib.Path) -> tuple[bytes, Cases]:
+    """All sessions, and the database of one of them."""
+    bases = bases_of(CASES, room)
+    first = next(bases)
+    return first, Cases([one.name for one in CASES], [rows_of(first), *map(rows_of, bases)],
+                        lambda number, database: faults_of(CASES[number], database))
+
+
+# ---- wrong rules
+
+
+def play_sessions(room: pathlib.Path, fail: Fail) -> None:
+    """Plays all sessions, and the wrong forms that a change brings."""
+    base, cases = all_sessions(room)
+    forms, said = forms_of_change(list(Judged(base).statements), THRESHOLDS)
+    which = tried(forms)
+    for fault in play_all(base, cases, which):
+        fail(fault)
+    if said:
+        untold = len(which.untold())
+        print(f"{said}; sessions tell {which.are_statements() - untold} of these, and {untold} not")
+    for what in unexplained(which):
+        fail(what)
+
+
+def scenarios(room: pathlib.Path) -> Cases:
+    """The stored captures; a form is told by other groups than those of the right rules."""
+    folders = [path for path in sorted(DRIVER.iterdir()) if path.is_dir()]
+    with ThreadPoolExecutor(os.cpu_count()) as pool:
+        bases = list(pool.map(scenario, repeat(room), folders))
+    right = [groups_of(judged(base)) for base in bases]
+    return Cases([path.name for path in folders], list(map(rows_of, bases)),
+                 lambda number, database: [] if groups_of(database) == right[number] else ["other groups"])
+
+
+def is_about(form: Wrong, words: list[str]) -> bool:
+    return not words or any(form.subject == word or form.subject.startswith(f"{word} (") for word in words)
+
+
+def play_wrong(words: list[str], room: pathlib.Path, fail: Fail) -> None:
+    """Plays all wrong forms, or those of some subjects: on the sessions, and what no session tells on the scenarios."""
+    base, cases = all_sessions(room)
+    forms = [form for form in all_forms(list(Judged(base).statements), THRESHOLDS) if is_about(form, words)]
+    if not forms:
+        fail(f"no rule, and no table of the rules, {' '.join(words)}")
+    by_sessions = tried(forms)
+    for fault in play_all(base, cases, by_sessions):
+        fail(fault)
+    by_scenarios, of_driver = tried([forms[number] for number in by_sessions.untold()]), scenarios(room)
+    for fault in play_all(base, of_driver, by_scenarios):
+        fail(fault)
+    for line in said_of(forms, by_sessions, by_scenarios, of_driver, whole=not words):
+        fail(line)
+
+
+def judge(given: argparse.Namespace, room: pathlib.Path, fail: Fail) -> None:
+    build_programs(ROOT)
+    raw_tables.loader()
+    if given.wrong is not None:
+        play_wrong(given.wrong, room, fail)
+        return
+    for name, faults in BESIDE.items():
+        if name in given.cases:
+            for fault in faults():
+                fail(fault)
+    if given.named:
+        play_named(given, room, fail)
+    else:
+        play_sessions(room, fail)
 
 
 if __name__ == "__main__":
-    check(judge, lambda: [*BESIDE, *(one.name for one in CASES)], edits={"nargs": "?", "const": ""}, show=FLAG)
+    check(judge, lambda: [*BESIDE, *(one.name for one in CASES)], show=FLAG, wrong={"nargs": "*"})

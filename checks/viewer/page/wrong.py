@@ -8,7 +8,7 @@ from typing import Callable
 
 from checks.kit.checking import Fail
 from checks.kit.programs import CHECKS, ROOT
-from checks.viewer.edits import Edit, edited, edits_of
+from checks.viewer.page.edits import Edit, edited, edits_of
 from checks.viewer.page.methods import check_hostile_methods
 from checks.viewer.page.stacks import built_program, calls_of, check_hostile_stacks
 from checks.viewer.page.words import check_hostile

@@ -1,4 +1,4 @@
-"""Stored edits of files of viewer/: wrong versions, each of which a check must tell from the right one."""
+"""Stored edits of files of viewer/page: wrong versions, each of which a check must tell from the right one."""
 
 import pathlib
 import shutil
@@ -6,20 +6,18 @@ from typing import NamedTuple
 
 
 class Edit(NamedTuple):
-    """In a file the one `old`, or the first one at or after `at`, becomes `new`; `nothing` says why that changes
-    nothing."""
+    """In a file the one `old`, or the first one at or after `at`, becomes `new`."""
     name: str
     file: str
     at: str
     old: str = ""
     new: str = ""
-    nothing: str | None = None
 
 
 def edits_of(path: pathlib.Path, names: str) -> list[Edit]:
     """The edits of a list whose names have one of these parts, which are separated by commas. `in FILE`, or `in FILE at
-    TEXT`, holds for the edits that follow. Each has its name, a line `- OLD`, a line `+ NEW`, and maybe a line `= WHY`
-    it changes nothing. `\\n` is the end of a line."""
+    TEXT`, holds for the edits that follow. Each has its name, a line `- OLD` and a line `+ NEW`. `\\n` is the end of a
+    line."""
     found: list[Edit] = []
     file = at = ""
     for line in path.read_text("utf-8").splitlines():
@@ -27,7 +25,7 @@ def edits_of(path: pathlib.Path, names: str) -> list[Edit]:
         text = rest.replace("\\n", "\n")
         if word == "in":
             file, _, at = text.partition(" at ")
-        elif field := {"-": "old", "+": "new", "=": "nothing"}.get(word):
+        elif field := {"-": "old", "+": "new"}.get(word):
             found[-1] = found[-1]._replace(**{field: text})
         elif word and word != "#":
             found.append(Edit(word, file, at))
