@@ -77,17 +77,11 @@ class Opening:
         self.calls: Counter[int] = Counter()
         self.deaths = self.clears = self.cleared_and_dead = 0
         self.freezes = self.freeze_clears = 0
-        self.completions = 0
 
     @property
     def handles(self) -> dict[int, tuple[int, int]]:
         """The strong and weak references of each handle."""
         return {handle: (ref.strong, ref.weak) for handle, ref in self.refs.items()}
-
-    @property
-    def buffers(self) -> dict[int, tuple[int, int | None]]:
-        """The address and the size of each buffer."""
-        return {number: (area.address, area.data) for number, area in self.areas.items()}
 
     @property
     def unread(self) -> set[int]:
@@ -127,8 +121,6 @@ class Opening:
             self.freezes += 1
         elif word == "has cleared freeze notification":
             self.freeze_clears += 1
-        elif word == "transaction complete":
-            self.completions += 1
 
     def take_transaction(self, found: re.Match[str], thread: int) -> None:
         kind, flags = found[1], int(found[8], 16)
