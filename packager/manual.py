@@ -6,6 +6,8 @@ import subprocess
 import textwrap
 from typing import Iterator, NamedTuple
 
+from viewer.program_names import as_packed
+
 ROOT = pathlib.Path(__file__).resolve().parent.parent
 DOCUMENTS = "/usr/share/doc/binder-audit"
 WIDTH = 78
@@ -49,10 +51,8 @@ def escaped(text: str) -> str:
 
 
 def as_installed(text: str) -> str:
-    """A text in which the programs are called as in a package."""
-    text = re.sub(r"\./(audit|listing|record|view|fleet)\b", r"binder-\1", text)
-    text = re.sub(r"(?<![\w/])lab/Makefile\b", "/usr/share/binder-audit/lab/Makefile", text)
-    return text.replace("viewer/methods/table.py", "binder-methods")
+    """A text in which the programs, and what they bring, are called as in a package."""
+    return re.sub(r"(?<![\w/])lab/Makefile\b", "/usr/share/binder-audit/lab/Makefile", as_packed(text))
 
 
 def marked(text: str) -> str:

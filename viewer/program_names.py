@@ -14,6 +14,7 @@ LIBRARY = FOLDER.parents[2] / "lib/binder-audit"
 PROGRAMS = {**{name: f"./{name}" for name in ("audit", "listing", "record", "view", "fleet")},
             "methods": "viewer/methods/table.py"}
 NAMES = {command: name for name, command in PROGRAMS.items()}
+CALL = re.compile("|".join(rf"{re.escape(command)}\b" for command in NAMES))
 
 
 def called(program: str) -> str:
@@ -23,8 +24,12 @@ def called(program: str) -> str:
 
 def as_called(text: str) -> str:
     """A text in which the programs are called as here."""
-    return re.sub(r"\./(audit|listing|record|view|fleet)\b|viewer/methods/table\.py",
-                  lambda found: called(NAMES[found[0]]), text)
+    return CALL.sub(lambda found: called(NAMES[found[0]]), text)
+
+
+def as_packed(text: str) -> str:
+    """A text in which the programs are called as in a package."""
+    return CALL.sub(lambda found: f"binder-{NAMES[found[0]]}", text)
 
 
 def commit() -> str | None:

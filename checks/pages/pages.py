@@ -1,4 +1,4 @@
-"""Checks the pages: README.md, docs/, samples/, checks/README.md and the READMEs of the crates.
+"""Checks the pages: README.md, CONTRIBUTING.md, docs/, samples/, checks/README.md and the READMEs of the crates.
 
     checks/run pages [-- PROGRAM]
 
@@ -23,6 +23,7 @@ What must hold:
   and the sizes of what is trusted, up to a tenth. README.md has the number of wrong bodies.
 - README.md has the figures that docs/MEASURED.md has on the blind test and on the second recorder.
 - docs/DEFINITIONS.md is the page that checks/run definitions makes.
+- What stands in several sources, as the most bytes of a capture, has one value in all of them (owners.py).
 """
 
 import os
@@ -33,7 +34,7 @@ import subprocess
 from checks.kit.checking import check
 from checks.kit.programs import ROOT, SMALL, edits_of, folder_of, linked
 from checks.kit.runs import answer
-from checks.pages import callers, codes, definitions, figures, named_options, promises, sources, tables
+from checks.pages import callers, codes, definitions, figures, named_options, owners, promises, sources, tables
 
 TITLE = "BINDER AUDIT "
 
@@ -43,8 +44,8 @@ LONGEST = 600
 
 def pages():
     """The pages, README.md first."""
-    return [ROOT / "README.md", *sorted(ROOT.glob("docs/*.md")), *sorted(ROOT.glob("samples/**/*.md")),
-            ROOT / "checks/README.md", *sorted(ROOT.glob("crates/*/README.md"))]
+    return [ROOT / "README.md", ROOT / "CONTRIBUTING.md", *sorted(ROOT.glob("docs/*.md")),
+            *sorted(ROOT.glob("samples/**/*.md")), ROOT / "checks/README.md", *sorted(ROOT.glob("crates/*/README.md"))]
 
 
 def anchors(page):
@@ -214,6 +215,7 @@ def judge(given, room, _):
     answers = {name: answer([program, "report", *parts], encoding="utf-8")[1] for name, parts in asked.items()}
     reports = {name: text for name, text in answers.items() if text.startswith(TITLE)}
     options = named_options.Options(room / "options")
+    yield from owners.wrong()
     for page in pages():
         for number, what in (*wrong_links(page), *wrong_reports(page, reports), *wrong_answers(page, program, room),
                              *wrong_changes(page, program), *wrong_bodies(page), *callers.wrong(page),

@@ -4,7 +4,7 @@ import os
 import re
 import shlex
 
-MOST_TOGETHER = 1 << 30  # the most bytes that the auditor takes as one capture,
+MOST_TOGETHER = 1_073_741_824  # the most bytes that the auditor takes as one capture,
 MOST_FILES = 256  # and the most files
 
 
