@@ -1,0 +1,186 @@
+#!/usr/bin/env bash
+# Records AOSP's own code: libbinder of Android 10, its servicemanager and tests, and a small system on libbinder with
+# and without faults. It fetches AOSP's sources from Debian's registry, builds them, boots Debian's kernels in QEMU, and
+# plays aosp/plan.txt there. It is run by hand.
+#
+#     checks/run aosp [-- OPTION..]    fetches, builds, boots, compares: some ten minutes a kernel
+#
+#     --room FOLDER      where packages and results are kept; by default a temporary folder that is removed
+#     --recorder FILE    a recorder that is already built; by default `./record` builds it
+#     --kernel SERIES    only 6.1, 6.12 or newest, which is Debian sid's; by default 6.1 and newest
+#     --rust             only a kernel with the driver in Rust, which is built if there is none yet: rust_kernel.sh
+#     --only NAME        only this line of the plan; may be given several times
+#     --limit SECONDS    how long a guest may take; by default 1800
+#     --store            also renews samples/aosp from the results of the newest kernel
+#
+# Each test is played unrecorded, recorded, with --redact and with --stacks; each scene with --redact and with --stacks.
+# A line for each says what came of it, by aosp/judge.py. If something is not as it must be, it says so and ends with
+# status 1.
+set -euo pipefail
+
+here=$(readlink -f -- "${BASH_SOURCE[0]}")
+root=${here%/*/*/*}
+aosp=$root/checks/recorder/aosp check=aosp
+limit=1800 room='' recorder='' store=''
+acceleration='-accel tcg,thread=single -cpu max'
+series=(6.1 newest)
+only=()
+# shellcheck source=checks/recorder/guests.sh
+source "$root/checks/recorder/guests.sh"
+# shellcheck source=checks/recorder/rust_kernel.sh
+source "$root/checks/recorder/rust_kernel.sh"
+
+while (($#)); do
+  case $1 in
+  --room) room=$2 && shift ;;
+  --recorder) recorder=$2 && shift ;;
+  --kernel) series=("$2") && shift ;;
+  --rust) series=(rust) ;;
+  --only) only+=("$2") && shift ;;
+  --limit) limit=$2 && shift ;;
+  --store) store=1 ;;
+  *) stop "$1 is not an option; the head of this script lists them" ;;
+  esac
+  shift
+done
+
+needs qemu-system-x86_64 qemu-system-x86
+needs busybox busybox-static
+needs clang++ 'clang libstdc++-12-dev'
+needs make make
+needs cpio cpio
+needs xz xz-utils
+needs python3 python3
+
+if [[ -z $room ]]; then
+  room=$(mktemp -d -t checks-aosp.XXXXXX)
+  trap 'cd / && rm -rf -- "$room"' EXIT
+fi
+mkdir -p -- "$room"
+room=$(readlink -f -- "$room")
+
+# ---- AOSP's code
+
+# The upstream sources of a Debian package, which apt compares with the checksums of its signed lists.
+fetch_sources() { # RELEASE PACKAGE FOLDER
+  local folder=$3 lists=$room/lists-$1-sources archives=$room/archives-$1-sources sources=$room/sources-$1-sources
+  [[ -e $folder/opened ]] && return 0
+  from=(-o "Dir::Etc::SourceList=$sources" -o Dir::Etc::SourceParts=/dev/null -o "Dir::State::Lists=$lists"
+    -o "Dir::Cache=$archives" -o APT::Sandbox::User=root)
+  rm -rf -- "$folder" && mkdir -p -- "$lists/partial" "$archives/partial" "$folder"
+  printf 'deb-src http://deb.debian.org/debian %s main\n' "$1" >"$sources"
+  apt-get "${from[@]}" update >>"$room/packages.log" 2>&1 || return 1
+  (cd -- "$folder" && apt-get "${from[@]}" source --download-only --tar-only "$2" >>"$room/packages.log" 2>&1 &&
+    tar xf ./*.orig.tar.* && rm -- ./*.orig.tar.* && touch opened)
+}
+
+build_android() {
+  local packages=$room/packages-10
+  built=$room/built-10
+  fetch_sources bookworm android-platform-frameworks-native "$room/sources-10" || return 1
+  if [[ ! -e $packages/opened ]]; then
+    use_lists bookworm && open_packages "$packages" android-lib{utils,cutils,log,base}{,-dev} android-libbacktrace \
+      p7zip-full aidl libgtest-dev || return 1
+  fi
+  mkdir -p -- "$built"
+  make -s -j "$(nproc)" -f "$aosp/Makefile.10" "SOURCE=$room/sources-10" "PACKAGES=$packages" "OUT=$built" \
+    >"$room/build.log" 2>&1 || stop "the build failed: see $room/build.log"
+  libraries=("$packages"/usr/lib/x86_64-linux-gnu/android/lib{utils,cutils,log,base,backtrace}.so.0
+    "$packages/usr/lib/p7zip/7z.so")
+}
+
+# ---- the guest
+
+modules=(virtio_ring virtio virtio_pci_legacy_dev virtio_pci_modern_dev virtio_pci virtio_blk binder_linux)
+
+with_libraries() { # COMMAND..
+  LD_LIBRARY_PATH=$built:$(dirname -- "${libraries[@]}" | sort -u | paste -sd :) "$@"
+}
+
+libraries_of() { # FILE..: what the dynamic linker needs of this machine
+  with_libraries ldd "$@" | awk '$3 ~ /^\/(usr\/)?lib/ { print $3 }' | sort -u
+}
+
+make_initramfs() { # KERNEL PLAN TO
+  local top=$room/initramfs file role
+  rm -rf -- "$top" && mkdir -p -- "$top"/{bin,lib,lib64,proc,sys,dev,out,modules,tmp,android}
+  cp -- "$aosp/init.sh" "$top/init"
+  cp -- "$aosp/with-manager.sh" "$top/with-manager"
+  chmod +x -- "$top/init" "$top/with-manager"
+  cp -- "$recorder" "$top/record"
+  cp -- "$2" "$top/plan"
+  find "$built" -maxdepth 1 -type f -perm -u+x ! -name '*.so' ! -name system -exec cp -- {} "$top/android/" \;
+  cp -- "$built/system" "$top/system"
+  for role in $(role_names); do ln -s /system "$top/android/$role"; done
+  cp -L -- "$built"/*.so "${libraries[@]}" "$top/lib/"
+  for file in $(libraries_of "$built"/{binderLibTest,system,libbinder.so}); do cp -nL -- "$file" "$top/lib/"; done
+  cp -L -- "$loader" "$top$loader_in_guest/"
+  cp -- "$busybox" "$top/bin/busybox"
+  for file in sh env; do ln -s busybox "$top/bin/$file"; done
+  for file in $(module_files "$1" "${modules[@]}"); do
+    cp -- "$file" "$top/modules/"
+    if [[ $file == *.xz ]]; then unxz -f "$top/modules/${file##*/}"; fi
+    file=${file##*/} && file=${file%.xz}
+    if [[ $file != binder_linux.ko ]]; then printf '%s\n' "$file" >>"$top/modules/order"; fi
+  done
+  touch -- "$top/modules/order"
+  (cd -- "$top" && find . | cpio -o -H newc 2>/dev/null | gzip -1) >"$3"
+}
+
+role_names() {
+  with_libraries "$built/system" | awk '{ print $1 }'
+}
+
+boot() { # KERNEL PLAN OUT
+  rm -rf -- "$3" && mkdir -p -- "$3"
+  make_initramfs "$1" "$2" "$room/initramfs.gz"
+  rm -f -- "$room/disk" && truncate -s 3G "$room/disk"
+  # servicemanager asks for the security contexts of those that call it.
+  # shellcheck disable=SC2086
+  timeout "$limit" nice -n "$(($(nice) < 10 ? 10 - $(nice) : 0))" $emulator -m 3G -smp 4 -nographic -no-reboot \
+    -nodefaults -serial stdio -kernel "$(find "$1/" -name 'vmlinuz*' | head -n 1)" -initrd "$room/initramfs.gz" \
+    -drive "file=$room/disk,format=raw,if=virtio" \
+    -append "$words panic=-1 quiet rdinit=/init security=selinux selinux=1" </dev/null >"$3/console" 2>&1 || true
+  tar xif "$room/disk" -C "$3" 2>/dev/null || true	# several archives, with zeros between them
+  rm -f -- "$room/disk" "$room/initramfs.gz"
+  grep -q '^init: done' "$3/console" || stop "the guest did not come to its end: see $3/console"
+}
+
+plan() { # prints the lines for the guest: each line of the plan that --only leaves, in each way
+  local what name rest
+  while read -r what name rest; do
+    [[ -z $what || $what == '#'* ]] && continue
+    if ((${#only[@]})) && [[ " ${only[*]} " != *" $name "* ]]; then continue; fi
+    case $what in
+    test)
+      printf '%s %s\n' "$name-unrecorded test unrecorded" "/android/$rest" "$name test recorded" "/android/$rest" \
+        "$name-redacted test --redact" "/android/$rest" "$name-stacks test --stacks" "/android/$rest"
+      ;;
+    scene) printf '%s %s\n' "$name" "scene --redact $rest" "$name-stacks" "scene --stacks $rest" ;;
+    esac
+  done <"$aosp/plan.txt"
+}
+
+as_machine x86_64
+busybox=$(command -v busybox)
+if [[ -z $recorder ]]; then
+  "$root/record" --help >/dev/null || stop 'the recorder was not built'
+  recorder=$root/recorder/out/record
+fi
+build_android || stop "the registry has no sources of Android, or not what they need: see $room/packages.log"
+plan >"$room/plan"
+[[ -s $room/plan ]] || stop 'the plan has no such line'
+status=0
+for one in "${series[@]}"; do
+  if [[ $one == rust ]]; then
+    use_rust_kernel || stop 'there is no kernel with the driver in Rust'
+  else
+    fetch_kernel "$one" || stop "the registry has no kernel $one"
+  fi
+  boot "$kernel" "$room/plan" "$room/out-$one"
+  python3 -m checks.recorder.aosp.judge "$room/out-$one" || status=1
+  if [[ -n $store && $one == newest ]]; then
+    python3 -m checks.recorder.aosp.store "$room/out-$one" "$root/samples/aosp"
+  fi
+done
+exit "$status"

@@ -1,0 +1,172 @@
+"""Judges what a guest left of the plan: judge.py FOLDER
+
+Each folder in FOLDER is a recording, and is named after its line of plan.txt. A test that was also played unrecorded
+must have the same results each time; no frame may be lost but for those of LOST; the report may not differ from the
+driver's books; and the groups must be those that groups.txt expects. It prints a line for each. If something is not so,
+a line on standard error says what, and the status is 1.
+"""
+
+import fnmatch
+import pathlib
+import re
+import sqlite3
+import sys
+import tempfile
+from typing import Iterator, NamedTuple
+
+from checks.kit.programs import ROOT
+from checks.kit.runs import answer
+from checks.viewer.page.common import without_numbers
+
+HERE = pathlib.Path(__file__).resolve().parent
+
+# The ways in which a test is played; the names of their folders end so.
+WAYS = ("-unrecorded", "-redacted", "-stacks")
+
+# What is lost in a test: the recorder can't read a command of binderDriverInterfaceTest whose address is wrong.
+LOST = {"driver": ["call-unreadable"]}
+
+
+class Due(NamedTuple):
+    """A line of groups.txt."""
+    name: str
+    why: str
+    verdict: str
+    kind: str
+    who: str
+    path: str
+    rules: str
+    reason: str
+
+    def fits(self, group: "Group") -> bool:
+        fields = (self.verdict, group.verdict), (self.kind, group.kind), (self.path, without_numbers(group.path)), \
+            (self.rules, group.rules)
+        return (self.who == "*" or self.who in group.who.split(",")) \
+            and all(fnmatch.fnmatchcase(came, due) for due, came in fields)
+
+
+class Group(NamedTuple):
+    """A line of `./view --groups`."""
+    verdict: str
+    kind: str
+    n: str
+    of: str
+    device: str
+    process: str
+    path: str
+    rules: str
+    note: str
+    who: str
+    keys: str
+
+
+def groups_due(name: str) -> list[Due]:
+    lines = (HERE / "groups.txt").read_text("utf-8").splitlines()
+    every = [Due(*line.split("\t")) for line in lines if line and not line.startswith("#")]
+    return [due for due in every if due.name == name]
+
+
+class Recorded(NamedTuple):
+    """What `./view` says of a recording: its groups that are real or maybe, in order, and where the books differ."""
+    groups: list[Group]
+    differences: list[str]
+    compared: int
+
+
+def viewed(folder: pathlib.Path) -> Recorded | str:
+    """Calls `./view` for a recording, with the methods of the small system. A text says why it said nothing."""
+    with tempfile.TemporaryDirectory(prefix="checks-aosp.") as room:
+        made, methods = pathlib.Path(room) / "made.db", pathlib.Path(room) / "methods"
+        status, table, err = answer([ROOT / "viewer/methods/table.py", HERE / "system"], encoding="utf-8")
+        if status:
+            return f"the table of methods was not made: {err.strip()}"
+        methods.write_text(table, "utf-8")
+        captures = sorted(folder.glob("capture-*.cap"), key=lambda path: int(path.stem.split("-")[1]))
+        status, out, err = answer([ROOT / "view", *captures, "--side", folder / "capture.side", "--groups",
+                                   "--database", made, "--methods", methods], encoding="utf-8")
+        if status:
+            return f"./view ended with status {status}: {err.strip()}"
+        with sqlite3.connect(made) as database:
+            differences = [" ".join(map(str, found)) for found in database.execute(
+                "SELECT p.name, d.what, d.report || ' by the report', d.books || ' by the books'"
+                " FROM disagreement d JOIN process p USING (upid) ORDER BY d.id")]
+            compared = database.execute("SELECT value FROM capture WHERE key = 'books_compared'").fetchone()
+    groups = [Group(*line.split("\t")) for line in out.splitlines()]
+    return Recorded([group for group in groups if group.verdict in ("real", "maybe")], differences,
+                    compared[0] if compared else 0)
+
+
+def faults_of_groups(groups: list[Group], due: list[Due]) -> Iterator[str]:
+    """What is wrong with the groups. Those of a fault come before others, and each of them must be there."""
+    for group in groups:
+        if not any(one.fits(group) for one in due):
+            yield "not expected: " + " | ".join(group[:-1])
+    faults = [one for one in due if one.why == "fault"]
+    for one in faults:
+        if not any(one.fits(group) for group in groups):
+            yield "not found: " + " | ".join(one[2:7])
+    if faults and groups and not any(one.fits(groups[0]) for one in faults):
+        yield "not of the fault is the first line: " + " | ".join(groups[0][:-1])
+
+
+def results_of(folder: pathlib.Path) -> list[str]:
+    """The results of a test: lines of googletest, or lines that say whether it passed."""
+    text = (folder / "output").read_text("utf-8", errors="replace")
+    return [" ".join(words) for words in re.findall(r"^\[ +(OK|FAILED|SKIPPED) +\] ([\w./]+) \(", text, re.M)] \
+        or re.findall(r"\b(PASS|FAIL)\b", text)
+
+
+def lost_of(folder: pathlib.Path) -> list[str]:
+    """Why frames were lost, and what was missed. A recording that came to no end has lost what is not known."""
+    side = (folder / "capture.side").read_text("utf-8", errors="surrogateescape")
+    if not re.search(r"^\d+ end recording ", side, re.M):
+        return ["no end"]
+    return re.findall(r"^\d+ lost \d+ .*why=(\S+)", side, re.M) + re.findall(r"^\d+ missed \d+ what=(\S+)", side, re.M)
+
+
+def name_of(folder: pathlib.Path) -> str:
+    return next((folder.name.removesuffix(way) for way in WAYS if folder.name.endswith(way)), folder.name)
+
+
+def faults_of(folder: pathlib.Path, told: list[str]) -> Iterator[str]:
+    """What is wrong with a folder. `told` gets what is said of it in any case."""
+    name = name_of(folder)
+    status = (folder / "status").read_text("utf-8").split()[0]
+    results, plain = results_of(folder), folder.parent / f"{name}-unrecorded"
+    if status != "0":
+        yield f"status {status}"
+    if plain.is_dir():
+        told.append(f"{sum(result.startswith(('OK', 'PASS')) for result in results)} of {len(results)} passed")
+        if results != results_of(plain):
+            yield f"other results than unrecorded: {' '.join(sorted(set(results) ^ set(results_of(plain))))}"
+    if folder == plain:
+        return
+    output = (folder / "output").read_text("utf-8", errors="replace")
+    lost, frames = lost_of(folder), re.search(r"record: (\d+) frames", output)
+    told += [f"{frames[1] if frames else 'no'} frames", f"{len(lost)} lost"]
+    if lost != LOST.get(name, []):
+        yield f"lost: {' '.join(lost)}"
+    came = viewed(folder)
+    if isinstance(came, str):
+        yield came
+        return
+    told.append(f"books of {came.compared} openings, {len(came.differences)} differences")
+    told.append(", ".join(f"{group.verdict} {group.rules}" for group in came.groups) or "no real or maybe")
+    yield from (f"the books differ: {difference}" for difference in came.differences)
+    yield from faults_of_groups(came.groups, groups_due(name))
+
+
+def main(source: str) -> int:
+    failed = 0
+    for folder in sorted(path for path in pathlib.Path(source).iterdir() if (path / "status").exists()):
+        told: list[str] = []
+        faults = list(faults_of(folder, told))
+        failed += len(faults)
+        print(f"{folder.name}: {'; '.join(told)}", flush=True)
+        for fault in faults:
+            print(f"checks/aosp: {folder.name}: {fault}", file=sys.stderr)
+    return 1 if failed else 0
+
+
+if __name__ == "__main__":
+    sys.exit(main(*sys.argv[1:]))

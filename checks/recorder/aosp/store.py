@@ -1,0 +1,42 @@
+"""store.py FROM TO: packs the small redacted recordings of a guest, with their books.
+
+A recording of a test is stored by the name of the test. One that came to no end, or is larger packed than LARGEST, is
+left out."""
+
+import io
+import pathlib
+import sys
+import tarfile
+
+# In bytes.
+LARGEST = 100_000
+
+# The files of a recording that are stored; of the output only what the recorder says.
+PARTS = ("capture-*.cap", "capture.side", "capture.*.*", "output", "status")
+
+
+def packed(folder: pathlib.Path, name: str) -> bytes:
+    """The recording as a tar file that is the same each time."""
+    made = io.BytesIO()
+    with tarfile.open(fileobj=made, mode="w:xz", preset=9, encoding="utf-8") as tar:
+        for path in sorted({path for part in PARTS for path in folder.glob(part)}):
+            data = path.read_bytes()
+            if path.name == "output":
+                data = b"".join(line for line in data.splitlines(True) if line.startswith(b"record: "))
+            entry = tarfile.TarInfo(f"{name}/{path.name}")
+            entry.size = len(data)
+            tar.addfile(entry, io.BytesIO(data))
+    return made.getvalue()
+
+
+def main(source: str, to: str) -> None:
+    pathlib.Path(to).mkdir(parents=True, exist_ok=True)
+    for folder in sorted(path for path in pathlib.Path(source).iterdir() if (path / "capture.side").exists()):
+        status, _, how, *_ = (folder / "status").read_text("utf-8").split()
+        data = packed(folder, name := folder.name.removesuffix("-redacted"))
+        if how == "--redact" and status == "0" and len(data) <= LARGEST:
+            (pathlib.Path(to) / f"{name}.tar.xz").write_bytes(data)
+
+
+if __name__ == "__main__":
+    main(*sys.argv[1:])

@@ -1,0 +1,6 @@
+package check;
+
+interface IListener {
+    oneway void event(int number);
+    int ask(int number);
+}

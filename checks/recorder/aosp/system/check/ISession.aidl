@@ -1,0 +1,6 @@
+package check;
+
+interface ISession {
+    int work(int number);
+    void close();
+}
