@@ -2,8 +2,8 @@
 
     checks/run recordings
 
-Each file in samples/aosp is a recording of `checks/run aosp`, packed by store.py, of the line of plan.txt after which
-it is named. The groups of the page must be those that groups.txt expects, no frame may be lost but for those that the line
+Each file in samples/aosp is a recording of `checks/run aosp`, packed by store.py, and named after its line of plan.txt.
+The groups of the page must be those that groups.txt expects, no frame may be lost but for those that the line
 makes the recorder lose, and the report may not differ from the driver's books.
 """
 
