@@ -84,7 +84,7 @@ from checks.viewer.page.growth import check_growth
 from checks.viewer.page.losses import CUTS, FAULTLESS, check_cuts, check_gaps
 from checks.viewer.page.methods import check_methods, check_unnamed
 from checks.viewer.page.reports import check_sample
-from checks.viewer.page.services import CAPTURES, check_libgbinder, check_services
+from checks.viewer.page.services import CAPTURES, check_libgbinder, check_manager, check_services
 from checks.viewer.page.sides import (check_files, check_forms, check_last_names, check_late, check_list_of_loader,
                                       check_loader, check_no_lists, check_renames, check_side, check_times)
 from checks.viewer.page.stacks import check_stacks
@@ -111,6 +111,7 @@ BY_SCRIPTS = parts_of(check_templates, check_words, check_stopped, check_no_engi
 IN_TURN = parts_of(
     check_side, check_forms, check_no_lists, check_list_of_loader, check_renames, check_last_names, check_files,
     check_secrets, check_told, check_untimed, check_late, check_hostile, check_methods, check_unnamed, check_services,
+    check_manager,
     check_times, check_loader, check_agreement, check_copies, check_bad_books, check_long_books, check_commands,
     check_stacks, check_growth, check_against)
 

@@ -25,8 +25,14 @@ BINDER, MANAGER = "android.os.IBinder", "android.os.IServiceManager"
 OF_BINDER = {"_PNG": "pingBinder", "_DMP": "dump", "_CMD": "shellCommand", "_NTF": "getInterfaceDescriptor",
              "_SPR": "SYSPROPS_TRANSACTION", "_EXT": "getExtension", "_PID": "getDebugPid"}
 
-# An interface of HIDL never changes. Of android.os.IServiceManager only this code means the same in all releases: a
-# method that came with Android 15 moved those after it.
+# Of android.os.IServiceManager code 1 means the same in all releases. A method that came with Android 15 moved those
+# after it: until then code 3 hands over the object of a service, and since then that code hands over none.
+OF_MANAGER_BEFORE_15 = ("getService", "checkService", "addService", "listServices")
+TELLS_MANAGER_BEFORE_15 = """SELECT EXISTS (SELECT 1 FROM raw_interface i JOIN raw_record r ON r.interface = i.id
+    JOIN raw_object o ON o.place = r.place
+  WHERE i.name = ? AND r.code = 3 AND o.sort IN (SELECT number FROM sort WHERE name IN ('BINDER', 'HANDLE')))"""
+
+# An interface of HIDL never changes.
 OF_MANAGER_OF_HIDL = ("get", "add", "getTransport", "list", "listByInterface", "registerForNotifications", "debugDump",
                       "registerPassthroughClient")
 
@@ -77,12 +83,22 @@ def methods_of(paths: Iterable[str]) -> Methods:
     return found
 
 
+def of_manager(database: sqlite3.Connection) -> Methods:
+    """The methods of android.os.IServiceManager, if calls of the capture tell of which releases it is."""
+    if not database.execute(TELLS_MANAGER_BEFORE_15, (MANAGER,)).fetchone()[0]:
+        return {}
+    return {(MANAGER, code): Method(name, "built in: before Android 15, as code 3 hands over an object")
+            for code, name in enumerate(OF_MANAGER_BEFORE_15, 1)}
+
+
 def load_methods(database: sqlite3.Connection, given: Methods) -> None:
     """Puts the methods of the interfaces that the capture names into the database, and those that need no interface.
     What a file says goes before what is built in."""
     named = {name for name, in database.execute("SELECT name FROM interface")}
     known = {(name, code): Method(method, "built in: if it has a version")
              for name in named if "::" not in name for method, code in ADDED.items()}
+    if MANAGER in named:
+        known.update(of_manager(database))
     known.update(built_in())
     known.update(given)
     database.executemany("INSERT INTO method VALUES (?, ?, ?, ?)",

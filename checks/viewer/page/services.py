@@ -80,6 +80,30 @@ def check_hostile_names(folder: pathlib.Path, room: pathlib.Path, fail: Fail) ->
     check_harmless("hostile payloads", (room / "harmful.html").read_text("utf-8"), fail)
 
 
+# ---- the manager of services
+
+MANAGER_BEFORE_15 = ["getService", "checkService", "addService", "listServices"]
+
+
+def check_manager(folder: pathlib.Path, room: pathlib.Path, fail: Fail) -> None:
+    """The codes of a manager have names if code 3 hands over an object, as before Android 15, and only the first one if
+    another code does, or nothing is handed over."""
+    for code, is_given, due in ((3, True, MANAGER_BEFORE_15), (4, True, ["getService"]), (3, False, ["getService"])):
+        s = Session()
+        manager, client = s.two()
+        server, about = s.process(300, "server"), marked(MANAGER) + string16("hello")
+        if is_given:
+            server.main.gives(manager.main, 3, code, 0x9000, about, numbers(12, 0, 15))
+        else:
+            manager.main.gets(server.main.sends(0, code, body=about), 0)
+        made = view(folder, room, *written(s, room, f"manager-{code}-{is_given}"), "--groups", "--database",
+                    room / f"manager-{code}-{is_given}.db")
+        compare(f"a manager, code {code}: status", made[0], 0, fail)
+        came = [name for name, in sqlite3.connect(room / f"manager-{code}-{is_given}.db").execute(
+            "SELECT method FROM method WHERE interface = 'android.os.IServiceManager' AND code < 100 ORDER BY code")]
+        compare(f"a manager, code {code} {'with' if is_given else 'without'} an object", came, due, fail)
+
+
 # ---- clients on libgbinder
 
 SOURCES = DRIVER.parent / "interfaces"
