@@ -12,7 +12,7 @@ from checks.kit.runs import answer
 MOMENTS = 5
 
 # What a line says of a disk without room.
-CAUSES = "No space left on device", " is full"
+CAUSES = "No space left on device", "; the disk of "
 
 
 class Disk:
@@ -55,7 +55,8 @@ def check_moments(what: str, folder: pathlib.Path, disk: Disk, scratch: pathlib.
     whole = played(10**9), found_in(result)
     writes = disk.writes()
     compare(f"{what}: with room", (whole[0], bool(whole[1]), writes > 0), ((0, ""), True, True), fail)
-    moments = range(1, writes + 1) if every else {1, writes, *range(1, writes, writes // MOMENTS + 1)}
+    some = {1, writes // 10, writes, *range(1, writes, writes // MOMENTS + 1)} - {0}
+    moments = range(1, writes + 1) if every else some
     for number in sorted(moments):
         status, told = played(number)
         left = sorted(path.name for path in (*result.parent.glob(".*"), *scratch.iterdir()))
