@@ -12,7 +12,7 @@ from checks.kit.captures import (BC_ACQUIRE, BC_CLEAR_DEATH_NOTIFICATION, BC_CLE
 from checks.kit.tokens import marked
 
 AT_ONCE = 256  # So many records are in a frame, where that makes no difference.
-ONE_WAY = 0x01
+ONE_WAY, STATUS_CODE = 0x01, 0x08
 
 
 class Frame(NamedTuple):
@@ -275,8 +275,15 @@ def replies_of_many_paths(_: int) -> Iterator[Frame]:
                                for at in count())
 
 
-def answer(at: int) -> Frame:
-    return got(1, 1, record(BR_TRANSACTION_COMPLETE), transaction(BR_REPLY, sizes=(4, 0), buffer=0x1000 + 16 * at))
+@costly
+def statuses_of_many(_: int) -> Iterator[Frame]:
+    return chain.from_iterable((wrote(1, 1, transaction(BC_TRANSACTION, at, 1, sizes=(4, 0))), answer(at, STATUS_CODE))
+                               for at in count(1))
+
+
+def answer(at: int, flags: int = 0) -> Frame:
+    return got(1, 1, record(BR_TRANSACTION_COMPLETE),
+               transaction(BR_REPLY, flags=flags, sizes=(4, 0), buffer=0x1000 + 16 * at))
 
 
 # ---- sends and deliveries that may belong together
