@@ -581,6 +581,29 @@ def oneway_after_another(s, freed, wait):
     s.wait(200)
 
 
+@case("U6:1 W3:1", kept="node")
+@case("U6:1 W3:1", kept="process")
+@case("U6:1 W3:1", kept="call")
+def oneway_beside_another(s, kept):
+    """A oneway send does not come, while its receiver keeps a delivery for which it does not wait: a oneway one at
+    another node, one at a node of this address in another process, or a call at its own node."""
+    service, client = s.two()
+    for handle in (1, 2):
+        client.main.gives(service.main, handle)
+    looper = client.looper(1)
+    if kept == "node":
+        looper.gets(service.main.sends(2, 7, ONE_WAY), 0x9200)
+    elif kept == "process":
+        other = s.process(300, "other")
+        other.main.gives(service.main, 3, node=0x9100)
+        other.looper(1).gets(service.main.sends(3, 7, ONE_WAY), 0x9100)
+    else:
+        looper.gets(service.main.sends(1, 7), 0x9100)
+        service.main.answered(looper.replies())
+    service.main.sends(1, 7, ONE_WAY)
+    s.wait(200)
+
+
 # ---- buffers
 
 

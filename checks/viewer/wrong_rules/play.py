@@ -140,7 +140,7 @@ class Trying(Judged):
             if self.wrong is None:
                 self.play_views(rows)
             tells = self.wrong is not None and is_told(self)
-        except sqlite3.Error:
+        except Exception:  # such as a finding without a rule, of which no text can be made
             if self.wrong is None:
                 raise
             tells = True
