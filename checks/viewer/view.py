@@ -111,9 +111,8 @@ BY_SCRIPTS = parts_of(check_templates, check_words, check_stopped, check_no_engi
 IN_TURN = parts_of(
     check_side, check_forms, check_no_lists, check_list_of_loader, check_renames, check_last_names, check_files,
     check_secrets, check_told, check_untimed, check_late, check_hostile, check_methods, check_unnamed, check_services,
-    check_manager,
-    check_times, check_loader, check_agreement, check_copies, check_bad_books, check_long_books, check_commands,
-    check_stacks, check_growth, check_against)
+    check_manager, check_times, check_loader, check_agreement, check_copies, check_bad_books, check_long_books,
+    check_commands, check_stacks, check_growth, check_against)
 
 
 def names() -> list[str]:
