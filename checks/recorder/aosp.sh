@@ -3,7 +3,7 @@
 # and without faults. It fetches AOSP's sources from Debian's registry, builds them, boots Debian's kernels in QEMU, and
 # plays aosp/plan.txt there. It is run by hand.
 #
-#     checks/run aosp [-- OPTION..]    fetches, builds, boots, compares: some ten minutes a kernel
+#     checks/run aosp [-- OPTION..]    fetches, builds, boots, compares; how long that takes was not measured yet
 #
 #     --room FOLDER      where packages and results are kept; by default a temporary folder that is removed
 #     --recorder FILE    a recorder that is already built; by default `./record` builds it
