@@ -23,8 +23,8 @@
 #     --sanitize         runs the recorder under the address and undefined-behaviour sanitizers; they must find nothing
 #     --store            also renews samples/driver from the results of the newest kernel; with --rust some of them, as
 #                        NAME-rust
-#     --blind [SET]      records the sessions of a blind test set instead, by default of `blind`, and judges nothing:
-#                        blind/play.sh. The other sets are `unseen` and `third`
+#     --blind FOLDER     records the sessions of a blind test set, which this folder has, instead, and judges nothing:
+#                        blind/play.sh
 #
 # If a comparison fails, it says which one and ends with status 1.
 set -euo pipefail
@@ -62,10 +62,7 @@ while (($#)); do
   --arm64) arm64=1 ;;
   --sanitize) sanitize=1 ;;
   --store) store=1 ;;
-  --blind)
-    blind=blind
-    if [[ -n ${2-} && $2 != --* ]]; then blind=$2 && shift; fi
-    ;;
+  --blind) blind=$2 && shift ;;
   *) stop "$1 is not an option; the head of this script lists them" ;;
   esac
   shift

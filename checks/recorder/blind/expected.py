@@ -4,8 +4,6 @@ import pathlib
 import re
 from typing import NamedTuple
 
-SETS = pathlib.Path(__file__).parents[1]
-
 
 class Line(NamedTuple):
     """A line of `./view --groups`."""
@@ -18,6 +16,10 @@ class Line(NamedTuple):
     @property
     def kind(self) -> str:
         return self.text.split("\t")[1]
+
+    @property
+    def rules(self) -> str:
+        return self.text.split("\t")[7]
 
     @property
     def processes(self) -> set[str]:
@@ -89,16 +91,19 @@ def expected_of(name: str, lines: list[str]) -> Expected:
     return Expected(name, found["fault"], found["more"], found["true"], spared)
 
 
-def expectations(of: str) -> dict[str, Expected]:
-    """All sessions of a set, by their names."""
+def blocks_of(file: pathlib.Path) -> dict[str, list[str]]:
+    """The lines below each name of a file, which are indented. Comments and empty lines are left out."""
     blocks: dict[str, list[str]] = {}
-    name = ""
-    for line in (SETS / of / "expected.txt").read_text("utf-8").splitlines():
+    for line in file.read_text("utf-8").splitlines():
         if not line or line.lstrip().startswith("#"):
             continue
         if line.startswith(" "):
-            blocks[name].append(line)
+            blocks[list(blocks)[-1]].append(line)
         else:
-            name = line
-            blocks[name] = []
-    return {name: expected_of(name, lines) for name, lines in blocks.items()}
+            blocks[line] = []
+    return blocks
+
+
+def expectations(file: pathlib.Path) -> dict[str, Expected]:
+    """All sessions of a set, by their names."""
+    return {name: expected_of(name, lines) for name, lines in blocks_of(file).items()}

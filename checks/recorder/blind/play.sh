@@ -1,20 +1,26 @@
 # shellcheck shell=bash disable=SC2154,SC2034 # driver.sh has the variables
 # Records the sessions of a blind test set; checks/recorder/driver.sh sources it for --blind, has the functions that it
-# calls, and has the set's name in `blind`, which is that of its folder beside driver.sh. Of each kernel it leaves the
+# calls, and has the set's folder in `blind`. The name of the folder is that of the set. Of each kernel it leaves the
 # folder SET-SERIES in the room of --room, with a folder for each session: the captures, their side list, the driver's
 # books, and `dmesg`. Nothing is judged, and nothing of it is stored.
+#
+# A set has C sources, which with raw.c, send.c and processes.c of ../scenarios make a program that plays a session, by
+# the words SESSION FOLDER SEED, and a plan.txt with a line for each session: NAME HOW SESSION SEED. HOW is `blind`,
+# `blind-live` or `blind-before`: see the head of ../scenarios/init.sh.
 #
 # Its only complaints are of a recording that is none: a status other than 0, frames that were lost, events that were
 # missed. What the kernel had to say of a session is in its `dmesg`, and is part of some sessions.
 
-sessions=$root/checks/recorder/$blind
+sessions=$(readlink -f -- "$blind")
+blind=${sessions##*/}
 blind_series=()
 
 build_sessions() {
   programs=$room/programs-$blind
   rm -rf -- "$programs" && mkdir -p -- "$programs" "$room/clients"
-  gcc -O2 -Wall -Wextra -Werror -static -o "$programs/blind" "$sessions"/*.c "$scenarios"/{raw,send,processes}.c \
-    -lpthread
+  # So a source of a set finds ../scenarios/raw.h, wherever the set is.
+  gcc -O2 -Wall -Wextra -Werror -static -I"$root/checks/recorder/blind" -o "$programs/blind" "$sessions"/*.c \
+    "$scenarios"/{raw,send,processes}.c -lpthread
 }
 
 # The lines of the plan that --only leaves.
@@ -46,14 +52,16 @@ tell_sessions() { # FOLDER
 }
 
 status=0
-[[ -e $sessions/plan.txt ]] || stop "there is no blind test set $blind"
+[[ -e $sessions/plan.txt ]] || stop "$sessions has no plan.txt, and is no blind test set"
 build_sessions
 plan_sessions >"$room/plan"
 [[ -s $room/plan ]] || stop 'the plan has no such session'
 for one in "${series[@]}"; do
   # Two kernels are enough, unless one is asked for.
   if [[ $one == 6.12 ]] && ((${#series[@]} > 1)); then continue; fi
-  if ! fetch_kernel "$one"; then
+  if [[ $one == rust ]]; then
+    use_rust_kernel || stop 'there is no kernel with the driver in Rust'
+  elif ! fetch_kernel "$one"; then
     printf 'checks/driver: the registry has no kernel %s\n' "$one"
     continue
   fi

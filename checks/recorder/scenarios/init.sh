@@ -19,7 +19,7 @@
 #   stacks   by the recorder only, which takes stacks, with programs that keep frame pointers; `program` is that program
 #   frameless  the same with programs that do not
 #   hoard    by the recorder only, which keeps the newest 4 files of 8 MiB; `memory` is how much it had at most
-#   blind    by the recorder only, a session of a blind test set, such as ../blind
+#   blind    by the recorder only, a session of a blind test set: ../blind/play.sh
 #   blind-before  the same as `before`
 #   blind-live  by a recorder that is started before the session, and stopped when that has made the file `rested`: so
 #            all processes are alive at the end of the recording
