@@ -147,7 +147,7 @@ def told(path: pathlib.Path, *builds: str) -> dict[str, list[str]]:
 
 # How many pairs of sets of one build are compared, each in both directions, and in how many of them one line may be
 # false: 5 of 100 are, on average.
-PAIRS, MAY_BE_FALSE = 4, 0
+PAIRS, MAY_BE_FALSE = 2, 0
 
 
 def check_quiet(room: pathlib.Path, fail: Fail) -> None:

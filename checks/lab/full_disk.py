@@ -9,7 +9,7 @@ from checks.kit.programs import DRIVER, preloadable
 from checks.kit.runs import answer
 
 # At how many of the writes a disk becomes full, without `--full`.
-MOMENTS = 5
+MOMENTS = 3
 
 # What a line says of a disk without room.
 CAUSES = "No space left on device", "; the disk of "

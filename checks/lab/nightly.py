@@ -28,7 +28,7 @@ FAULTS = {("surfaceflinger", 2): {"a1": 0.0, "a2": 0.0, "b1": 0.2, "b3": 0.2},
           ("mediaserver", 3): dict.fromkeys(BUILDS, 0.2)}
 SOMETIMES = ("surfaceflinger", 2), 0.6
 
-# So many replies of any call are kept in a session by chance.
+# So many replies of other calls are kept in a session by chance, at most.
 STRAY = 5
 
 
@@ -55,7 +55,8 @@ def session_of(build: str, number: int) -> Session:
         if (name, code) in FAULTS or call % 3 == 0:  # the calls of the faults are frequent
             client, (name, code) = clients[0], chance.choice(list(FAULTS)) if call % 3 == 0 else (name, code)
             at = SERVERS.index(name)
-        kept = call in stray or client is clients[0] and chance.random() < rates.get((name, code), 0.0)
+        is_fault = client is clients[0] and (name, code) in FAULTS
+        kept = chance.random() < rates[name, code] if is_fault else call in stray
         client.main.asks(servers[name].main, code, at + 1, nodes[name], free=not kept, body=marked(f"android.I{name}"))
         s.wait(chance.uniform(500, 2500))
     return s
@@ -81,9 +82,9 @@ def told_by(lines: str) -> Counter:
     return told
 
 
-# What must be told of each pair: exactly this of what is planted, in this many builds as the base line.
-DUE = {("a1", "a2"): (), ("a2", "a1"): (), ("a1", "b1"): ("new", "gone"), ("a2", "b1"): ("new", "gone"),
-       ("a1", "b3"): ("new", "gone", "grown"), ("a1", "a2", "b1"): ("new", "gone", "grown")}
+# What must be told of each pair of 50 captures a build: exactly this.
+CHANGED = ("a1", "b1"), ("a2", "b1"), ("a1", "b3"), ("a1", "a2", "b1")
+DUE = {("a1", "a2"): (), ("a2", "a1"): (), **dict.fromkeys(CHANGED, ("new", "gone", "grown"))}
 OF = {"new": "new surfaceflinger 2", "gone": "gone audioserver 4", "grown": "grown system_server 2"}
 
 
