@@ -2,10 +2,11 @@
 
     checks/run fleet                           makes a lab of 200 results, and one of a few captures
     checks/run fleet -- --results N            makes a lab of N results; prints what each step took
-    checks/run fleet -- --slurm [N]            makes 200 captures by Slurm on this machine, in tasks of N or of as many
+    checks/run fleet -- --slurm [N]            makes 60 captures by Slurm on this machine, in tasks of N or of as many
                                                as take a minute, with a task and a node killed; by hand, as root, with
                                                Debian's slurmctld, slurmd and munge
-    checks/run fleet -- --make                 makes 200 captures by lab/Makefile, with jobs killed; by hand
+    checks/run fleet -- --make                 makes 60 captures by lab/Makefile, while disks become full, and it and
+                                               its jobs are killed; by hand
     checks/run fleet -- --mutated N            loads N mutated results; prints how many were taken
     checks/run fleet -- --full                 fills a disk at each of all writes, and not at some; prints how many
     checks/run fleet -- --nightly N            makes N captures of each of four builds, with planted changes; prints

@@ -1,4 +1,5 @@
-"""A lab of 200 captures by lab/Makefile and by Slurm on this machine, while jobs, a task and a node are killed."""
+"""A lab of 60 captures by lab/Makefile and by Slurm on this machine, while disks become full, and jobs, make itself, a
+task and a node are killed. In the end each capture has one result, and the right one."""
 
 import contextlib
 import os
@@ -13,11 +14,16 @@ from types import FrameType
 from typing import Callable, Iterator
 
 from checks.kit.checking import Fail, compare
+from checks.kit.programs import preloadable
+from checks.lab.full_disk import Disk
 from checks.viewer.sessions.defect_cases import keeps_replies
 from checks.viewer.sessions.session import Session
 
-BUILDS, DEVICES, SESSIONS = 2, 10, 10
+BUILDS, DEVICES, SESSIONS = 2, 10, 3
 COUNT = BUILDS * DEVICES * SESSIONS
+
+# How many of them are cut, and how many have a side list that is empty, or that of another one.
+MALFORMED, FAILED = 1, 2
 
 CONFIGURATION = """ClusterName=fleet
 SlurmctldHost={host}(127.0.0.1)
@@ -48,16 +54,25 @@ PartitionName=lab Nodes=n1,n2 Default=YES MaxTime=INFINITE State=UP
 """
 
 
+def session_of(number: int) -> tuple[bytes, str]:
+    """A small capture, and its side list. No two are alike."""
+    s = Session()
+    keeps_replies(s, first=100 + 10 * number, noise=number % 7)
+    return s.capture(), s.side()
+
+
 def make_captures(lab: pathlib.Path) -> None:
-    """Small captures, no two of which are alike."""
     for number in range(COUNT):
         build, device = f"b{number % BUILDS + 1}", f"d{number // BUILDS % DEVICES + 1}"
-        s = Session()
-        keeps_replies(s, first=100 + 10 * number, noise=number % 7)
+        capture, side = session_of(number)
+        if number == 0:
+            capture = capture[:-5]
+        elif number <= FAILED:
+            side = "" if number == 1 else session_of(number + 100)[1]
         at = lab / build / device / f"s{number}"
         at.parent.mkdir(parents=True, exist_ok=True)
-        at.with_name(f"{at.name}-1.cap").write_bytes(s.capture())
-        at.with_name(f"{at.name}.side").write_text(s.side(), "utf-8")
+        at.with_name(f"{at.name}-1.cap").write_bytes(capture)
+        at.with_name(f"{at.name}.side").write_text(side, "utf-8")
 
 
 def check_results(what: str, lab: pathlib.Path, fail: Fail) -> None:
@@ -66,8 +81,14 @@ def check_results(what: str, lab: pathlib.Path, fail: Fail) -> None:
     due = sorted(str(path.relative_to(lab)).replace("-1.cap", "") for path in lab.glob("*/*/*-1.cap"))
     compare(f"{what}: results", sorted(map(str, results)), due, fail)
     database = sqlite3.connect(lab / "LAB.db")
-    counts = database.execute("SELECT count(*), count(DISTINCT digest), sum(failed NOTNULL) FROM capture").fetchone()
-    compare(f"{what}: captures in the lab", counts, (COUNT, COUNT, 0), fail)
+    counts = database.execute("SELECT count(*), count(DISTINCT digest), sum(malformed NOTNULL), sum(failed NOTNULL)"
+                              " FROM capture").fetchone()
+    compare(f"{what}: captures in the lab", counts, (COUNT, COUNT, MALFORMED, FAILED), fail)
+    why = [why for why, in database.execute("SELECT failed FROM capture WHERE failed NOTNULL ORDER BY 1")]
+    compare(f"{what}: why captures have failed", ("is empty" in " ".join(why), "another capture" in " ".join(why)),
+            (True, True), fail)
+    found = database.execute("SELECT count(DISTINCT capture) FROM found").fetchone()
+    compare(f"{what}: captures with the fault", found, (COUNT - FAILED,), fail)
     halves = [path.name for path in lab.rglob(".*.json.*")]
     print(f"{what}: {counts[0]} captures, {counts[1]} digests, {len(halves)} unfinished files that nothing reads",
           flush=True)
@@ -86,27 +107,52 @@ def in_session(leader: int) -> list[int]:
     return found
 
 
+def make(folder: pathlib.Path, lab: pathlib.Path, environment: dict[str, str]) -> subprocess.Popen:
+    return subprocess.Popen(["make", "-k", "-j2", "-s", "-f", str(folder / "lab/Makefile"), f"LAB={lab}"],
+                            start_new_session=True, stdout=subprocess.DEVNULL, stderr=subprocess.DEVNULL,
+                            env=environment)
+
+
+def kill(pids: list[int]) -> int:
+    for pid in pids:
+        with contextlib.suppress(ProcessLookupError):
+            os.kill(pid, signal.SIGKILL)
+    return len(pids)
+
+
 def check_by_make(folder: pathlib.Path, room: pathlib.Path, fail: Fail) -> None:
-    lab, begun, killed, calls = room / "lab", time.monotonic(), 0, 0
+    """Make runs while the disk of results becomes full; then it is killed alone, and its jobs go on; then with all its
+    jobs; then the disk of scratch becomes full, which Python leaves for another one; and then it does the rest."""
+    lab, begun, library = room / "lab", time.monotonic(), preloadable(room, "lab/full_disk.c")
     make_captures(lab)
-    chance = random.Random(1)
-    while len(list((lab / "results").rglob("*.json"))) < COUNT and calls < 5:
-        calls += 1
-        make = subprocess.Popen(["make", "-k", "-j2", "-s", "-f", str(folder / "lab/Makefile"), f"LAB={lab}"],
-                                start_new_session=True, stderr=subprocess.DEVNULL)
-        try:
-            while make.poll() is None:
-                time.sleep(1)
-                # Not while the sessions are listed: what is killed then ends the call, and no job is killed.
-                if calls == 1 and killed < 8 and any((lab / "results").rglob("*.json")) and (
-                        some := [pid for pid in in_session(make.pid) if pid != make.pid]):
-                    with contextlib.suppress(ProcessLookupError):
-                        os.kill(chance.choice(some), signal.SIGKILL)
-                        killed += 1
-        finally:
-            make.kill()
-        compare(f"make, call {calls}: the status", make.returncode == 0, calls > 1, fail)
-    print(f"make: {killed} processes of jobs killed, {calls} calls, {time.monotonic() - begun:.0f} s", flush=True)
+    scratch, results = Disk(room, "scratch", library), Disk(lab, "results", library)
+    of_scratch = {"TMPDIR": str(scratch.folder)}
+
+    def made() -> int:
+        return len(list(results.folder.glob("*/*/*.json")))
+
+    def run_full(what: str, disk: Disk, number: int) -> None:
+        before = made()
+        status = make(folder, lab, {**disk.environment(number), **of_scratch}).wait(900)
+        print(f"make, the disk of {what} becomes full: status {status}, {made() - before} results", flush=True)
+        compare(f"make, the disk of {what} becomes full: status, not all done", (status, made() < COUNT), (2, True),
+                fail)
+
+    run_full("results", results, 45)
+    killed = 0
+    for alone in True, False:
+        running, before = make(folder, lab, {**os.environ, **of_scratch}), made()
+        while running.poll() is None and made() < before + 8:
+            time.sleep(0.1)
+        killed += kill([running.pid] if alone else in_session(running.pid))
+        running.wait()
+        while alone and in_session(running.pid):  # its jobs end, and nothing begins
+            time.sleep(0.1)
+    print(f"make, killed alone and with its jobs: {killed} processes, {made()} results", flush=True)
+    run_full("scratch", scratch, 300)
+    compare("make, the last call", make(folder, lab, {**os.environ, **of_scratch}).wait(900), 0, fail)
+    left = [path.name for path in scratch.folder.iterdir()]
+    print(f"make: {time.monotonic() - begun:.0f} s, left in scratch: {left}", flush=True)
     check_results("make", lab, fail)
 
 
@@ -211,10 +257,10 @@ def check_by_slurm(folder: pathlib.Path, room: pathlib.Path, task: int, fail: Fa
         asked = subprocess.Popen([str(folder / "lab/slurm.sh"), str(lab), *[str(task)] * bool(task)],
                                  env=made.environment)
         results = lambda: len(list((lab / "results").rglob("*.json")))  # noqa: E731
-        made.wait(lambda: results() > 10)
+        made.wait(lambda: results() > 10, 600)
         killed = made.kill("SLURM_JOB_NAME=fleet", "SLURMD_NODENAME=n1")
         print(f"slurm: {killed} processes of a task killed", flush=True)
-        made.wait(lambda: results() > 40 and bool(made.processes("SLURMD_NODENAME=n2")))
+        made.wait(lambda: results() > 25 and bool(made.processes("SLURMD_NODENAME=n2")), 600)
         made.nodes["n2"].kill()
         print(f"slurm: node n2 killed, with {made.kill('SLURMD_NODENAME=n2')} processes of tasks", flush=True)
         status = asked.wait(900)
