@@ -349,7 +349,7 @@ CREATE TABLE report(id INTEGER PRIMARY KEY, section TEXT NOT NULL, place INTEGER
 -- n_all is NULL where a path is not counted: for handles that are let go of or that no delivery gave, for nodes,
 -- requests, deaths, clears, frees and flags, and for replies that are sent. later counts calls no deeper than the
 -- finding itself; for what is neither a call nor its buffer, it counts write frames. culprit is NULL if it is upid.
--- path is the text of relation, code and the columns from about on, which paths.sql fills; texts.sql makes it, and until
+-- path is the text of code and the columns from relation to calls, which paths.sql fills; texts.sql makes it, and until
 -- then it is NULL. So texts.sql makes note of said, with what note has then.
 CREATE TABLE finding(
   id INTEGER PRIMARY KEY,
@@ -366,19 +366,6 @@ CREATE TABLE finding(
   cookie INTEGER,
   generation INTEGER,
   target INTEGER,         -- the process that its handle leads to
-  path TEXT,
-  n_all INTEGER,
-  n_good INTEGER,
-  longest_seq INTEGER,
-  longest INTEGER,
-  age_seq INTEGER,
-  age INTEGER,
-  later INTEGER,
-  lead INTEGER,           -- the finding with which it is one
-  waiting INTEGER,
-  rule TEXT,
-  note TEXT,
-  culprit INTEGER,
   relation TEXT,          -- how it belongs to the call or the thing that it is about, by RELATIONS of paths.py
   about INTEGER,          -- the process of the object, or with a minus that of a handle of it
   node INTEGER,           -- the ptr of the object, or that handle; or an address
@@ -390,11 +377,24 @@ CREATE TABLE finding(
   giver INTEGER,          -- who handed over what came with calls
   status INTEGER,         -- what the call was answered with
   calls TEXT,             -- those that used up a pool
+  path TEXT,
+  n_all INTEGER,
+  n_good INTEGER,
+  longest_seq INTEGER,
+  longest INTEGER,
+  age_seq INTEGER,
+  age INTEGER,
+  later INTEGER,
+  lead INTEGER,           -- the finding with which it is one
+  waiting INTEGER,
+  rule TEXT,
   said TEXT,              -- the words of its note, with the names of the columns below
   other INTEGER,          -- the place of another record
   other_upid INTEGER,
   how_many INTEGER,
   of_how_many INTEGER,
   how_long INTEGER,
-  usually INTEGER
+  usually INTEGER,
+  note TEXT,
+  culprit INTEGER
 ) STRICT;

@@ -5,7 +5,7 @@
 -- makes: columns: id, kind, who, path, call, verdict, n, n_all, waiting, rules, age, place, own_path, note
 WITH each AS (
   SELECT *, max(min(rank) OVER (PARTITION BY defect), 2) AS least
-  FROM (SELECT x.defect, f.*, r.verdict, rank_of(r.verdict) AS rank
+  FROM (SELECT x.defect, f.*, r.verdict, coalesce(rank_of(r.verdict), 0) AS rank
     FROM finding_defect x JOIN finding f ON f.id = x.finding JOIN rule r ON r.id = f.rule)),
 counted AS (SELECT * FROM each WHERE rank <= least),
 leading AS (SELECT *, row_number() OVER (PARTITION BY defect ORDER BY rank, place, id) AS nth FROM counted),
