@@ -156,4 +156,5 @@ def main() -> int:
 
 
 if __name__ == "__main__":
-    sys.exit(main())
+    # All is written. What standard output did not take, Python would try once more, and end with a status of its own.
+    os._exit(main())
