@@ -10,12 +10,15 @@ from contextlib import closing
 
 from viewer.database.sqlite import UNLISTED, named_numbers
 from viewer.files import Stopped
-from viewer.program_names import LIBRARY, PACKED
+from viewer.program_names import LIBRARY, PACKED, called
 
 FOLDER = pathlib.Path(__file__).resolve().parent
 
 # The files that make the tables and the views of a new database, in order.
 SCHEMA = ("schema.sql", "numbers.sql", "views.sql", "about.sql")
+
+# The layout of the raw tables in schema.sql. `./listing` writes that of its rows into the table `capture`.
+LAYOUT = 5
 
 # ---- the schema
 
@@ -76,8 +79,20 @@ def loader() -> pathlib.Path:
     return program
 
 
+def refuse_other_layout(rows: pathlib.Path) -> None:
+    """Refuses rows of another layout, which may mean something else. That a row is cut is told by the loader."""
+    capture = rows / "capture.rows"
+    with open(capture, "rb") as row:
+        begin = row.read(16)
+    layout = int.from_bytes(begin[8:], "little")
+    if len(begin) == 16 and layout != LAYOUT:
+        raise Stopped(4, f"{capture} has the layout {layout} and not {LAYOUT}: {called('listing')} and "
+                         f"{called('view')} are of different versions")
+
+
 def load_rows(database: pathlib.Path, rows: pathlib.Path, side: str | None) -> None:
     """Makes a new database from the `.rows` files of a folder, with the times of frames in a side list."""
+    refuse_other_layout(rows)
     made = rows / "schema.sql"
     made.write_text(schema(), "utf-8")
     loaded = subprocess.run([loader(), database, rows, made, *([] if side is None else [side])], capture_output=True)

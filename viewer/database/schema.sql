@@ -19,8 +19,8 @@ PRAGMA user_version = 8;
 -- ---- raw tables: the rows that `./listing --tables` writes, column by column
 --
 -- docs/DATABASE.md has the form of a row. These tables may change; the views in views.sql may not. A change of a
--- column, of its meaning or of the order raises the layout. They are not STRICT: the loader has only whole numbers and
--- texts, and checking each took a quarter of its time.
+-- column, of its meaning or of the order raises the layout, here, in raw_tables.py and in ending.rt of listing_tables.
+-- They are not STRICT: the loader has only whole numbers and texts, and checking each took a quarter of its time.
 --
 -- A column is present in every row unless it may be NULL. A place is the place of a record's code word unless said
 -- otherwise. A difference of two sequences is taken in 64 bits without a sign. Rows rise by the first column, in

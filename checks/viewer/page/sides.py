@@ -412,3 +412,13 @@ def check_loader(folder: pathlib.Path, room: pathlib.Path, fail: Fail) -> None:
             told = stopped.status, str(stopped).removeprefix(f"{rows}/")
         why = "has a row with more than 9 columns: it has another layout" if number == 2 else "ends within a row"
         compare(f"bad rows {number}", told, (4, f"send.rows {why}"), fail)
+    check_layout(rows, room, fail)
+
+
+def check_layout(rows: pathlib.Path, room: pathlib.Path, fail: Fail) -> None:
+    """Rows of another layout are refused."""
+    capture = (rows / "capture.rows").read_bytes()
+    other = raw_tables.LAYOUT + 1
+    (rows / "capture.rows").write_bytes(capture[:8] + other.to_bytes(8, "little") + capture[16:])
+    told = refusal(lambda: raw_tables.load_rows(room / "other-layout.db", rows, None))
+    compare("rows of another layout", f"has the layout {other} and not {raw_tables.LAYOUT}" in told, True, fail)
