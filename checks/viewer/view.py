@@ -42,6 +42,8 @@ What must hold:
 - The driver's books at the end agree with the report, or a line says where not, or why they are not compared; copies
   that are no such books are left out, also those with numbers of thousands of digits, and what long ones take has a
   ceiling. A process is called what its command line says, where that is more than its name.
+- Beside a user id is what Android calls it, with its packages; a list that is none is told. Processes that make calls
+  of 32 bits are named and counted.
 - Of calls whose data name an interface, page, database, groups and timeline have that, and the methods of a table of
   `viewer/methods/table.py`. A table changes no verdict, and nothing of a capture without names. A wrong one is refused.
 - Of a side list with stacks the page shows that of the first record of a group, and how many have the same; the
@@ -88,6 +90,7 @@ from checks.viewer.page.services import CAPTURES, check_libgbinder, check_manage
 from checks.viewer.page.sides import (check_files, check_forms, check_last_names, check_late, check_list_of_loader,
                                       check_loader, check_no_lists, check_renames, check_side, check_times)
 from checks.viewer.page.stacks import check_stacks
+from checks.viewer.page.users import check_bits, check_packages
 from checks.viewer.page.words import (check_hostile, check_no_engine, check_python, check_secrets, check_stopped,
                                       check_templates, check_told, check_untimed, check_version, check_words)
 from checks.viewer.page.wrong import check_edits
@@ -112,7 +115,7 @@ IN_TURN = parts_of(
     check_side, check_forms, check_no_lists, check_list_of_loader, check_renames, check_last_names, check_files,
     check_secrets, check_told, check_untimed, check_late, check_hostile, check_methods, check_unnamed, check_services,
     check_manager, check_times, check_loader, check_agreement, check_copies, check_bad_books, check_long_books,
-    check_commands, check_stacks, check_growth, check_against)
+    check_commands, check_packages, check_bits, check_stacks, check_growth, check_against)
 
 
 def names() -> list[str]:

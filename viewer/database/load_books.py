@@ -1,12 +1,11 @@
 """What the driver held of each process when the recording began and when it ended: the copies of its books that are
 beside the side list."""
 
-import pathlib
-import re
 import sqlite3
 from collections import Counter, defaultdict
 from typing import Generic, Iterator, NamedTuple, TypeVar
 
+from viewer.database.beside import bytes_beside, places_beside
 from viewer.database.books import Counts, Opening, Transaction, state, stats
 from viewer.database.side_list import Copy
 from viewer.files import shown_name
@@ -25,32 +24,24 @@ class Matched(NamedTuple, Generic[Book]):
 # ---- the files
 
 
-def places_of(copy: Copy, side: str) -> Iterator[pathlib.Path]:
-    """Where a copy may be, beside a side list OUT.side or, of a flight recorder, OUT-1.side."""
-    out = side.removesuffix(".side")
-    for base in dict.fromkeys((out, re.sub(r"-[0-9]+$", "", out))):
-        yield pathlib.Path(f"{base}.{copy.moment}.{copy.what}")
+def ending_of(copy: Copy) -> str:
+    return f".{copy.moment}.{copy.what}"
 
 
 def name_of(copy: Copy, sides: list[str]) -> str:
     """What a copy is called that is not there."""
-    return shown_name([str(next(places_of(copy, sides[0])))])
+    return shown_name([str(next(places_beside(sides[0], ending_of(copy))))])
 
 
 def text_of(copy: Copy, sides: list[str]) -> tuple[str | None, str | None]:
     """The text of a copy; or None, and what is wrong with it, if it is there."""
-    for side in sides:
-        for path in places_of(copy, side):
-            try:
-                if not path.is_file():  # a FIFO would keep us waiting
-                    continue
-                data = path.read_bytes()
-            except OSError:
-                continue
-            if len(data) != copy.size:
-                return None, f"{shown_name([str(path)])} has {len(data):,} bytes, and the side list names {copy.size:,}"
-            return data.decode(errors="replace"), None
-    return None, None
+    found = bytes_beside(sides, ending_of(copy))
+    if not found:
+        return None, None
+    path, data = found
+    if len(data) != copy.size:
+        return None, f"{shown_name([str(path)])} has {len(data):,} bytes, and the side list names {copy.size:,}"
+    return data.decode(errors="replace"), None
 
 
 # ---- which opening is which

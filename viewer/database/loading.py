@@ -5,6 +5,7 @@ import shutil
 import sqlite3
 from typing import Callable
 
+from viewer.database import packages
 from viewer.database.programs import answer, build_programs, fault_in
 from viewer.database.raw_tables import load_rows
 from viewer.database.report import load_findings, load_report
@@ -22,7 +23,7 @@ def load_facts(database: sqlite3.Connection, files: list[str], malformed: str | 
     names = ("parts", "bytes", "frames", "records", "first_seq", "last_seq", "missing")
     row = database.execute(f"SELECT {', '.join(names)} FROM raw_capture").fetchone()
     known: dict[str, object] = {"file": shown_name(files), "side_list": 0, "side_doubt": None, "books_doubt": None,
-                                **dict(zip(names, row)), "malformed": malformed, **facts}
+                                "packages_doubt": None, **dict(zip(names, row)), "malformed": malformed, **facts}
     known["first_ts"], known["last_ts"] = database.execute(
         "SELECT (SELECT ts FROM side_time WHERE seq = ?), (SELECT ts FROM side_time WHERE seq = ?)",
         (row[4], row[5])).fetchone()
@@ -41,6 +42,7 @@ def fill(database: sqlite3.Connection, files: list[str], side: str | None, repor
         if taken.copies:
             from viewer.database import load_books
             taken.facts["books_doubt"] = load_books.load(database, taken.copies, beside or [side], taken.met)
+        taken.facts["packages_doubt"] = packages.load(database, beside or [side])
     load_report(database, report)
     load_facts(database, files, malformed, taken.facts if side is not None else {})
     load_findings(database)

@@ -6,15 +6,16 @@
 -- Since version 7, program, call_text, defect, finding_defect, talk, book_process, book_open, book_stats, and the
 -- columns fault of rule, culprit of finding, driver of device and of book_opening, and those of freeze notifications in
 -- book_opening are new; the notifications have their names in record; what the driver in Rust does not tell is NULL.
+-- Since version 9, package and the column bits of thread are new.
 -- needs: nothing
 -- makes: tables: raw_capture, raw_process, raw_thread, raw_frame, raw_record, raw_interface, raw_service, raw_object,
 --   raw_call, raw_generation, raw_send, raw_delivery, raw_slice, raw_level, side_device, side_process, side_thread,
 --   side_time, side_clock, side_lost, method, call_interface, object_interface, object_service, side_missed,
 --   side_calls, side_handle, book, book_opening, book_handle, book_node, book_buffer, book_call, book_process,
---   book_open, book_stats, disagreement, side_call, side_pc, side_map, side_unstacked, symbol, capture, report,
---   finding; indexes: side_process_of_pid, side_thread_of_tid
+--   book_open, book_stats, package, disagreement, side_call, side_pc, side_map, side_unstacked, symbol, capture,
+--   report, finding; indexes: side_process_of_pid, side_thread_of_tid
 
-PRAGMA user_version = 8;
+PRAGMA user_version = 9;
 
 -- ---- raw tables: the rows that `./listing --tables` writes, column by column
 --
@@ -280,7 +281,7 @@ CREATE TABLE side_device(device INTEGER PRIMARY KEY, name TEXT NOT NULL, driver 
 CREATE TABLE side_process(device INTEGER, process INTEGER, pid INTEGER, opening INTEGER, met TEXT, name TEXT,
   opened INTEGER, ended_after INTEGER, ended INTEGER, command TEXT, uid INTEGER, PRIMARY KEY(device, process)) STRICT;
 CREATE TABLE side_thread(device INTEGER, process INTEGER, thread INTEGER, tid INTEGER, name TEXT, ended_after INTEGER,
-  ended INTEGER, why TEXT, from_seq INTEGER, PRIMARY KEY(device, process, thread)) STRICT;
+  ended INTEGER, why TEXT, from_seq INTEGER, bits INTEGER, PRIMARY KEY(device, process, thread)) STRICT;
 -- A line `name` or `end pid` names a thread or a process by the system's number.
 CREATE INDEX side_process_of_pid ON side_process(pid);
 CREATE INDEX side_thread_of_tid ON side_thread(tid);
@@ -328,6 +329,8 @@ CREATE TABLE book_open(number INTEGER NOT NULL, upid INTEGER NOT NULL, utid INTE
   code INTEGER NOT NULL, ptr INTEGER, cookie INTEGER) STRICT;
 CREATE TABLE book_stats(moment TEXT NOT NULL, upid INTEGER NOT NULL, requested INTEGER NOT NULL,
   started INTEGER NOT NULL, most INTEGER NOT NULL, oneway_free INTEGER, PRIMARY KEY(moment, upid)) STRICT;
+-- The packages of the device, as packages.py finds them beside the side list.
+CREATE TABLE package(uid INTEGER, name TEXT, PRIMARY KEY(uid, name)) STRICT;
 CREATE TABLE disagreement(id INTEGER PRIMARY KEY, upid INTEGER NOT NULL, section TEXT NOT NULL, what TEXT NOT NULL,
   report INTEGER NOT NULL, books INTEGER NOT NULL) STRICT;
 -- The stacks of calls. A memory is that of a process, from its start or from exec on; idx 0 is the innermost function,

@@ -281,10 +281,10 @@ class SideList:
 
     def take_thread(self, _: int, positional: list[str], keyed: dict[str, str]) -> None:
         self.database.execute(
-            "INSERT OR REPLACE INTO side_thread(rowid, device, process, thread, tid, name, from_seq)"
-            " VALUES (?, ?, ?, ?, ?, ?, ?)",
+            "INSERT OR REPLACE INTO side_thread(rowid, device, process, thread, tid, name, from_seq, bits)"
+            " VALUES (?, ?, ?, ?, ?, ?, ?, ?)",
             (self.thread_names.next_row(), *numbers(positional, 3), number(keyed["tid"]), keyed["name"],
-             self.last() + 1))
+             self.last() + 1, number(keyed.get("bits", "64"))))
 
     def take_name(self, _: int, __: list[str], keyed: dict[str, str]) -> None:
         """The last name counts. A process has the name of its first thread. What has ended keeps its name."""

@@ -23,7 +23,7 @@ FROM book_process b;
 
 CREATE VIEW thread AS
 SELECT t.utid, t.upid, p.device, p.process, t.thread, coalesce(s.tid, iif(t.thread < :NO_PID, t.thread, NULL)) AS tid,
-  s.name, s.ended_after, s.ended, s.why, t.first_seq, t.last_seq, t.frames, t.last_record, t.last_write
+  s.name, s.ended_after, s.ended, s.why, t.first_seq, t.last_seq, t.frames, t.last_record, t.last_write, s.bits
 FROM raw_thread t JOIN raw_process p USING (upid) LEFT JOIN side_thread s USING (device, process, thread);
 
 CREATE VIEW frame AS

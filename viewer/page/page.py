@@ -18,7 +18,7 @@ from viewer.page.capture import Capture
 from viewer.page.groups import FINDINGS, Groups
 from viewer.page.head import head_of
 from viewer.page.plots import growths_of
-from viewer.page.texts import pieces_of, title_of
+from viewer.page.texts import pieces_of, title_of, user_name
 from viewer.rules.verdicts import VERDICTS
 from viewer.units import code_name, counted, duration_of
 
@@ -41,7 +41,7 @@ def address(value: int) -> str:
 
 
 FILTERS = {"pieces": pieces_of, "number": number, "hex": address, "counted": counted, "duration": duration_of,
-           "code": code_name}
+           "code": code_name, "user_name": user_name}
 
 
 def asked_of(capture: Capture, shown: Shown) -> dict[str, object]:

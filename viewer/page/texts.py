@@ -19,3 +19,16 @@ def pieces_of(value: object) -> list[tuple[str, bool]]:
 def title_of(value: object) -> str:
     """The text of a title, which has no markup: invisible characters are left out."""
     return "".join(one for one in str(value)[:200] if not is_sign(one))
+
+
+# The user ids of Android: each user of the device has as many, and of these so many are those of apps.
+OF_ONE_USER, APPS, ISOLATED = 100_000, range(10_000, 20_000), range(99_000, 100_000)
+
+
+def user_name(uid: int | None) -> str:
+    """What Android's `ps` calls a user id: `u0_a123` of an app, `u0_i7` of an isolated process; "" for others."""
+    user, of_user = divmod(uid or 0, OF_ONE_USER)
+    for letter, ids in ("a", APPS), ("i", ISOLATED):
+        if of_user in ids:
+            return f"u{user}_{letter}{of_user - ids.start}"
+    return ""
