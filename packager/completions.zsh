@@ -97,7 +97,7 @@ case $service in
       '--adb[record on a device that adb reaches]::serial of the device:' \
       '--detach[go on without the connection]' \
       '--fetch[end and fetch a recording]' \
-      '--no-names[do not ask for the names of services]' \
+      '--no-names[do not ask for the names of services and packages]' \
       '(- *)--help[say what the options do]' \
       '(- *)--version[say what the programs are made of]'
     ;;

@@ -44,8 +44,9 @@ static const char help[] =
 	"                   options. docs/ANDROID.md says more\n"
 	"--detach           begins a recording that goes on without adb, by default with --files 4 --size 67108864\n"
 	"--fetch            ends it, and fetches it; or fetches what was recorded until the connection was lost\n"
-	"--no-names         does not ask the device's managers for the names of services; without it the page has those of\n"
-	"                   all services, also of those that registered before the recording\n"
+	"--no-names         does not ask the device's managers for the names of services and packages; without it the page\n"
+	"                   has those of all services, also of those that registered before the recording, and shows the\n"
+	"                   packages of each process's user\n"
 	"\n"
 	"The exit status is that of PROGRAM, or 128 and the number of its signal; 1 if no recording was made, or could be.\n";
 

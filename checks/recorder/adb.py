@@ -7,6 +7,7 @@ What must hold:
 
 - A recording is fetched as it was on the device, into files of the owner alone, and removed there. PROGRAM has its
   output and its status; without one SIGINT ends the recording, and a line says so. Lines before say what is done.
+- The packages of a device are in a file beside the side list, and a device that does not tell them holds up nothing.
 - If the connection is lost, if bytes come wrong, or if a file is in the way, a line says so, the recording stays on the
   device, and --fetch fetches it. So it does what --detach began.
 - One command at a time has the folder on the device. Another one says who has it, and takes nothing from it, but what
@@ -203,6 +204,28 @@ def check_detached(device: Device) -> None:
     device.says(["--fetch", "-o", "again"], 1, NONE)
 
 
+def check_packages(device: Device) -> None:
+    """The packages are fetched with a recording, but for a redacted one, and hold up none."""
+    package = "package:org.example.one uid:10123\n"
+    asked = (["-o", "named"], package), (["-o", "redacted", "--redact"], None), (["-o", "unnamed", "--no-names"], None)
+    with device.with_command("pm", f'[ "$*" = "list packages -U" ] && printf "a line\n{package}"'):
+        for words, due in asked:
+            device.what = f"packages, {words}"
+            device.says([*words, "--", "sleep", "1"], 0, *PREPARED, READY, COUNTS, FETCHED.format(words[1]))
+            device.fetched(words[1])
+            path = device.room / f"out/{words[1]}.packages"
+            came = path.read_text("utf-8") if path.exists() else None
+            if came != due:
+                device.report(f"{device.what}: expected {due!r}, came {came!r}")
+    device.what = "packages that do not come"
+    with device.with_command("pm", "exec sleep 30"):
+        began = time.monotonic()
+        device.says(["-o", "waiting", "--", "true"], 0, *PREPARED, READY, COUNTS, FETCHED.format("waiting"))
+        if time.monotonic() - began > 20:
+            device.report(f"{device.what}: the recording waited for them")
+    device.fetched("waiting")
+
+
 # ---- whose the folder is
 
 
@@ -383,9 +406,9 @@ def check_server(device: Device) -> None:
 
 def judge(_: argparse.Namespace, room: pathlib.Path, fail: Fail) -> None:
     device = Device(room, fail)
-    for part in (check_sessions, check_detached, check_two, check_left, check_interrupted, check_fetched_twice,
-                 check_lacking, check_lacking_here, check_lost, check_lost_early, check_strange, check_devices,
-                 check_server):
+    for part in (check_sessions, check_detached, check_packages, check_two, check_left, check_interrupted,
+                 check_fetched_twice, check_lacking, check_lacking_here, check_lost, check_lost_early, check_strange,
+                 check_devices, check_server):
         part(device)
 
 

@@ -12,8 +12,8 @@ from folder import Folder
 
 PIECE = 1 << 20
 BEGIN = "capture"  # of the names on the device
-# What the recorder adds to the begin of its files' names.
-ENDING = re.compile(r"(-[0-9]{1,10}\.(cap|side)|\.side|\.(begin|end)\.(state|transactions|stats))")
+# What the recorder adds to the begin of its files' names, and on_device.sh for the packages.
+ENDING = re.compile(r"(-[0-9]{1,10}\.(cap|side)|\.side|\.(begin|end)\.(state|transactions|stats)|\.packages)")
 # Lines of `stat` and of `sha256sum`.
 SIZE, SUM = re.compile(r"([0-9]{1,18}) (.*)", re.DOTALL), re.compile(r"([0-9a-f]{64}) [ *](.*)", re.DOTALL)
 

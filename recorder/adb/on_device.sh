@@ -3,7 +3,8 @@
 #     sh on_device.sh record NAMES [OPTION..] [-- PROGRAM ARGUMENT..]
 #         records, and passes on what the recorder says, first what the device lacks or that it is ready, until PROGRAM
 #         ends. Without PROGRAM it says when the recording has begun. Each line of standard input, and its end, is
-#         passed on as SIGINT. If NAMES is `ask`, the managers are asked for the names of all services.
+#         passed on as SIGINT. If NAMES is `services` or `all`, the managers are asked for the names of all services; if
+#         it is `all`, the packages and their user ids are asked for too, and are in capture.packages.
 #     sh on_device.sh detach NAMES [OPTION..] [-- PROGRAM ARGUMENT..]
 #         begins the same, and returns when the recording has begun, or has failed.
 #     sh on_device.sh end
@@ -21,9 +22,13 @@ is_recording() {
 	[ "$(cat state)" = recording ] && [ "/proc/$(cat pid)/exe" -ef record ]
 }
 
+wait_for_pid() {
+	while [ ! -e pid ] && [ "$(cat state)" = recording ]; do sleep 0.1; done
+}
+
 # As Ctrl-C does on a terminal: the recorder and the program get the signal. It waits for a recorder that just begins.
 interrupt() {
-	while [ ! -e pid ] && [ "$(cat state)" = recording ]; do sleep 0.1; done
+	wait_for_pid
 	is_recording && kill -INT "-$(cat pid)"
 }
 
@@ -39,12 +44,25 @@ leave_adbd() {
 	done
 }
 
+wait_for_begin() {
+	wait_for_pid
+	while is_recording && ! has_begun; do sleep 0.2; done
+}
+
 # Each manager answers for its device, if the system has it: so the names of all services are in the capture.
 ask_names() {
-	while is_recording && ! has_begun; do sleep 0.2; done
+	wait_for_begin
 	for command in 'service list' 'vndservice list' lshal; do
 		command -v "${command%% *}" && timeout 20 sh -c "$command"
 	done
+} </dev/null >/dev/null 4>&-
+
+# Asks while the recorder is loaded, so that it is done by the time that even a short recording has ended. The file is
+# there only with a recording, and whole.
+ask_packages() {
+	command -v pm && timeout 20 pm list packages -U | grep '^package:[^ ]* uid:[0-9,]*$' >packages.new
+	wait_for_begin
+	[ -s packages.new ] && has_begun && mv packages.new capture.packages
 } </dev/null >/dev/null 4>&-
 
 prepare() {
@@ -56,15 +74,18 @@ prepare() {
 
 # Runs the recorder in a session of its own, so that it and its program can be signalled as one.
 run() { # NAMES [OPTION..]
-	names=$1
+	names=$1 asker=
 	shift
+	if [ "$names" = all ]; then ask_packages & asker=$!; fi
 	RECORD_READY=3 setsid ./record -o capture "$@" </dev/null 3>&4 2>>messages 4>&- & recorder=$!
 	# Until setsid has become the recorder, or that has ended.
 	while [ -e /proc/$recorder/exe ] && ! [ /proc/$recorder/exe -ef record ]; do sleep 0.1; done
 	echo $recorder >pid
-	if [ "$names" = ask ]; then ask_names & fi
+	if [ "$names" != none ]; then ask_names & fi
 	wait $recorder
-	echo $? >state
+	status=$?
+	if [ "$asker" ]; then kill $asker; fi	# what it puts there later would be in the way of the folder's removal
+	echo $status >state
 }
 
 # Passes on what was said since the last time.
@@ -112,7 +133,7 @@ detach)
 	# By exec: adb waits for all that hold the connection, and a shell keeps what it redirects for one command.
 	(exec </dev/null >/dev/null 4>>messages; run "$@") & runner=$!
 	while kill -0 $runner && [ ! -e pid ]; do sleep 0.1; done
-	while is_recording && ! has_begun; do sleep 0.2; done
+	wait_for_begin
 	tell
 	echo "$told" >told
 	;;

@@ -21,8 +21,11 @@ class Words(NamedTuple):
     options: list[str]  # for the recorder on the device, with the program
 
     @property
-    def how(self) -> str:
-        return "ask" if self.names else "leave"
+    def whose_names(self) -> str:
+        """Of what the device is asked for names. Which packages it has is nothing for a redacted recording."""
+        options, _ = split_program(self.options)
+        is_redacted = any(word.startswith("--re") for word in options)
+        return "none" if not self.names else "services" if is_redacted else "all"
 
 
 def split_program(words: list[str]) -> tuple[list[str], list[str]]:
