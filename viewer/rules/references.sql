@@ -108,8 +108,8 @@ CREATE TEMP TABLE more_references AS
 SELECT generation, half || ' held at half of its time, ' || held || ' at the end' AS told
 FROM (SELECT generation, sum(n * (left >= :LATELY)) AS half, sum(n * (left >= :LATELY / 2)) AS later, sum(n) AS held
   FROM (SELECT c.generation, iif(g.strong > 0, c.strong, c.weak) AS n,
-      coalesce(1.0 * (l.end_ts - x.ts) / (l.end_ts - l.first_ts), 1.0 * (l.end_seq - c.seq) / (l.end_seq - l.first_seq))
-        AS left
+      coalesce(1.0 * (l.grows_to_ts - x.ts) / (l.grows_to_ts - l.first_ts),
+        1.0 * (l.grows_to_seq - c.seq) / (l.grows_to_seq - l.first_seq)) AS left
     FROM reference_change c JOIN taken_again g ON g.id = c.generation JOIN recorded l USING (upid)
       LEFT JOIN side_time x ON x.seq = c.seq) GROUP BY 1)
 WHERE held - half >= max(:TOO_MANY, :GROWTH * held) AND half < later AND later < held;

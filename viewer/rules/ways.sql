@@ -9,18 +9,44 @@
 CREATE TEMP TABLE kept_way AS
 SELECT row_number() OVER () AS id, * FROM given_way
 WHERE kept >= :OFTEN AND upid NOT IN (SELECT upid FROM manager);
--- How long a process was recorded: from its first frame to its end, or to that of the capture.
+-- How long a process was at work: from its first frame to its last one, as a rest at the end says nothing of what it
+-- keeps. `grows_to` is the end of the time in which what it holds may grow. What a process takes when it starts is
+-- mostly kept by design; so that time goes on for one that has rested for longer than it worked since it started.
 CREATE TEMP TABLE recorded AS
-SELECT q.upid, q.first_seq, x.ts AS first_ts, coalesce(p.ended_after, last.seq) AS end_seq,
-  coalesce(p.ended, last.ts) AS end_ts
-FROM raw_process q JOIN process_life p USING (upid) LEFT JOIN side_time x ON x.seq = q.first_seq, last;
+SELECT
+  upid,
+  first_seq,
+  first_ts,
+  last_seq,
+  last_ts,
+  end_seq,
+  end_ts,
+  iif(begins, end_seq, last_seq) AS grows_to_seq,
+  iif(begins, end_ts, last_ts) AS grows_to_ts
+FROM (
+  SELECT *, known AND coalesce(end_ts - last_ts > last_ts - first_ts, end_seq - last_seq > last_seq - first_seq)
+    AS begins
+  FROM (
+    SELECT
+      q.upid,
+      p.known,
+      q.first_seq,
+      x.ts AS first_ts,
+      q.last_seq,
+      z.ts AS last_ts,
+      coalesce(p.ended_after, last.seq) AS end_seq,
+      coalesce(p.ended, last.ts) AS end_ts
+    FROM raw_process q JOIN process_life p USING (upid) LEFT JOIN side_time x ON x.seq = q.first_seq
+      LEFT JOIN side_time z ON z.seq = q.last_seq, last));
 CREATE UNIQUE INDEX temp.recorded_of ON recorded(upid);
 -- Those that are kept, and those that were taken and let go of, `went` then. `came_left` and `went_left` are the shares
 -- of what was recorded of the process that were left then.
 CREATE TEMP TABLE of_way AS
 SELECT way, generation, kept, came, came_ts, went, went_ts,
-  coalesce(1.0 * (end_ts - came_ts) / (end_ts - first_ts), 1.0 * (end_seq - came) / (end_seq - first_seq)) AS came_left,
-  coalesce(1.0 * (end_ts - went_ts) / (end_ts - first_ts), 1.0 * (end_seq - went) / (end_seq - first_seq)) AS went_left
+  coalesce(1.0 * (grows_to_ts - came_ts) / (grows_to_ts - first_ts),
+    1.0 * (grows_to_seq - came) / (grows_to_seq - first_seq)) AS came_left,
+  coalesce(1.0 * (grows_to_ts - went_ts) / (grows_to_ts - first_ts),
+    1.0 * (grows_to_seq - went) / (grows_to_seq - first_seq)) AS went_left
 FROM (SELECT w.id AS way, w.upid, v.generation, v.kept, b.seq AS came, x.ts AS came_ts, e.seq AS went, z.ts AS went_ts
   FROM (SELECT 1 FROM kept_way LIMIT 1) CROSS JOIN given v JOIN kept_way w ON (w.upid, w.way) = (v.upid, v.way)
       AND w.sender IS v.sender
@@ -37,7 +63,8 @@ CREATE TEMP TABLE had_before AS
 SELECT upid, sender, sum(went_left IS NULL OR went_left < :LATELY) AS half,
   sum(went_left IS NULL OR went_left < :LATELY / 2) AS later, sum(went_left IS NULL) AS kept, count(went_left) AS let_go
 FROM (SELECT g.upid, coalesce(n.upid, -1) AS sender,
-    coalesce(1.0 * (end_ts - z.ts) / (end_ts - first_ts), 1.0 * (end_seq - e.seq) / (end_seq - first_seq)) AS went_left
+    coalesce(1.0 * (grows_to_ts - z.ts) / (grows_to_ts - first_ts),
+      1.0 * (grows_to_seq - e.seq) / (grows_to_seq - first_seq)) AS went_left
   FROM recorded JOIN raw_generation g USING (upid) LEFT JOIN node_of n ON n.generation = g.id
     LEFT JOIN raw_record e ON e.place = g.end LEFT JOIN side_time z ON z.seq = e.seq
   WHERE g.given_by IS NULL AND g.handle <> 0 AND g.upid IN (SELECT upid FROM kept_way))
@@ -54,13 +81,29 @@ CREATE TEMP TABLE let_go AS
 SELECT way, count(*) AS n, max(went - came) AS longest_seq, max(went_ts - came_ts) AS longest
 FROM of_way WHERE NOT kept GROUP BY 1;
 CREATE UNIQUE INDEX temp.let_go_of ON let_go(way);
--- Each that is kept, up to the end of its process or of the capture. `idle` goes from the last send to it, or else from
--- when it came. It is in use if something was sent to it in the last half of the time since it came.
+-- Each that is kept. `idle` goes from the last send to it, or else from when it came, to the end of its process or of
+-- the capture. It is in use if something was sent to it in the last half of the time from when it came to the last
+-- frame of its process.
 CREATE TEMP TABLE kept_handle AS
-SELECT way, generation, idle, idle_seq, coalesce(idle <= :LATELY * age, idle_seq <= :LATELY * age_seq) AS in_use
-FROM (SELECT o.way, o.generation, l.end_seq - coalesce(u.seq, o.came) AS idle_seq,
-    l.end_ts - (SELECT ts FROM side_time x WHERE x.seq = coalesce(u.seq, o.came)) AS idle,
-    l.end_seq - o.came AS age_seq, l.end_ts - o.came_ts AS age
+SELECT
+  way,
+  generation,
+  end_ts - since_ts AS idle,
+  end_seq - since AS idle_seq,
+  coalesce(last_ts - since_ts <= :LATELY * (last_ts - came_ts), last_seq - since <= :LATELY * (last_seq - came))
+    AS in_use
+FROM (
+  SELECT
+    o.way,
+    o.generation,
+    o.came,
+    o.came_ts,
+    coalesce(u.seq, o.came) AS since,
+    (SELECT ts FROM side_time x WHERE x.seq = coalesce(u.seq, o.came)) AS since_ts,
+    l.last_seq,
+    l.last_ts,
+    l.end_seq,
+    l.end_ts
   FROM of_way o JOIN kept_way w ON w.id = o.way JOIN recorded l USING (upid)
     LEFT JOIN (SELECT generation, max(seq) AS seq FROM raw_send
       WHERE generation IN (SELECT generation FROM of_way WHERE kept) GROUP BY 1) u USING (generation)

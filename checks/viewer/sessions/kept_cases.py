@@ -17,10 +17,10 @@ def calls_back(client, server, handle):
 
 
 def passes(s, count, client, manager):
-    """So many milliseconds or, without a side list, calls."""
-    for _ in range(0 if s.has_side else count):
-        client.main.asks(manager.main)
+    """So many milliseconds, and then a call, or, without a side list, so many calls."""
     s.wait(count)
+    for _ in range(1 if s.has_side else count):
+        client.main.asks(manager.main)
 
 
 # ---- nearly all are kept
@@ -81,12 +81,15 @@ def callbacks_kept(s, senders, each_gives, to_manager=False):
 @case("H6:6", "(handle 2, server 300 node 0x200)", before=150, used=200, then=180, let_go=2)
 @case("H4:1 H6:6", "4 of 4 that are kept are in use", before=150, used=200, then=180, twice=1)
 @case("H6:6", "4 of 4 that are kept are in use", before=150, used=200, then=180, ends=True)
+@case("H6:6", "4 of 4 that are kept are in use", before=150, used=200, then=180, rests=3000)
+@case("H5:4", before=150, used=200, then=260, rests=3000)
 @case("H6:6", "4 of 4 that are kept are in use", before=4, used=6, then=4, has_side=False)
 @case("H5:4", before=4, used=6, then=16, has_side=False)
 @case("H6:6", "4 of 4 that are kept are in use", before=30, used=6, then=4, has_side=False)
-def cache(s, before, used, then, kept=4, skips=0, late=0, let_go=0, twice=0, ends=False):
+def cache(s, before, used, then, kept=4, skips=0, late=0, let_go=0, twice=0, ends=False, rests=0):
     """A client gets handles, and uses all, or all but some, a while later. `late`: then it gets more, and again uses
-    all a while later. Some it had let go of, and one it took twice and does not use. Or it ends long before the end."""
+    all a while later. Some it had let go of, and one it took twice and does not use. Or it ends long before the end, or
+    does nothing any more."""
     manager, client, server = with_server(s)
     passes(s, before, client, manager)
     for handle in range(2, 2 + kept + let_go):
@@ -105,7 +108,8 @@ def cache(s, before, used, then, kept=4, skips=0, late=0, let_go=0, twice=0, end
     passes(s, then, client, manager)
     if ends:
         client.ends()
-        s.wait(3000)
+        rests = 3000
+    s.wait(rests)
 
 
 @case("H5:8")
@@ -162,6 +166,7 @@ class Quarters:
             for handle in held[:None if uses is True else uses]:
                 main.asks(server.main, 8, handle, 0x100 * handle)
         self.lasts(len(gains))
+        main.asks(self.manager.main)
 
 
 @case("H9:8", "given by replies to code 5 of server 300 node 0x9000 (4 held at half of its time, 8 at the end)",
@@ -188,6 +193,9 @@ class Quarters:
 @case("H5:12", gains=(3, 3, 3, 3), passing=0, uses=3)
 @case("H5:12", gains=(4, 4, 4, 0), passing=0, uses=False)
 @case("H5:12", "6 held at half of its time, 12 at the end", gains=(3, 3, 3, 3), passing=0)
+@case("H10:12", gains=(3, 3, 3, 3), passing=0, uses=False, rests=3900)
+@case("H5:12", gains=(3, 3, 3, 3), passing=0, uses=False, rests=4100)
+@case("H5:12", gains=(4, 4, 4, 0), passing=0, uses=False, rests=3900)
 @case("M2:12", gains=(3, 3, 3, 3), passing=3, uses=False, lost=True)
 @case("H4:4", gains=(4, 0, 0, 0), twice=(0, 0, 2, 2))
 @case("M1:8", lost=True)
@@ -201,9 +209,9 @@ class Quarters:
 @case("", gains=(2, 2, 0, 4), has_side=False)
 @case("H9:11", "7 held at half of its time, 11 at the end", gains=(4, 4, 4, 4), drops=(0, 1, 2, 2), has_side=False)
 def more_and_more(s, gains=(2, 2, 2, 2), passing=2, drops=(0, 0, 0, 0), twice=(0, 0, 0, 0), uses=True, lost=False,
-                  late=False, ends=False):
-    """A client is recorded from its start: it leaks, or fills a cache. Or its frames are missing, it starts late, or
-    it ends early."""
+                  late=False, ends=False, rests=0):
+    """A client is recorded from its start: it leaks, or fills a cache. Or its frames are missing, it starts late, it
+    ends early, or it rests at the end, for somewhat less or more time than it worked."""
     if late:
         s.process(400, "early").main.writes(ENTER)
         s.wait(4000)
@@ -213,7 +221,8 @@ def more_and_more(s, gains=(2, 2, 2, 2), passing=2, drops=(0, 0, 0, 0), twice=(0
     Quarters(s, client, manager).plays(server, gains, passing, drops, twice, uses)
     if ends:
         client.ends()
-        s.wait(6000)
+        rests = 6000
+    s.wait(rests)
 
 
 @case("P1:8")
@@ -226,10 +235,13 @@ def more_and_more(s, gains=(2, 2, 2, 2), passing=2, drops=(0, 0, 0, 0), twice=(0
       lets_go=(0, 0, 0, 0), gains=(0, 0, 2, 2), passing=2)
 @case("", stays=37, lets_go=(0, 0, 0, 0), gains=(0, 0, 2, 2), passing=2)
 @case("P1:8", has_side=False)
-def had_before(s, gains=(2, 2, 2, 2), lets_go=(2, 2, 2, 2), stays=0, passing=0, known=True, of_other=False, at=100):
+@case("H10:12", gains=(3, 3, 3, 3), lets_go=(0, 0, 0, 0), uses=False, rests=6000)
+@case("H9:8 P1:4", "4 held at half of its time, 8 at the end", lets_go=(1, 1, 1, 1), gains=(1, 1, 3, 3), rests=6000)
+def had_before(s, gains=(2, 2, 2, 2), lets_go=(2, 2, 2, 2), stays=0, passing=0, known=True, of_other=False, at=100,
+               uses=True, rests=0):
     """A client that is recorded from mid-life gets handles, and in each part lets go of some that it had before, the
     numbers of which may come again. It is known where these lead, to the server or to another one, if something was
-    sent to them."""
+    sent to them. At the end it may rest."""
     manager, client = s.two("in-mid-life")
     server, other = s.process(300, "server"), s.process(400, "other")
     quarters = Quarters(s, client, manager)
@@ -237,7 +249,8 @@ def had_before(s, gains=(2, 2, 2, 2), lets_go=(2, 2, 2, 2), stays=0, passing=0, 
     client.main.is_given(manager.main, 1, server_handle=3)
     for handle in range(20, 20 + sum(lets_go) + stays) if known else ():
         client.main.asks((other if of_other else server).main, 8, handle, 0x100 * handle)
-    quarters.plays(server, gains, passing, of_before=lets_go, at=at)
+    quarters.plays(server, gains, passing, uses=uses, of_before=lets_go, at=at)
+    s.wait(rests)
 
 
 # ---- some are kept, and others let go of

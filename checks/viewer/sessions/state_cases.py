@@ -108,8 +108,11 @@ def taken_again(s, takes, releases, threads, weak=False, calls=0):
 @case("H11:1", "12 times, weakly, and let go of 0 times; 2 held", gains=(1, 1, 5, 5), weak=True)
 @case("H4:1", gains=(1, 1, 5, 5), lost=True)
 @case("H11:1", "2 held at half of its time, 12 at the end)", gains=(1, 1, 5, 5), has_side=False)
-def more_references(s, gains, drops=(0, 0, 0, 0), weak=False, lost=False):
-    """References to one object are taken and let go of, so many in each quarter of what is recorded of a client."""
+@case("H11:1", "2 held at half of its time, 12 at the end)", gains=(1, 1, 5, 5), rests=1900)
+@case("H4:1", gains=(1, 1, 5, 5), rests=2100)
+def more_references(s, gains, drops=(0, 0, 0, 0), weak=False, lost=False, rests=0):
+    """References to one object are taken and let go of, so many in each quarter of what is recorded of a client. At the
+    end it may rest."""
     service, client = s.two()
     client.main.is_given(service.main, 1, take=False)
     take, release = (BC_INCREFS, BC_DECREFS) if weak else (BC_ACQUIRE, BC_RELEASE)
@@ -121,6 +124,7 @@ def more_references(s, gains, drops=(0, 0, 0, 0), weak=False, lost=False):
         for _ in range(0 if s.has_side else 20):
             client.main.asks(service.main)
         s.wait(1000)
+    s.wait(rests)
 
 
 @case("", first=2, then=1)
