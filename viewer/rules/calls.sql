@@ -1,7 +1,7 @@
 -- A, C, T, U: calls and served calls that are open.
 -- needs: database/schema.sql: finding, raw_call, raw_delivery, raw_thread, side_time; nodes.sql: who; records.sql:
 --   from_before; paths.sql: path_of; ages.sql: ended, last, life, old; rule.sql: lossy; waits.sql: full_pool,
---   lock_ring, pool, ring, step, waited, waits, waits_for; pools.sql: full_wait; judging.py: counted
+--   lock_ring, own_ring, pool, ring, step, waited, waits, waits_for; pools.sql: full_wait; judging.py: counted
 -- makes: temporary tables: keeps_busy
 
 -- ---- what findings are called
@@ -57,6 +57,13 @@
 --   met by: `ring_of_locks()`, with two earlier calls of each path
 --   ring: yes
 
+-- C10 real: Its thread got it within a call of its own, and hangs in it for over {VERY_LONG}: mostly for its own lock.
+--   next: the lock that the thread holds over the outer call, at the place in the note, and takes again in this one
+--   rests on: VERY_LONG, OLD, LONG
+--   met by: `comes_back_and_hangs()`: a call comes back to a thread that waits, and that never replies
+--   where frames are missing: M2
+--   ring: yes
+
 -- ---- what they say of which finding
 
 -- A: one finding with an open call.
@@ -85,6 +92,7 @@ UPDATE finding SET rule = 'C3'
 WHERE rule IS NULL AND id IN (SELECT id FROM ring) AND finding.id IN (SELECT id FROM old);
 UPDATE finding SET rule = 'C8'
 WHERE rule IS NULL AND id IN (SELECT id FROM lock_ring) AND n_good >= :ENOUGH;
+UPDATE finding SET rule = 'C10' WHERE rule IS NULL AND id IN (SELECT id FROM own_ring);
 -- What waits for another call, and the call that a full pool waits for. If frames are missing, a delivery may be too.
 UPDATE finding SET waiting = w.n FROM waited w WHERE w.id = finding.id;
 UPDATE finding SET rule = 'C7', note = coalesce((SELECT p.doing FROM waits w JOIN full_pool p ON p.upid = w.server_upid
@@ -134,9 +142,10 @@ UPDATE finding SET note = iif(waiting > 0, counted(waiting, 'waits', 'wait') || 
       || coalesce((SELECT iif(x.by_main, ', and its main thread waits for ', ', and waits for ') || n.called
           FROM waits_for x JOIN waits n ON n.id = x.next WHERE x.id = finding.id),
         (SELECT iif(t.last_seq <= d.seq, ', and thread ' || t.thread || ' has done nothing since', '')
-          FROM raw_thread t JOIN raw_call d ON d.place = w.delivery WHERE t.utid = w.server), '') END
+          FROM raw_thread t JOIN raw_call d ON d.place = w.delivery WHERE t.utid = w.server), '')
+      || coalesce((SELECT ', within its own call at ' || outer FROM own_ring o WHERE o.id = finding.id), '') END
   || coalesce((SELECT '; in a ring with ' || n.called || ' of ' || o.who || ', ' || q.path
     FROM lock_ring l JOIN waits n ON n.id = l.next JOIN path_of q ON q.id = l.next JOIN who o ON o.upid = n.upid
     WHERE l.id = finding.id), '')
-FROM waits w WHERE w.id = finding.id AND rule IN ('B1', 'C3', 'C4', 'C5', 'C6', 'C8', 'C9', 'U2');
+FROM waits w WHERE w.id = finding.id AND rule IN ('B1', 'C3', 'C4', 'C5', 'C6', 'C8', 'C9', 'C10', 'U2');
 UPDATE finding SET rule = 'C4' WHERE rule IS NULL AND section = 'served' AND what = 'open';

@@ -6,7 +6,7 @@
 -- Of an open call, the process that should answer it. In a ring, the call that nobody got is a matter of its caller,
 -- for which another one in the ring waits.
 UPDATE finding SET culprit = w.server_upid FROM waits w
-WHERE w.id = finding.id AND rule IN ('B1', 'C3', 'C4', 'C5', 'C6', 'C7', 'C8', 'C9', 'M2', 'U1', 'U2', 'U6')
+WHERE w.id = finding.id AND rule IN ('B1', 'C3', 'C4', 'C5', 'C6', 'C7', 'C8', 'C9', 'C10', 'M2', 'U1', 'U2', 'U6')
   AND (rule <> 'C3' OR w.delivery NOTNULL);
 -- What failed, or never came, because of its receiver: it ended, was frozen, gave a bad reply, or reads nothing.
 -- Who goes on calling what is frozen, causes that.

@@ -4,9 +4,9 @@
 --   from_before; ages.sql: last, life, old, process_life; judging.py: call_name, duration
 -- after: counts.sql
 -- makes: temporary tables: waits, few, waits_for, main_thread, ring_step, ring, lock_step, lock_way, lock_ring,
---   serves_on, queued, loop, taker, taken, came, holder, pool, full_pool, step, waited; indexes: waits_id,
+--   own_ring, serves_on, queued, loop, taker, taken, came, holder, pool, full_pool, step, waited; indexes: waits_id,
 --   waits_process, waits_place, waits_thread, waits_server, waits_delivery, next_wait, ring_step_from, lock_step_from,
---   lock_way_from, lock_ring_of, queued_at, came_place, pool_of, full_pool_of, step_from, step_to
+--   lock_way_from, lock_ring_of, own_ring_of, queued_at, came_place, pool_of, full_pool_of, step_from, step_to
 
 -- Open calls, and what they wait for: the innermost call that the thread that got the call has made since; or, for a
 -- call that nobody got, the calls of the process that should get it. A call back to a process that waits for this very
@@ -90,6 +90,17 @@ SELECT s.id, min(n.place) AS place, n.id AS next FROM lock_step s JOIN waits n O
 WHERE s.id IN (SELECT id FROM lock_way WHERE at = id AND by_lock)
   AND EXISTS (SELECT 1 FROM lock_way w WHERE w.id = s.next AND w.at = s.id) GROUP BY s.id;
 CREATE UNIQUE INDEX temp.lock_ring_of ON lock_ring(id);
+
+-- ---- rings of one thread
+
+-- A thread that waits in a call of its own may get a call that comes back to it, and serves that within its own one.
+-- If it does nothing more, its own call waits for ever too: `outer` is the place of that.
+CREATE TEMP TABLE own_ring AS
+SELECT w.id, max(o.place) AS outer FROM waits w JOIN finding f USING (id) JOIN old USING (id)
+  JOIN waits o ON o.utid = w.server AND o.place < w.delivery JOIN raw_thread t ON t.utid = w.server
+  JOIN raw_record r ON r.place = w.delivery
+WHERE w.replied = 0 AND f.age > :VERY_LONG AND t.last_seq <= r.seq GROUP BY 1;
+CREATE UNIQUE INDEX temp.own_ring_of ON own_ring(id);
 
 -- ---- the pools of threads of processes that should get what waits
 

@@ -154,15 +154,36 @@ def ring_of_locks(s, good=3, took=0, wait=300, active=0, lost=False, others=0, s
     s.wait(wait - active)
 
 
-@case("C7:1 U2:1 A1:4")
-def no_ring_of_one_thread(s):
-    """A call is served by a call back, which the thread that waits serves, and never replies."""
+@case("C7:1 C10:1 A1:4", "client 200 got it at", "thread 200 has done nothing since, within its own call at ",
+      "C10 by client 200: 1", "groups that are real: 1", wait=1100)
+@case("C7:1 C4:1 A1:4", wait=900)
+@case("C7:1 C10:1 A1:4", wait=1100, good=3)
+@case("C7:1 U2:1 A1:4", wait=900, good=3)
+@case("C7:1 U1:1 A1:4", wait=1100, good=3, took=600)
+@case("C7:1 U6:1 A1:4", wait=1100, good=3, took=120)
+@case("C7:1 C10:1 A1:4", wait=1300, good=3, took=120)
+@case("C7:1 C4:1 A1:4", wait=1100, active=True)
+@case("C3:2 A1:4", wait=1100, other=True)
+@case("C4:1 M2:1 A1:4", wait=1100, lost=True)
+@case("C7:4 C10:1 A1:4", "4 wait for it", wait=1100, queue=3)
+def comes_back_and_hangs(s, wait, good=0, took=0, active=False, other=False, lost=False, queue=0):
+    """A call is served by a call back, which the thread that waits gets, and never replies. Earlier ones took so long.
+    Or that thread writes something later, or another thread of its process gets the call back. More calls may wait for
+    the service."""
     service, client, back = with_each_other(s)
-    for _ in range(3):
-        service.main.asks(back, 2, 7, 0x9700)
+    for _ in range(good):
+        service.main.asks(back, 2, 7, 0x9700, took=took)
+    if lost:
+        s.loses(client)
     service.main.gets(client.main.sends(0, 11))
-    client.main.gets(service.main.sends(7, 2), 0x9700)
-    s.wait(300)
+    hanging = back if other else client.main
+    hanging.gets(service.main.sends(7, 2), 0x9700)
+    if active:
+        s.wait(10)
+        hanging.writes(ENTER)
+    for number in range(queue):
+        s.process(300 + number, "other").main.sends(0, 1)
+    s.wait(wait)
 
 
 @case("C9:3 A1:6", then="round")
