@@ -1,6 +1,6 @@
 -- W, E3, U1: oneway sends that never came, and the buffers that they wait for.
 -- needs: database/schema.sql: finding, raw_delivery, raw_record, raw_thread, side_time; ages.sql: ended, old,
---   process_life; rule.sql: lossy; limits.sql: no_looper
+--   process_life; rule.sql: lossy; limits.sql: no_looper; judging.py: counted
 -- after: buffers.sql
 -- makes: temporary tables: last_oneway
 
@@ -19,6 +19,15 @@
 --   next: what the receiver does: whether its threads take what is sent
 --   rests on: OLD, LONG
 --   met by: `oneway`: a reader leaves three sends unread
+-- W5 explained: Its handler is at work: the last thing that its thread did. libbinder frees the buffer at the return.
+--   rests on: OLD, LONG, ENOUGH, VERY_LONG
+--   met by: `oneway_handler()`: a handler is at work for 500 ms, and a send waits
+--   fault: oneway handlers at work
+-- W6 maybe: Sends wait for its handler, at work for over {OLD} times as long as others or, if few, over {VERY_LONG}.
+--   next: what the thread of the handler has done since it got it
+--   rests on: OLD, LONG, ENOUGH, VERY_LONG
+--   met by: `oneway_handler()`: a handler is at work for 1100 ms, and a send waits
+--   fault: oneway handlers at work
 
 -- ---- what they say of which finding
 
@@ -44,10 +53,19 @@ FROM last_oneway o JOIN process_life p USING (upid) JOIN raw_record f ON f.place
   JOIN side_time x ON x.seq = f.seq
 WHERE rule IS NULL AND section = 'oneway' AND (o.upid, o.ptr, o.cookie) = (target, finding.ptr, finding.cookie)
   AND o.freed_by > finding.place AND p.ended_after NOTNULL AND p.ended - x.ts <= :LONG;
--- A buffer that others wait for is no matter of its thread alone.
-UPDATE finding SET waiting = w.n, rule = iif(rule = 'U6' AND finding.id IN (SELECT id FROM old), 'U5', rule)
+UPDATE finding SET waiting = w.n
 FROM (SELECT other, count(*) AS n FROM finding WHERE rule = 'W2' GROUP BY 1) w
 WHERE section = 'buffers' AND w.other = place;
+-- A oneway delivery after which its thread has done nothing: its handler may be at work, and others may wait for that.
+UPDATE finding SET
+  rule = iif(waiting > 0 AND finding.id IN (SELECT id FROM old) AND (n_good >= :ENOUGH OR age > :VERY_LONG),
+    'W6', 'W5'),
+  said = iif(age IS NULL, NULL, 'its handler has been at work for {how_long}'),
+  how_long = age,
+  note = iif(waiting > 0, counted(waiting, 'waits', 'wait') || ' for it', NULL)
+FROM raw_record r
+WHERE rule = 'U6' AND section = 'buffers' AND later = 0 AND r.place = finding.place
+  AND r.kind IN (:BR_TRANSACTION, :BR_TRANSACTION_SEC_CTX) AND r.flags & :TF_ONE_WAY;
 UPDATE finding SET rule = 'M1' WHERE rule IS NULL AND section = 'oneway' AND finding.upid IN (SELECT upid FROM lossy);
 UPDATE finding SET rule = CASE WHEN finding.id IN (SELECT id FROM old) THEN 'W3'
   WHEN age IS NULL AND later > 0 THEN 'W3'

@@ -252,7 +252,7 @@ def pool_of_two(s, free, exits=False):
 
 
 @case("C6:1 C7:1", "its only looper is in oneway code 7 since", wait=1100)
-@case("U6:1 C7:1", wait=20)
+@case("W5:1 C7:1", wait=20)
 def pool_in_oneway(s, wait):
     """The only looper of a service is in a oneway transaction, and a call waits."""
     service, client = s.two()
@@ -529,8 +529,8 @@ def status_of_many_objects(s):
 @case("E5:1 U6:4", "2 sends from other 300, 1 send from client 200", "E5 by other 300: 1",
       "defect: sends that were refused (BR_FAILED_REPLY) | other on binder | oneway to service; ", others=2)
 @case("E5:1 U6:4", "2 sends from client 200, 1 send from other 300", "E5 by client 200: 1", others=1)
-@case("E5:1 U6:1 W2:3", "E5 by other 300: 1", others=2, got=1)
-@case("E5:1 U6:2 W2:2", "E5 by service 100: 1",
+@case("E5:1 W5:1 W2:3", "E5 by other 300: 1", others=2, got=1)
+@case("E5:1 W5:2 W2:2", "E5 by service 100: 1",
       "defect: sends that were refused (BR_FAILED_REPLY) | service on binder | oneway to service; ", others=2, got=2)
 @case("E5:2 U6:4", "E5 by other 300: 1", "E5 by client 200: 1", others=2, call=True)
 def oneway_space_full(s, others=0, got=0, call=False):
@@ -583,7 +583,7 @@ def oneway_to_short_lives(s, short):
 
 @case("W2:1", freed=True, wait=50)
 @case("W3:1", freed=True, wait=200)
-@case("W2:1 U5:1", freed=False, wait=200)
+@case("W2:1 W6:1", freed=False, wait=200)
 def oneway_after_another(s, freed, wait):
     """A oneway send waits for the one before it, which is freed before the end of its process, or not at all."""
     service, client = s.two()
@@ -602,8 +602,36 @@ def oneway_after_another(s, freed, wait):
     s.wait(200)
 
 
-@case("U6:1 W3:1", kept="node")
-@case("U6:1 W3:1", kept="process")
+@case("W2:1 W5:1", "(its handler has been at work for 502 ms; 1 waits for it)", "groups that are maybe: 0", wait=500)
+@case("W2:1 W5:1", wait=950)
+@case("W2:1 W6:1", "maybe oneway handlers at work: 1 of 1 oneway code 7 at client 200 node 0x9100 W6 (its handler has"
+      " been at work for 1.1 s; 1 waits for it)", wait=1100)
+@case("W2:3 W6:1", "3 wait for it", wait=1100, sends=3)
+@case("W5:1", "(its handler has been at work for 1.1 s)", wait=1100, sends=0)
+@case("W2:1 W5:1", wait=950, good=2)
+@case("W2:1 W6:1", wait=950, good=3)
+@case("W2:1 W5:1", wait=50, good=3)
+@case("U4:1 W2:1", wait=500, goes_on=True)
+@case("U6:1 W2:1", wait=50, goes_on=True)
+@case("W2:1 W5:1", "(1 waits for it)", wait=0, has_side=False)
+def oneway_handler(s, wait, sends=1, good=0, goes_on=False):
+    """The handler of a oneway transaction is at work for so long, and other sends wait for it; or its thread goes on.
+    Earlier ones were quick."""
+    service, client = s.two()
+    client.main.gives(service.main, 1)
+    looper = client.looper(1)
+    for _ in range(good):
+        looper.frees(looper.gets(service.main.sends(1, 7, ONE_WAY), 0x9100))
+    looper.gets(service.main.sends(1, 7, ONE_WAY), 0x9100)
+    if goes_on:
+        looper.writes(ENTER)
+    for _ in range(sends):
+        service.main.sends(1, 7, ONE_WAY)
+    s.wait(wait)
+
+
+@case("W5:1 W3:1", kept="node")
+@case("W5:1 W3:1", kept="process")
 @case("U6:1 W3:1", kept="call")
 def oneway_beside_another(s, kept):
     """A oneway send does not come, while its receiver keeps a delivery for which it does not wait: a oneway one at
