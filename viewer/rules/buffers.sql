@@ -1,6 +1,6 @@
 -- T, U: buffers.
--- needs: database/schema.sql: finding, raw_delivery, raw_record, raw_send, raw_thread; nodes.sql: node_of; ages.sql:
---   ended, leaving, old; judging.py: counted
+-- needs: database/schema.sql: finding, raw_delivery, raw_record, raw_send, raw_thread; nodes.sql: node_of; counts.sql:
+--   buffer_path; ages.sql: ended, leaving, old; judging.py: counted
 -- after: calls.sql
 -- makes: temporary tables: kept_path, kept_reply, freed_reply; indexes: kept_path_of
 
@@ -13,23 +13,34 @@ UPDATE finding SET rule = 'T1' WHERE rule IS NULL AND section = 'buffers'
   AND (later = 0 AND finding.id IN (SELECT id FROM ended) OR finding.id IN (SELECT id FROM leaving));
 UPDATE finding SET rule = 'U1' WHERE rule IS NULL AND section = 'buffers' AND n_good >= :ENOUGH
   AND (coalesce(age <= longest, age_seq <= longest_seq) OR age <= :VERY_LONG AND age_seq <= longest_seq);
+-- Nearly all of a path; or of the replies on it that one process got, which is the one to free them.
 UPDATE finding SET rule = 'U3'
-FROM (SELECT relation, code, about, node FROM finding WHERE section = 'buffers' AND rule IS NULL AND later > 0
-  GROUP BY 1, 2, 3, 4 HAVING count(*) >= :OFTEN AND count(*) >= :NEARLY_ALL * max(n_all)) p
+FROM (SELECT relation, code, about, node, NULL AS receiver FROM finding
+  WHERE section = 'buffers' AND rule IS NULL AND later > 0
+  GROUP BY 1, 2, 3, 4 HAVING count(*) >= :OFTEN AND count(*) >= :NEARLY_ALL * max(n_all)
+  UNION ALL
+  SELECT f.relation, f.code, f.about, f.node, f.upid FROM finding f JOIN buffer_path b
+    ON b.about = f.about AND b.node IS f.node AND b.code IS f.code AND b.relation = f.relation AND b.receiver = f.upid
+  WHERE f.section = 'buffers' AND f.rule IS NULL AND f.later > 0
+  GROUP BY 1, 2, 3, 4, 5 HAVING count(*) >= :OFTEN AND count(*) >= :NEARLY_ALL * max(b.n)) p
 WHERE rule IS NULL AND section = 'buffers' AND later > 0 AND p.relation = finding.relation AND p.code IS finding.code
-  AND p.about = finding.about AND p.node IS finding.node;
-UPDATE finding SET rule = 'U2'
-WHERE rule IS NULL AND section = 'buffers' AND n_good >= :ENOUGH AND later >= :OFTEN
-  AND coalesce(age > max(:LONG, :OLD * longest), age_seq > :OLD * longest_seq);
+  AND p.about = finding.about AND p.node IS finding.node AND coalesce(p.receiver, finding.upid) = finding.upid;
+-- The longest of what the process freed itself tells, or that of the path.
+UPDATE finding SET rule = 'U2' FROM buffer_path b
+WHERE rule IS NULL AND section = 'buffers' AND later >= :OFTEN AND b.about = finding.about AND b.node IS finding.node
+  AND b.code IS finding.code AND b.relation = finding.relation AND b.receiver = finding.upid
+  AND (n_good >= :ENOUGH
+      AND coalesce(age > max(:LONG, :OLD * finding.longest), age_seq > :OLD * finding.longest_seq)
+    OR b.good >= :ENOUGH AND coalesce(age > max(:LONG, :OLD * b.longest), age_seq > :OLD * b.longest_seq));
 UPDATE finding SET rule = 'U4' WHERE rule IS NULL AND section = 'buffers' AND later > 0
   AND coalesce(age > :LONG, 1);
--- A thread may keep the last buffer that it got. If it kept others of that path too, this is one more of them.
+-- A thread may keep the last buffer that it got. If its process kept others of that path too, this is one more of them.
 CREATE TEMP TABLE kept_path AS
-SELECT DISTINCT relation, code, about, node FROM finding WHERE section = 'buffers' AND rule IN ('U2', 'U3', 'U4');
+SELECT DISTINCT upid, relation, code, about, node FROM finding WHERE section = 'buffers' AND rule IN ('U2', 'U3', 'U4');
 CREATE INDEX temp.kept_path_of ON kept_path(about, node, code, relation);
 UPDATE finding SET rule = iif(finding.id IN (SELECT id FROM old) AND EXISTS (SELECT 1 FROM kept_path p
   WHERE p.about = finding.about AND p.node IS finding.node AND p.code IS finding.code
-    AND p.relation = finding.relation), 'U5', 'U6')
+    AND p.relation = finding.relation AND p.upid = finding.upid), 'U5', 'U6')
 WHERE rule IS NULL AND section = 'buffers';
 
 -- ---- replies of which the small ones are kept: an error may have a reply of its own, such as an exception

@@ -3,10 +3,12 @@
 --   node_of; paths.sql: answered, given, given_way
 -- makes: temporary tables: buffer_path, send_path; indexes: buffer_path_of
 
--- Buffers, by what they came for: of each path that has a finding how many there are, how many were freed, and how long
--- these were held. Columns have types where findings are looked up by them: without, no index is used.
-CREATE TEMP TABLE buffer_path(relation TEXT, code INTEGER, about INTEGER, node INTEGER, n INTEGER, good INTEGER,
-  longest_seq INTEGER, longest INTEGER);
+-- Buffers, by what they came for, and by the process that got them and must free them: of each path that has a finding
+-- how many there are, how many were freed, and how long these were held. Of calls the path says which process gets
+-- them, and replies on one path are for each that calls. Columns have types where findings are looked up by them:
+-- without, no index is used.
+CREATE TEMP TABLE buffer_path(relation TEXT, code INTEGER, about INTEGER, node INTEGER, receiver INTEGER, n INTEGER,
+  good INTEGER, longest_seq INTEGER, longest INTEGER);
 INSERT INTO buffer_path
 WITH d AS (
   SELECT
@@ -15,6 +17,7 @@ WITH d AS (
     iif(r.kind = :BR_REPLY, coalesce(n.upid, -t.upid), t.upid) AS about,
     iif(r.kind = :BR_REPLY, coalesce(n.ptr, c.handle), r.ptr) AS node,
     iif(r.kind = :BR_REPLY, n.cookie, r.cookie) AS cookie,
+    t.upid AS receiver,
     d.freed_by,
     d.dur_seq,
     d.seq
@@ -22,7 +25,7 @@ WITH d AS (
     LEFT JOIN raw_record c ON c.place = d.call AND r.kind = :BR_REPLY
     LEFT JOIN raw_send s ON s.place = d.call AND r.kind = :BR_REPLY LEFT JOIN node_of n ON n.generation = s.generation
   WHERE EXISTS (SELECT 1 FROM finding WHERE section = 'buffers'))
-SELECT relation, code, about, node, sum(n) AS n, sum(good) AS good, max(longest_seq) AS longest_seq,
+SELECT relation, code, about, node, receiver, sum(n) AS n, sum(good) AS good, max(longest_seq) AS longest_seq,
   max(longest) AS longest
 FROM (
   SELECT
@@ -30,16 +33,19 @@ FROM (
     code,
     about,
     node,
+    receiver,
     count(*) AS n,
     count(freed_by) AS good,
     max(dur_seq) AS longest_seq,
-    max(z.ts - x.ts) AS longest
+    max(z.ts - x.ts) AS longest,
+    sum(count(*) - count(freed_by)) OVER (PARTITION BY relation, code, about, node, cookie) AS kept
   FROM d LEFT JOIN side_time x ON x.seq = d.seq LEFT JOIN side_time z ON z.seq = d.seq + d.dur_seq
-  GROUP BY relation, code, about, node, cookie HAVING count(*) > count(freed_by))
-GROUP BY 1, 2, 3, 4;
-CREATE UNIQUE INDEX temp.buffer_path_of ON buffer_path(about, node, code, relation);
+  GROUP BY relation, code, about, node, cookie, receiver)
+WHERE kept > 0
+GROUP BY 1, 2, 3, 4, 5;
+CREATE UNIQUE INDEX temp.buffer_path_of ON buffer_path(about, node, code, relation, receiver);
 UPDATE finding SET (n_all, n_good, longest_seq, longest) = (
-  SELECT n, good, longest_seq, longest FROM buffer_path b
+  SELECT sum(n), sum(good), max(longest_seq), max(longest) FROM buffer_path b
   WHERE b.about = finding.about AND b.node IS finding.node AND b.code IS finding.code AND b.relation = finding.relation)
 WHERE section = 'buffers';
 

@@ -33,7 +33,7 @@
 --   rests on: ENOUGH, OLD, LONG, OFTEN
 --   met by: `quarter`: a service frees three buffers of four
 --   where frames are missing: M2
--- U3 real: {OFTEN} or more, and nearly all of this path, while their threads went on.
+-- U3 real: {OFTEN} or more, and nearly all of this path, or of its replies to one process, while their threads went on.
 --   next: the code that handles what this path brings: nothing ends it there
 --   rests on: OFTEN, NEARLY_ALL
 --   met by: `replies`: a client keeps six replies to one code

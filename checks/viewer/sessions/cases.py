@@ -704,7 +704,7 @@ ERRORS = "all 3 that are kept have at most 12 bytes, all 3 that were freed at le
 @case("U2:3", ERRORS, kept=(4, 12, 8), freed=(40, 48, 44))
 @case("U2:3", "reply to code 7 of service 100 node 0x0 ()", kept=(12, 12, 40))
 @case("U2:3", "reply to code 7 of service 100 node 0x0 ()", freed=(40, 40, 40, 12))
-@case("U2:3", "reply to code 7 of service 100 node 0x0 ()", others=(40, 40, 40), freed=())
+@case("U3:3", "reply to code 7 of service 100 node 0x0 ()", others=(40, 40, 40), freed=())
 @case("U2:3", ERRORS, others=(4, 4, 4))
 @case("U3:3", "reply to code 7 of service 100 node 0x0 ()", freed=(), other_code=(40, 40, 40))
 def small_replies(s, kept=(12, 12, 12), freed=(40, 40, 40), others=(), other_code=()):
@@ -728,6 +728,44 @@ def small_replies(s, kept=(12, 12, 12), freed=(40, 40, 40), others=(), other_cod
     for _ in range(4):
         client.main.asks(service.main, 8)
     s.wait(300)
+
+
+@case("U3:3", kept=3)
+@case("U4:2", kept=2)
+@case("U3:4", kept=4, good=1)
+@case("U4:3", kept=3, good=1)
+@case("U4:1 U3:3", kept=3, others=1)
+@case("U3:3", kept=1, others=2, freed=0)
+@case("U4:3", kept=1, others=2, freed=1)
+@case("U2:1", kept=1, good=3)
+@case("U4:1", kept=1, good=2)
+@case("U2:1", kept=1, good=3, held=50, wait=100)
+@case("U4:1", kept=1, good=3, held=50, wait=20)
+@case("U2:1 U6:1", kept=1, last=True, takes=0)
+def replies_to_several(s, kept, good=0, others=0, freed=4, takes=60, then=4, wait=200, held=0, last=False):
+    """A client keeps some replies, and frees others, at once. Each of some other clients keeps one, and another one
+    frees all, which takes long. Or that one keeps its last reply, too."""
+    service, client = s.two()
+    slow = s.process(300, "slow")
+    for at in range(kept + good):
+        address = client.main.asks(service.main, free=False)
+        if at >= kept:
+            s.wait(held)
+            client.main.frees(address)
+    for number in range(others):
+        other = s.process(400 + number, "other")
+        other.main.asks(service.main, free=False)
+        for _ in range(then):
+            other.main.asks(service.main, 2)
+    for _ in range(freed):
+        address = slow.main.asks(service.main, free=False)
+        s.wait(takes)
+        slow.main.frees(address)
+    if last:
+        slow.main.asks(service.main, free=False)
+    for _ in range(then):
+        client.main.asks(service.main, 2)
+    s.wait(wait)
 
 
 @case("U6:1", kept=1)
