@@ -1,6 +1,7 @@
 -- S: strays, and calls that are crossed.
 -- needs: database/schema.sql: book_call, finding, raw_call, raw_frame, raw_record, raw_send, raw_thread; ages.sql:
 --   begun, process_life; rule.sql: lossy
+-- after: failures.sql
 -- makes: temporary tables: first_crossed, begun_call; indexes: first_crossed_of
 
 -- ---- what findings are called
@@ -41,6 +42,9 @@ WHERE rule IS NULL AND what = 'crossed' AND c.place = finding.place;
 -- before the capture does not matter.
 UPDATE finding SET rule = 'S2', said = 'refused at {other}', other = s.refused FROM raw_send s
 WHERE rule IS NULL AND section = 'strays' AND s.place = finding.place AND s.refused IS NOT NULL;
+-- The error by which the driver refused it is the same finding.
+UPDATE finding SET lead = r.id FROM finding r
+WHERE finding.section = 'refused' AND finding.rule = 'E5' AND r.rule = 'S2' AND r.other = finding.place;
 -- Of a thread that had calls open when the recording began, as many closers are theirs. It is known of a thread without
 -- a frame before the copy of the books. But a thread that reads first may have been in a write since before the
 -- recording, and have sent a call after the copy that no frame has.

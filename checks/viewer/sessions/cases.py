@@ -880,8 +880,9 @@ def after_a_crossed_call(s):
     client.main.answered(service.main.replies(address))
 
 
-@case("E5:1 S2:1", "refused at")
+@case("E5:1 S2:1", "refused at", "groups that are real: 1")
 def reply_to_nothing(s):
+    """The error and the reply are one finding."""
     service, client = s.two()
     client.main.asks(service.main)
     service.main.writes(Sent(None, 0, 0, b"", b"").record(BC_REPLY))

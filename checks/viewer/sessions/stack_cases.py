@@ -99,7 +99,7 @@ def freed_with_a_stack(s):
 @case("E5:1 S2:1", "finding_stack 1: 4, the send that was refused", "finding_stack 1: 4, its own call",
       "finding_stack 2: -")
 def reply_refused(s):
-    """The driver refuses a reply to nothing: the error and the reply are a finding each."""
+    """The driver refuses a reply to nothing: the error and the reply each have the stack."""
     service, client = s.two()
     client.main.asks(service.main)
     s.with_stack(4)
