@@ -1,6 +1,6 @@
 -- T, U: buffers.
--- needs: database/schema.sql: finding, raw_delivery, raw_record, raw_send, raw_thread; nodes.sql: node_of; counts.sql:
---   buffer_path; ages.sql: ended, leaving, old; judging.py: counted
+-- needs: database/schema.sql: finding, raw_call, raw_delivery, raw_record, raw_send, raw_thread; nodes.sql: node_of;
+--   counts.sql: buffer_path; ages.sql: ended, leaving, life, old; judging.py: counted
 -- after: calls.sql
 -- makes: temporary tables: kept_path, kept_reply, freed_reply; indexes: kept_path_of
 
@@ -42,6 +42,19 @@ UPDATE finding SET rule = iif(finding.id IN (SELECT id FROM old) AND EXISTS (SEL
   WHERE p.about = finding.about AND p.node IS finding.node AND p.code IS finding.code
     AND p.relation = finding.relation AND p.upid = finding.upid), 'U5', 'U6')
 WHERE rule IS NULL AND section = 'buffers';
+
+-- ---- a buffer that was freed behind a reply, in the same write
+
+-- After a reply to a caller that has ended, or that gets an error in place of it, the driver takes nothing more of the
+-- write: what it took ends with the reply.
+UPDATE finding SET said = iif(l.ended_after < q.seq, 'its reply at {other} went to a caller that had ended',
+    'its reply at {other} failed') || ': the driver takes nothing behind it in the same write, no BC_FREE_BUFFER either',
+  other = q.place
+FROM raw_call c JOIN raw_record q ON q.place = c.closer JOIN raw_delivery d ON d.place = c.place
+  JOIN raw_send s ON s.place = d.send JOIN life l ON l.utid = s.utid LEFT JOIN raw_call m ON m.place = d.send
+WHERE +finding.section = 'buffers' AND finding.rule IN ('T1', 'U2', 'U3', 'U4', 'U5', 'U6') AND c.place = finding.place
+  AND c.verdict = 2 AND s.certain AND (l.ended_after < q.seq OR m.verdict = 3)
+  AND (SELECT n.seq FROM raw_record n WHERE n.place > q.place ORDER BY n.place LIMIT 1) IS NOT q.seq;
 
 -- ---- replies of which the small ones are kept: an error may have a reply of its own, such as an exception
 

@@ -768,6 +768,33 @@ def replies_to_several(s, kept, good=0, others=0, freed=4, takes=60, then=4, wai
     s.wait(wait)
 
 
+NOT_TAKEN = "the driver takes nothing behind it in the same write, no BC_FREE_BUFFER either"
+SAYS_NOTHING = "code 1 at service 100 node 0x0 ()"
+
+
+@case("U4:1 T1:1", "went to a caller that had ended: " + NOT_TAKEN)
+@case("E6:1 U4:1", "failed: " + NOT_TAKEN, ends=False, fails=True)
+@case("U4:1 U6:1", SAYS_NOTHING, ends=False)
+@case("U4:1 T1:1", SAYS_NOTHING, more=True)
+@case("U4:1 T1:1", SAYS_NOTHING, late=True)
+def free_behind_a_reply(s, ends=True, fails=False, more=False, late=False):
+    """A service replies, and frees the buffer of the call in the same write, behind the reply. The caller has ended, or
+    gets an error in place of the reply. Or the driver took a command behind the reply, or the caller ends later."""
+    service, client, other = *s.two(), s.process(300, "other")
+    service.main.gets(client.main.sends(0, 1))
+    if ends and not late:
+        client.ends()
+    service.main.writes(Sent(None, 0, 0, b"1234", b"").record(BC_REPLY), *([ENTER] if more else []))
+    if ends and late:
+        client.ends()
+    service.main.reads(DONE)
+    if not ends:
+        client.main.reads(DONE, record(BR_FAILED_REPLY) if fails else Sent(None, 0, 0, b"", b"").record(BR_REPLY))
+    for _ in range(4):
+        other.main.asks(service.main, 2)
+    s.wait(300)
+
+
 @case("U6:1", kept=1)
 @case("U4:1 U5:1", kept=2)
 @case("U4:1 U6:1", kept=2, wait=50, between=200)
