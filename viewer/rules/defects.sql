@@ -15,25 +15,6 @@
 -- makes: tables: program, call_text, defect, finding_defect; temporary tables: came_by, matter, told; indexes:
 --   finding_of_defect
 
--- ---- what a rule names that its section does not say
-
-UPDATE rule SET fault = CASE id
-  WHEN 'H1' THEN 'handles that nobody gave'
-  WHEN 'H2' THEN 'references let go, or given back, too often'
-  WHEN 'H3' THEN 'references to an object told dead'
-  WHEN 'H4' THEN 'references taken more than once'
-  WHEN 'H5' THEN 'references kept'
-  WHEN 'H8' THEN 'references kept'
-  WHEN 'H9' THEN 'references kept'
-  WHEN 'H10' THEN 'references kept'
-  WHEN 'H11' THEN 'references taken more than once'
-  WHEN 'E9' THEN 'calls in which the server ended'
-  WHEN 'E10' THEN 'calls in which the server ended'
-  WHEN 'F1' THEN 'buffers freed twice'
-  WHEN 'D2' THEN 'second requests for a death'
-  WHEN 'S1' THEN 'sends that were refused'
-  WHEN 'S2' THEN 'replies without a call' END;
-
 -- ---- names that are the same in another capture
 
 -- A process, without the number at the end of a name that differs from start to start; and its device.
