@@ -30,11 +30,11 @@ CREATE TEMP TABLE came_by AS
 SELECT f.id, d.kind = 'BR_REPLY' AS reply, d.code, d.handle,
   iif(d.kind = 'BR_REPLY', coalesce(n.upid, -f.upid), f.upid) AS upid,
   iif(d.kind = 'BR_REPLY', coalesce(n.ptr, d.handle), d.ptr) AS ptr,
-  iif(d.kind = 'BR_REPLY', n.upid, s.upid) AS other
+  CASE WHEN f.rule = 'H12' THEN NULL WHEN d.kind = 'BR_REPLY' THEN n.upid ELSE s.upid END AS other
 FROM finding f JOIN handle h ON h.generation = f.generation JOIN delivery d ON d.place = h.given_by
   LEFT JOIN send a ON a.place = d.call AND d.kind = 'BR_REPLY' LEFT JOIN node_of n ON n.generation = a.generation
   LEFT JOIN send s ON s.place = d.send
-WHERE f.rule IN ('H5', 'H8', 'H9', 'H10');
+WHERE f.rule IN ('H5', 'H8', 'H9', 'H10', 'H12');
 
 -- What each finding is about: a call, by its code and its node, and how the finding belongs to it; or a handle, a node
 -- or an address. If the node of a call or a handle is not known, upid has the process that holds it with a minus, and

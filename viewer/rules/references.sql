@@ -1,9 +1,11 @@
--- H3 to H11, T, U: references to handles and nodes that are held, and those that are balanced.
--- needs: database/schema.sql: finding, raw_generation, raw_record, raw_thread, side_time; nodes.sql: who; records.sql:
---   told_death; paths.sql: given, given_way, thing_path; ages.sql: ended, last, leaving, process_life; handles.sql:
---   handle_row; rule.sql: lossy; waits.sql: waits; ways.sql: earlier, kept_handle, kept_way, let_go, of_way, recorded
--- makes: temporary tables: mourned, dead_way, taken_again, reference_change, most_held, more_references, nearly_all,
---   growing, cache, overdue, kept_elsewhere; indexes: taken_again_of, most_held_of, more_references_of, cache_of
+-- H3 to H12, T, U: references to handles and nodes that are held, and those that are balanced.
+-- needs: database/schema.sql: finding, raw_generation, raw_record, raw_thread, side_time; nodes.sql: manager, node_of,
+--   who; records.sql: dead_record, told_death; paths.sql: given, given_way, thing_path; ages.sql: ended, last, leaving,
+--   process_life; handles.sql: handle_row; rule.sql: lossy; waits.sql: waits; ways.sql: earlier, kept_handle, kept_way,
+--   let_go, of_way, recorded
+-- makes: temporary tables: mourned, dead_way, outlives, let_go_later, taken_again, reference_change, most_held,
+--   more_references, nearly_all, growing, cache, overdue, kept_elsewhere, weakly_kept; indexes: taken_again_of,
+--   most_held_of, more_references_of, cache_of
 
 -- ---- what findings are called
 
@@ -56,6 +58,12 @@
 --   met by: `more_references()`: eight more in the last half
 --   fault: references taken more than once
 --   where frames are missing: H4
+-- H12 real: Its process ended over {VERY_LONG} before, like {OFTEN} or more of its way, and no death was asked for.
+--   next: whether the process lets go when a send is refused, and why it asks for no death
+--   rests on: VERY_LONG, OFTEN, OLD
+--   met by: `listeners_of_the_dead()`: a service keeps an object of each of three processes that ended
+--   fault: references to ended processes
+--   where frames are missing: M2
 
 -- ---- what they say of which finding
 
@@ -79,6 +87,37 @@ UPDATE finding SET
   how_many = d.n,
   of_how_many = (SELECT sum(w.n) FROM given_way w WHERE (w.upid, w.way) = (d.upid, d.way))
 FROM given v JOIN dead_way d USING (upid, way) WHERE rule = 'H3' AND v.generation = finding.generation;
+-- Who asks for no death learns of it by a send that is refused, and libbinder sends nothing more to such a handle. So
+-- what is kept of the ended makes no noise: it is told by how long its process worked on after their end.
+CREATE TEMP TABLE outlives AS
+SELECT f.id, f.upid, g.way, g.code, n.upid AS owner, l.last_ts - p.ended AS since
+FROM finding f JOIN given g USING (generation) JOIN node_of n USING (generation) JOIN process_life p ON p.upid = n.upid
+  JOIN recorded l ON l.upid = f.upid JOIN raw_generation h ON h.id = f.generation
+WHERE f.section = 'handles' AND f.what = 'held' AND f.rule IS NULL AND n.certain AND l.last_ts - p.ended > :VERY_LONG
+  AND g.asked IS NOT 0 AND f.upid NOT IN (SELECT upid FROM manager)
+  AND NOT EXISTS (SELECT 1 FROM dead_record d WHERE (d.upid, d.handle) = (f.upid, f.handle)
+    AND d.kind = :BC_REQUEST_DEATH_NOTIFICATION AND d.place > h.begin);
+-- The longest that one of their ways was held after the end of its owner, of those that were let go of after that.
+CREATE TEMP TABLE let_go_later AS
+SELECT g.upid, g.way, max(z.ts - p.ended) AS longest
+FROM (SELECT DISTINCT upid, way FROM outlives) w CROSS JOIN given g USING (upid, way)
+  JOIN raw_generation h ON h.id = g.generation JOIN node_of n USING (generation)
+  JOIN process_life p ON p.upid = n.upid JOIN raw_record e ON e.place = h.end JOIN side_time z ON z.seq = e.seq
+WHERE z.ts > p.ended GROUP BY 1, 2;
+DELETE FROM outlives WHERE since <= :OLD * (SELECT longest FROM let_go_later l
+  WHERE (l.upid, l.way) = (outlives.upid, outlives.way));
+UPDATE finding SET
+  rule = 'H12',
+  relation = 'given',
+  code = o.code,
+  way = o.way,
+  n_all = (SELECT sum(w.n) FROM given_way w WHERE (w.upid, w.way) = (o.upid, o.way)),
+  said = 'held for {how_long} after {who} ended',
+  other_upid = o.owner,
+  how_long = o.since
+FROM outlives o JOIN (SELECT upid, way FROM outlives GROUP BY 1, 2 HAVING count(DISTINCT owner) >= :OFTEN) w
+  USING (upid, way)
+WHERE o.id = finding.id;
 -- The most that a generation that is held had at once, if one thread took and let go of all. Records of several threads
 -- say nothing of that: one may write late that it let go, when another has taken it again. By these a generation has
 -- more only if it has three now, besides one for each of them that is in a call, and may let go after it. A handle may
@@ -139,7 +178,7 @@ FROM (SELECT o.way, coalesce(b.kept, 0) AS early,
     coalesce(b.later, 0) + sum(came_left >= :LATELY / 2 AND (o.kept OR went_left < :LATELY / 2)) AS later,
     coalesce(b.kept, 0) + sum(o.kept) AS kept
   FROM of_way o LEFT JOIN earlier b USING (way)
-  WHERE o.generation NOT IN (SELECT generation FROM finding WHERE rule IN ('H3', 'H4', 'H11')) GROUP BY o.way)
+  WHERE o.generation NOT IN (SELECT generation FROM finding WHERE rule IN ('H3', 'H4', 'H11', 'H12')) GROUP BY o.way)
 WHERE kept - half >= max(:MANY, :GROWTH * kept) AND half < later AND later < kept;
 -- But what is in use and does not grow is a cache, also one that goes on changing what it has: so the ways of it, with
 -- how many have no rule yet, and how many of these are in use.
@@ -190,6 +229,13 @@ UPDATE finding SET
 FROM kept_handle k JOIN given g USING (generation) LEFT JOIN growing w ON w.way = k.way
   LEFT JOIN kept_elsewhere e ON g.reply AND e.way = k.way
 WHERE rule IN ('H5', 'H8', 'H9', 'H10') AND k.generation = finding.generation;
+-- A death recipient of libbinder keeps its object weakly, until it is unlinked.
+CREATE TEMP TABLE weakly_kept AS
+SELECT f.id FROM finding f JOIN raw_generation g ON g.id = f.generation
+WHERE f.rule IN ('H4', 'H5', 'H8', 'H9', 'H10', 'H11') AND g.strong = 0 AND g.weak > 0
+  AND EXISTS (SELECT 1 FROM finding q WHERE q.section = 'requests' AND q.generation = g.id);
+UPDATE finding SET note = coalesce(note || '; ', '') || 'held weakly, with a request for its death'
+WHERE id IN (SELECT id FROM weakly_kept);
 UPDATE finding SET rule = CASE WHEN later = 0 AND finding.id IN (SELECT id FROM ended)
     OR finding.id IN (SELECT id FROM leaving) THEN 'T1'
   WHEN finding.upid IN (SELECT upid FROM lossy) THEN 'M1' WHEN later > 1 THEN 'U4' ELSE 'U6' END

@@ -1,10 +1,11 @@
 """More sessions as in cases.py: what comes of the death of a process, and what tells of one death in one group."""
 
-from checks.kit.captures import (BC_CLEAR_DEATH_NOTIFICATION, BC_DEAD_BINDER_DONE, BC_RELEASE,
+from checks.kit.captures import (BC_ACQUIRE, BC_CLEAR_DEATH_NOTIFICATION, BC_DEAD_BINDER_DONE, BC_RELEASE,
                                  BC_REQUEST_DEATH_NOTIFICATION, BR_DEAD_BINDER, BR_DEAD_REPLY, ENTER, each, each_long,
-                                 record, watch)
+                                 of_handle, offsets, record, watch)
 from checks.viewer.sessions.cases import case, with_server
 from checks.viewer.sessions.kept_cases import calls_back
+from checks.viewer.sessions.session import ONE_WAY, node_object
 
 
 @case("H3:3", "given by calls of code 4: 3 of 5 that came so)", dead=3, alive=2)
@@ -127,3 +128,77 @@ def death(s, done=False, clears=False, calls=0, lets_go=False, objects=1, lets_g
     if late:
         s.stops()
         client.main.reads(*each_long(BR_DEAD_BINDER, 0xD0 + last))
+
+
+# ---- what is held of the ended, of whose death nobody asked to be told
+
+
+@case("H12:3", "real references to ended processes: 3 of 3 given by calls of code 4 H12 (held for 1.1",
+      " after short-lived 400 ended)", "groups that are real: 1")
+@case("H12:3", "3 of 5 given by calls of code 4 H12", alive=2)
+@case("", wait=950)
+@case("", dead=2)
+@case("", dead=2, let_go=1)
+@case("", of_one=True)
+@case("", rests=True, wait=3000)
+@case("", asks=True)
+@case("D1:1 H12:3", reused=True)
+@case("", let_go=1, wait=1000)
+@case("H12:3", let_go=1, wait=1200)
+@case("H12:3", let_go=-1, wait=1000)
+@case("M2:3", lost=True)
+@case("", to_manager=True)
+@case("", at_once=True)
+def listeners_of_the_dead(s, dead=3, alive=0, wait=1100, of_one=False, rests=False, asks=False, reused=False, let_go=0,
+                          lost=False, to_manager=False, at_once=False):
+    """A server, or the manager, keeps an object of each of some clients, of which some end, or of one that ends. It
+    asks for their deaths, or did so for what had these handles before. It goes on, or rests. `let_go`: it let go of one
+    100 ms after its process ended, or before. Or all came at once, and it is not known which is of whom."""
+    manager, _, server = with_server(s)
+    holder = manager.main if to_manager else server.main
+
+    def registers(other, *handles, asking=asks):
+        if not to_manager:
+            other.main.is_given(manager.main, 1, server_handle=3)
+        for handle in handles:
+            if to_manager:
+                other.main.gives(manager.main, handle)
+            else:
+                calls_back(other.main, server.main, handle)
+            if asking:
+                holder.writes(watch(BC_REQUEST_DEATH_NOTIFICATION, handle, handle))
+
+    if reused or let_go:
+        brief = s.process(390, "brief")
+        registers(brief, 20, asking=reused)
+        if let_go < 0:
+            holder.writes(*each(BC_RELEASE, 20))
+        brief.ends()
+        s.wait(100)
+        if let_go >= 0:
+            holder.writes(*each(BC_RELEASE, 20))
+    if lost:
+        s.loses(server)
+    others = [s.process(400 + at, "short-lived") for at in range(1 if of_one else dead + alive)]
+    if at_once:
+        register_at_once(others, manager, server)
+    elif of_one:
+        registers(others[0], *range(20, 20 + dead))
+    else:
+        for handle, other in enumerate(others, 20):
+            registers(other, handle)
+    for other in others[:dead]:
+        other.ends()
+    s.wait(wait)
+    if not rests:
+        holder.asks(manager.main) if holder is not manager.main else holder.writes(ENTER)
+
+
+def register_at_once(others, manager, server):
+    """All send their objects oneway before the server gets one."""
+    for other in others:
+        other.main.is_given(manager.main, 1, server_handle=3)
+    sent = [other.main.sends(1, 6, ONE_WAY, node_object(0x9900), offsets(0)) for other in others]
+    for handle, one in enumerate(sent, 20):
+        server.main.frees(server.main.gets(one, 0x9000, of_handle(2, handle)))
+        server.main.writes(*each(BC_ACQUIRE, handle))

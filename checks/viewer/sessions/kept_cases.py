@@ -1,6 +1,7 @@
 """More sessions as in cases.py: handles that came the same way, of which a process keeps nearly all or some."""
 
-from checks.kit.captures import BC_ACQUIRE, BC_RELEASE, ENTER, each, of_handle, offsets
+from checks.kit.captures import (BC_ACQUIRE, BC_DECREFS, BC_INCREFS, BC_RELEASE, BC_REQUEST_DEATH_NOTIFICATION, ENTER,
+                                 each, of_handle, offsets, watch)
 from checks.viewer.sessions.cases import case, with_server
 from checks.viewer.sessions.session import node_object
 
@@ -44,6 +45,28 @@ def sessions_kept(s, kept, let_go, others=0):
             other.main.is_given(server.main, handle, via=1, ptr=0x9000, node=0xA00 + 0x100 * handle)
         other.main.writes(*each(BC_RELEASE, *range(2, 1 + others)))
     s.wait(300)
+
+
+@case("H5:4", "H5 (held weakly, with a request for its death)")
+@case("H5:4", "4 of 4 given by replies to code 5 of server 300 node 0x9000 H5 ()", asks=False)
+@case("H5:4", "4 of 4 given by replies to code 5 of server 300 node 0x9000 H5 ()", weakly=False)
+@case("H5:4 D1:4", "4 of 4 given by replies to code 5 of server 300 node 0x9000 H5 ()", again=True)
+@case("H10:12", "(6 held at half of its time, 12 at the end; held weakly, with a request for its death)", count=12)
+@case("H4:1", "(2 times, weakly, and let go of 0 times; held weakly, with a request for its death)", count=1,
+      twice=True)
+def linked_and_kept(s, count=4, weakly=True, asks=True, twice=False, again=False):
+    """A client keeps weak references to objects, and asks for their deaths, or did so for objects that had these
+    handles before."""
+    manager, client, server = with_server(s)
+    for handle in range(2, 2 + count):
+        if again:
+            client.main.is_given(server.main, handle, 6, weakly=True, node=0x8000 + 0x100 * handle, **SERVER)
+            client.main.writes(watch(BC_REQUEST_DEATH_NOTIFICATION, handle, handle))
+            client.main.writes(*each(BC_DECREFS, handle))
+        client.main.is_given(server.main, handle, weakly=weakly, **SERVER)
+        client.main.writes(*(each(BC_INCREFS, handle) if twice else []))
+        client.main.writes(*([watch(BC_REQUEST_DEATH_NOTIFICATION, handle, handle)] if asks and not again else []))
+        s.wait(100)
 
 
 @case("H5:4", "given by calls of code 4 from client 200", senders=1, each_gives=4)
