@@ -23,6 +23,7 @@ What must hold:
 - If frames of a scenario are lost, in seven ways, only what is real in the whole capture is real. The side list says
   for each lost frame whose it was, or only its number, or only that something without a number was missed.
 - The page says how long findings lasted, which fields a row has, who served failed calls, and what is held at the end.
+- The page says when things were, by the clocks of the side list, and nothing of it without one.
 - The files of a flight recorder, each with its side list, are shown like the whole capture; the last one alone says
   what it cannot know.
 - Page, database and side list of a capture have no secret of its payloads, and a redacted capture has none either.
@@ -85,6 +86,7 @@ from checks.viewer.page.files import (check_again, check_changing, check_malform
 from checks.viewer.page.growth import check_growth
 from checks.viewer.page.losses import CUTS, FAULTLESS, check_cuts, check_gaps
 from checks.viewer.page.methods import check_methods, check_unnamed
+from checks.viewer.page.moments import check_moments
 from checks.viewer.page.reports import check_sample
 from checks.viewer.page.services import CAPTURES, check_libgbinder, check_manager, check_services
 from checks.viewer.page.sides import (check_files, check_forms, check_last_names, check_late, check_list_of_loader,
@@ -115,7 +117,7 @@ IN_TURN = parts_of(
     check_side, check_forms, check_no_lists, check_list_of_loader, check_renames, check_last_names, check_files,
     check_secrets, check_told, check_untimed, check_late, check_hostile, check_methods, check_unnamed, check_services,
     check_manager, check_times, check_loader, check_agreement, check_copies, check_bad_books, check_long_books,
-    check_commands, check_packages, check_bits, check_stacks, check_growth, check_against)
+    check_commands, check_packages, check_bits, check_stacks, check_growth, check_against, check_moments)
 
 
 def names() -> list[str]:

@@ -3,7 +3,9 @@
 import sqlite3
 from typing import Iterator, NamedTuple
 
+from viewer.clocks import Times
 from viewer.database.sqlite import FRAME_HEADER
+from viewer.page.capture import Capture
 from viewer.rules.names import Names
 
 # At most RECORDS records before the place, and as many after it, within FRAMES frames of all threads; of each frame at
@@ -17,14 +19,15 @@ LEFT_OUT = "('BR_TRANSACTION_COMPLETE', 'BR_NOOP')"
 class Line(NamedTuple):
     place: int
     seq: int
+    ts: int | None
     text: str
 
 
-def fields_of(names: Names, kind: str, handle: int | None, code: int | None, size: int | None, address: int | None,
-              cookie: int | None, value: int | None, interface: int | None, to: int | None,
+def fields_of(names: Names, kind: str, oneway: int | None, handle: int | None, code: int | None, size: int | None,
+              address: int | None, cookie: int | None, value: int | None, interface: int | None, to: int | None,
               ptr: int | None) -> str:
     called = None if kind.endswith("_REPLY") else code
-    told = [kind]
+    told = [kind, "oneway"] if oneway and called is not None else [kind]
     told += [f"{name}={value}" for name, value in (("handle", handle), ("code", called))
              if value is not None]
     if called is not None and names.named(called, None, None, interface):
@@ -37,7 +40,9 @@ def fields_of(names: Names, kind: str, handle: int | None, code: int | None, siz
 
 
 # The last two say to which object something is sent, or has come.
-FIELDS = ("SELECT r.place, r.seq, k.name, r.handle, r.code, r.data_size, r.address, r.cookie, r.value, r.interface,"
+FIELDS = ("SELECT r.place, r.seq, (SELECT x.ts FROM side_time x WHERE x.seq = r.seq), k.name,"
+          " r.flags & (SELECT number FROM flag WHERE name = 'TF_ONE_WAY'), r.handle, r.code, r.data_size, r.address,"
+          " r.cookie, r.value, r.interface,"
           + ",".join(f" coalesce((SELECT v.{key} FROM sent_to v WHERE v.place = r.place),"
                      f" (SELECT v.{key} FROM came_to v WHERE v.place = r.place))" for key in ("upid", "ptr")))
 WANTED = f"JOIN kind k ON k.number = r.kind WHERE k.name NOT IN {LEFT_OUT} ORDER BY r.place"
@@ -55,7 +60,7 @@ AFTER = (f"{FIELDS} {OF_THREAD} {ITS_SEQ} AND {ITS_SEQ} + {FRAMES} ORDER BY seq 
 def records(database: sqlite3.Connection, names: Names, query: str, utid: int, place: int, count: int) -> list[Line]:
     """The records of a thread before a place or after it, in the order of the file."""
     rows = database.execute(query, {"utid": utid, "place": place, "bytes": BYTES, "count": count})
-    return sorted(Line(row[0], row[1], fields_of(names, *row[2:])) for row in rows)
+    return sorted(Line(row[0], row[1], row[2], fields_of(names, *row[3:])) for row in rows)
 
 
 def open_calls(database: sqlite3.Connection, utid: int, place: int) -> list[int]:
@@ -71,8 +76,15 @@ def open_calls(database: sqlite3.Connection, utid: int, place: int) -> list[int]
     return found[::-1]
 
 
-def lane_of(database: sqlite3.Connection, names: Names, utid: int, place: int) -> Iterator[tuple[str, bool]]:
+def moment_of(times: Times, ts: int | None) -> str:
+    """When a line was, in columns; nothing if the capture has no times."""
+    since = f" {times.since(ts):>10}" if times.first is not None else ""
+    return since + (f"  {times.clock(ts):>12}" if times.zone else "")
+
+
+def lane_of(capture: Capture, utid: int, place: int) -> Iterator[tuple[str, bool]]:
     """The lines of a lane, each with whether it is that of the place."""
+    database, names, times = capture.database, capture.names, capture.times
     lines = (records(database, names, BEFORE, utid, place, RECORDS + 1)
              + records(database, names, AFTER, utid, place, RECORDS))
     if not lines:
@@ -81,7 +93,8 @@ def lane_of(database: sqlite3.Connection, names: Names, utid: int, place: int) -
                                     " WHERE utid = ? AND place BETWEEN ? AND ?",
                                     (utid, lines[0].place, lines[-1].place)))
     stack = open_calls(database, utid, lines[0].place)
-    yield f"{'place':>10} {'seq':>8}", False
+    at = f" {'at':>10}" if times.first is not None else ""
+    yield f"{'place':>10} {'seq':>8}{at}" + (f"  {times.zone:>12}" if times.zone else ""), False
     for line in lines:
         while stack and stack[-1] < line.place:
             stack.pop()
@@ -92,4 +105,4 @@ def lane_of(database: sqlite3.Connection, names: Names, utid: int, place: int) -
         elif stack and stack[-1] == line.place:
             stack.pop()
             bars = "│ " * len(stack) + "└ "
-        yield f"{line.place:>10} {line.seq:>8}  {bars}{line.text}", line.place == place
+        yield f"{line.place:>10} {line.seq:>8}{moment_of(times, line.ts)}  {bars}{line.text}", line.place == place

@@ -4,6 +4,7 @@ import os
 import pathlib
 import sqlite3
 
+from viewer.clocks import Times
 from viewer.files import word_of
 from viewer.malformed import fault_of
 from viewer.program_names import called
@@ -28,6 +29,7 @@ class Capture:
         self.who = dict(database.execute("SELECT upid, who FROM who"))
         self.rules = dict(database.execute("SELECT id, text FROM rule"))
         self.names = Names(database)
+        self.times = Times(database)
 
     def ask(self, query: str, *values: object) -> list[tuple]:
         return self.database.execute(query, values).fetchall()

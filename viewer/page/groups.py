@@ -25,6 +25,7 @@ class Group:
         self.who = [upid for upid, in capture.asked("group_who", self.number)]
         keys = [key for key, in capture.asked("group_keys", self.number)]
         self.marks = list(dict.fromkeys(mark for key in keys for mark in marks.get(key, ())))
+        self.begun, self.ended = capture.asked("group_times", self.number)[0]
         self.plot = self.plot_of(capture)
         self.stacks = GroupStacks(stacks, self.number)
         self.lane: tuple | None = None
@@ -61,5 +62,5 @@ class Groups:
         for _, place, utid, *_ in group.found:
             if place is not None and utid is not None:
                 self.lanes += 1
-                group.lane = place, list(lane_of(self.capture.database, self.capture.names, utid, place))
+                group.lane = place, list(lane_of(self.capture, utid, place))
                 return

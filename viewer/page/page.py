@@ -17,7 +17,7 @@ from viewer.files import Stopped, for_owner, shown_name, whole_file
 from viewer.page.capture import Capture
 from viewer.page.groups import FINDINGS, Groups
 from viewer.page.head import head_of
-from viewer.page.plots import growths_of
+from viewer.page.plots import axis_of, growths_of
 from viewer.page.texts import pieces_of, title_of, user_name
 from viewer.rules.verdicts import VERDICTS
 from viewer.units import code_name, counted, duration_of
@@ -47,9 +47,10 @@ FILTERS = {"pieces": pieces_of, "number": number, "hex": address, "counted": cou
 def asked_of(capture: Capture, shown: Shown) -> dict[str, object]:
     """What templates ask. Sections ask when they are written, so that no two are in memory."""
     groups = Groups(capture, shown.marks)
-    return {"who": capture.who, "names": capture.names, "rules": capture.rules, "command": capture.command,
-            "asked": capture.rows, "count": capture.count, "groups": groups.of, "left": groups.left, "most": FINDINGS,
-            "all_verdicts": VERDICTS, "columns_of": columns_of, "growths": lambda: growths_of(capture),
+    return {"who": capture.who, "names": capture.names, "times": capture.times, "rules": capture.rules,
+            "command": capture.command, "asked": capture.rows, "count": capture.count, "groups": groups.of,
+            "left": groups.left, "most": FINDINGS, "all_verdicts": VERDICTS, "columns_of": columns_of,
+            "growths": lambda: growths_of(capture), "axis": lambda: axis_of(capture),
             "has_stacks": groups.stacks.are_there, "gone": shown.gone}
 
 

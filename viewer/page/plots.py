@@ -45,18 +45,30 @@ def growth_of(capture: Capture, group: int) -> Plot | None:
     return steps(values)
 
 
-def edges_of(capture: Capture) -> list[float]:
-    """When each of the 16 slices of the capture begins, and when the capture ends, from 0 to 1; as wide as one another
-    without times."""
+def begins_of(capture: Capture) -> list[int]:
+    """When each of the 16 slices of the capture begins, and when the capture ends; nothing without times."""
     first, last, until = (capture.facts.get(key) for key in ("first_seq", "last_seq", "until_ts"))
     if first is None or until is None or last - first < 16:
-        return EVEN
+        return []
     begins = [ts for ts, in capture.ask("SELECT (SELECT ts FROM side_time WHERE seq >= first_seq ORDER BY seq LIMIT 1)"
                                         " FROM raw_slice ORDER BY slice")]
-    if None in begins:
+    return [] if None in begins else [*begins, until]
+
+
+def axis_of(capture: Capture) -> list[int]:
+    """When the axis of growth begins and ends; nothing without times."""
+    times = begins_of(capture)
+    return [times[0], times[-1]] if times else []
+
+
+def edges_of(capture: Capture) -> list[float]:
+    """Where on its axis each of the 16 slices of the capture begins and the last one ends, from 0 to 1; as wide as one
+    another without times."""
+    times = begins_of(capture)
+    if not times:
         return EVEN
-    whole = max(until - begins[0], 1)
-    return [min(max((ts - begins[0]) / whole, 0), 1) for ts in (*begins, until)]
+    whole = max(times[-1] - times[0], 1)
+    return [min(max((ts - times[0]) / whole, 0), 1) for ts in times]
 
 
 def growths_of(capture: Capture) -> list[tuple]:

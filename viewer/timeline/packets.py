@@ -11,7 +11,7 @@ from operator import call
 from typing import Mapping
 
 from viewer.timeline.call_stacks import CallStacks
-from viewer.timeline.clocks import Moment
+from viewer.clocks import Moment
 from viewer.timeline.events import ARGUMENTS, CATEGORIES, SORTS, VERBS, Called, Finding, Process, Thread
 from viewer.timeline.interned import CATEGORY, CATEGORY_NAMES, EVENT_NAME, EVENT_NAMES, Interned, Known
 from viewer.timeline.packed import File

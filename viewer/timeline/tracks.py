@@ -3,7 +3,7 @@
 import sqlite3
 from typing import NamedTuple
 
-from viewer.timeline.clocks import Boottime, moments_of
+from viewer.clocks import boottime_of, moments_of
 
 # A double has whole numbers up to here.
 EXACT = 2**53
@@ -53,7 +53,7 @@ class Axis:
                                     ).fetchone()
         self.timed = earliest is not None
         self.moments = moments_of(database) if self.timed else []
-        self.boottime = Boottime(self.moments)
+        self.boottime = boottime_of(self.moments)
         end = 0 if self.last is None else self.last % 2**64
         self.base = 0 if end < EXACT // 1000 else first % 2**64
         self.untimed = self.raised = 0

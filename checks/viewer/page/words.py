@@ -173,7 +173,7 @@ def check_told(folder: pathlib.Path, room: pathlib.Path, fail: Fail) -> None:
                     "It has lasted 573 ms, none of its path came to a good end.", "after 103, at 614 ms",
                     "client 1794 1 service 1792 0x1000 1 call 13 0 0 0 0 1 1.96 ms all", "most 2, ended with 1"),
            "quarter": ("5 of 20", "the longest of its path that came to a good end"),
-           "dead-user": ("3180 client 1857 thread 1857 short-lived 1856 1 failed",
+           "dead-user": ("client 1857 thread 1857 short-lived 1856 1 failed",
                          "client 1857 1 short-lived 1856 0x1000 1 call 6 3 0 ")}
     for name, texts in due.items():
         shown = room / f"{name}.html"

@@ -1,9 +1,9 @@
--- Calls that are not answered, and the 50 that took longest, by time or else by frames, with what became of each, and
--- how long it took from the send to the delivery. ?1: the most rows.
+-- Calls that are not answered, and the 50 that took longest, by time or else by frames, with what became of each, when
+-- it was sent, and how long it took from the send to the delivery. ?1: the most rows.
 -- needs: database/schema.sql: raw_call, raw_delivery, raw_record, raw_send, raw_thread, side_time;
 --   database/numbers.sql: verdict; rules/nodes.sql: node_of
 -- makes: columns: place, upid, thread, handle, code, verdict, closer, dur_seq, dur, delivery, fits, server, reply,
---   delay_seq, delay, node_upid, ptr, interface
+--   delay_seq, delay, node_upid, ptr, interface, ts
 WITH asked AS (
   SELECT place, utid, verdict, closer, dur_seq, seq FROM raw_call WHERE served = 0 AND verdict <> 1
   UNION ALL SELECT * FROM (SELECT c.place, c.utid, c.verdict, c.closer, c.dur_seq, c.seq FROM raw_call c
@@ -15,7 +15,8 @@ SELECT c.place, t.upid, t.thread, r.handle, r.code, v.name AS verdict, c.closer,
   coalesce((SELECT g.upid FROM raw_delivery d JOIN raw_thread g USING (utid) WHERE d.place = s.delivery), n.upid)
     AS server,
   (SELECT k.closer FROM raw_call k WHERE k.place = s.delivery) AS reply, d.seq - c.seq AS delay_seq,
-  y.ts - x.ts AS delay, coalesce(n.upid, -t.upid) AS node_upid, coalesce(n.ptr, r.handle) AS ptr, r.interface
+  y.ts - x.ts AS delay, coalesce(n.upid, -t.upid) AS node_upid, coalesce(n.ptr, r.handle) AS ptr, r.interface,
+  x.ts
 FROM asked c JOIN raw_thread t USING (utid) JOIN raw_record r USING (place) JOIN verdict v ON v.number = c.verdict
   LEFT JOIN raw_send s USING (place) LEFT JOIN raw_delivery d ON d.place = s.delivery
   LEFT JOIN node_of n ON n.generation = s.generation
