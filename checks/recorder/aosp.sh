@@ -7,7 +7,7 @@
 #
 #     --room FOLDER      where packages and results are kept; by default a temporary folder that is removed
 #     --recorder FILE    a recorder that is already built; by default `./record` builds it
-#     --kernel SERIES    only 6.1, 6.12 or newest, which is Debian sid's; by default 6.1 and newest
+#     --kernel SERIES    only 5.10, 6.1, 6.12 or newest, which is Debian sid's; by default 6.1 and newest
 #     --rust             only a kernel with the driver in Rust, which is built if there is none yet: rust_kernel.sh
 #     --only NAME        only this line of the plan; may be given several times
 #     --limit SECONDS    how long a guest may take; by default 1800
@@ -138,7 +138,7 @@ boot() { # KERNEL PLAN OUT
   # servicemanager asks for the security contexts of those that call it.
   # shellcheck disable=SC2086
   timeout "$limit" nice -n "$(($(nice) < 10 ? 10 - $(nice) : 0))" $emulator -m 3G -smp 4 -nographic -no-reboot \
-    -nodefaults -serial stdio -kernel "$(find "$1/" -name 'vmlinuz*' | head -n 1)" -initrd "$room/initramfs.gz" \
+    -nodefaults -serial stdio -kernel "$(bootable "$1")" -initrd "$room/initramfs.gz" \
     -drive "file=$room/disk,format=raw,if=virtio" \
     -append "$words panic=-1 quiet rdinit=/init security=selinux selinux=1" </dev/null >"$3/console" 2>&1 || true
   tar xif "$room/disk" -C "$3" 2>/dev/null || true	# several archives, with zeros between them

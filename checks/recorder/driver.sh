@@ -25,6 +25,7 @@
 #                        NAME-rust
 #     --blind FOLDER     records the sessions of a blind test set, which this folder has, instead, and judges nothing:
 #                        blind/play.sh
+#     --aosp             plays AOSP's own code instead, by `checks/run aosp`, whose options it takes
 #
 # If a comparison fails, it says which one and ends with status 1.
 set -euo pipefail
@@ -33,7 +34,7 @@ here=$(readlink -f -- "${BASH_SOURCE[0]}")
 root=${here%/*/*/*}
 scenarios=$root/checks/recorder/scenarios check=driver
 limit=900 flight=20 room= recorder= auditor= built= append= words_of_recorder=
-store= arm64= rust= sanitize= blind=
+store= arm64= rust= sanitize= blind= aosp=
 # One thread for all processors: with a thread for each, the kernel 6.12 died of a breakpoint that it had removed.
 acceleration='-accel tcg,thread=single -cpu max'
 series=(6.1 6.12 newest 5.10)
@@ -43,6 +44,12 @@ stored_of_rust=(clean leaks objects deaths oneway before cut fork outsider two-d
 source "$root/checks/recorder/guests.sh"
 # shellcheck source=checks/recorder/rust_kernel.sh
 source "$root/checks/recorder/rust_kernel.sh"
+
+words_of_aosp=()
+for word; do
+  if [[ $word == --aosp ]]; then aosp=1; else words_of_aosp+=("$word"); fi
+done
+if [[ -n $aosp ]]; then exec bash "$root/checks/recorder/aosp.sh" "${words_of_aosp[@]}"; fi
 
 while (($#)); do
   case $1 in
