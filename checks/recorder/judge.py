@@ -24,8 +24,9 @@ The set's expected.txt says what is expected of each session; it was written bef
 
 Of each recording that is kept, SERIES.txt beside its archive has for each session the lines that are `real` or `maybe`,
 in their order, with what each one is by the expectation, its rules and the culprits, and then what is not as expected.
-Nothing may differ from that. As a check of the table and of the judge itself, no fault may be found in the lines of
-another session, and the lines of a fault are wrong in a healthy session.
+Nothing may differ from that, and all sessions of expected.txt are there, recorded or with a reason why they are not. As
+a check of the table and of the judge itself, no fault may be found in the lines of another session, and the lines of a
+fault are wrong in a healthy session.
 """
 
 import argparse
@@ -34,18 +35,16 @@ import os
 import pathlib
 import shutil
 from concurrent.futures import ProcessPoolExecutor
-from typing import Iterator
 
 from checks.kit.checking import FLAG, Fail, check
 from checks.kit.programs import AUDITOR, built_programs
 from checks.kit.stored import renew
-from checks.recorder.blind.expected import blocks_of, expectations
+from checks.recorder.blind.came import (
+    Came, all_names, came_of, file_beside, names_of, not_recorded, stored_beside, text_of, unlike)
+from checks.recorder.blind.expected import expectations
 from checks.recorder.blind.judged import Judged, lenient, viewed
 from checks.recorder.blind.recordings import STORED, SUFFIX, Recording, pack, stored_archives, unpack
 from checks.recorder.blind.table import MEASURED, table_in_measured, table_of, with_table
-
-# What came of a recording: a session by its name.
-Came = dict[str, list[str]]
 
 
 def sessions_of(recording: Recording, fail: Fail) -> list[pathlib.Path]:
@@ -71,54 +70,25 @@ def judge_all(recordings: list[Recording], room: pathlib.Path, keep: pathlib.Pat
             for expected in [expectations(recording.home / "expected.txt")]]
 
 
-def came_of(judged: list[Judged]) -> Came:
-    return {one.expected.name: [*one.told(), *one.complaints()] for one in judged}
-
-
-# ---- what is stored of the recordings
-
-
-def stored_of(text: pathlib.Path) -> Came:
-    return {name: [line.strip() for line in lines] for name, lines in blocks_of(text).items()}
-
-
-def text_of(came: Came) -> str:
-    return "".join(f"{name}\n" + "".join(f"    {line}\n" for line in lines) for name, lines in came.items())
-
-
-def names() -> list[str]:
-    """The sessions of all recordings that are kept."""
-    return [f"{text.parent.name}/{text.stem}/{name}" for archive in stored_archives()
-            for text in [stored_text(archive)] for name in stored_of(text)]
-
-
-def stored_text(archive: pathlib.Path) -> pathlib.Path:
-    return archive.with_name(archive.name.removesuffix(SUFFIX) + ".txt")
-
-
-def unlike(of: str, came: Came, due: Came) -> Iterator[str]:
-    """The sessions of which something else came than is due."""
-    for name in sorted(came.keys() | due.keys()):
-        was, is_now = ("; ".join(lines[name]) or "nothing" if name in lines else "no session" for lines in (due, came))
-        if was != is_now:
-            yield f"{of}/{name}: expected {was}, came {is_now}"
-
-
 # ---- the recordings that are kept, and others
 
 
 def judge_kept(given: argparse.Namespace, room: pathlib.Path, pool: ProcessPoolExecutor, fail: Fail) -> None:
     """Judges those of samples/blind, and compares what came with what is stored, or renews that."""
     keep = given.keep or room
-    recordings = list(pool.map(functools.partial(unpack, room=keep, cases=given.cases), stored_archives()))
+    cases = given.cases if given.named else None
+    recordings = list(pool.map(functools.partial(unpack, room=keep, cases=cases), stored_archives()))
     all_judged = judge_all(recordings, room, keep, pool, fail)
     for archive, recording, judged in zip(stored_archives(), recordings, all_judged):
-        came, text = came_of(judged), stored_text(archive)
+        came, due = came_of(judged), stored_beside(archive)
         if given.print and not given.named:
-            renew(text, text_of(came))
-        due = {name: lines for name, lines in stored_of(text).items() if f"{recording.name}/{name}" in given.cases}
-        for difference in unlike(recording.name, came, due):
+            due = not_recorded(due) | came
+            renew(file_beside(archive), text_of(due))
+        names = [name for name in names_of(archive) if f"{recording.name}/{name}" in given.cases]
+        for difference in unlike(recording.name, names, came, due):
             fail(difference)
+        for name in (not_recorded(due).keys() & set(names)) - came.keys() if given.named else ():
+            print(f"{recording.name}/{name}: {'; '.join(due[name])}", flush=True)
     if given.named:
         show(all_judged)
         return
@@ -170,7 +140,7 @@ def store(recording: Recording, came: Came) -> None:
             shutil.copyfile(recording.home / name, to / name)
     archive = to / f"{recording.series}{SUFFIX}"
     pack(recording, archive)
-    stored_text(archive).write_text(text_of(came), "utf-8")
+    file_beside(archive).write_text(text_of(came), "utf-8")
 
 
 def judge(given: argparse.Namespace, room: pathlib.Path, fail: Fail) -> None:
@@ -183,5 +153,5 @@ def judge(given: argparse.Namespace, room: pathlib.Path, fail: Fail) -> None:
 
 if __name__ == "__main__":
     folder = {"type": lambda word: pathlib.Path(os.path.abspath(word)), "metavar": "FOLDER"}
-    check(judge, names, set=folder, recorded={**folder, "action": "append", "default": []}, store=FLAG, print=FLAG,
+    check(judge, all_names, set=folder, recorded={**folder, "action": "append", "default": []}, store=FLAG, print=FLAG,
           keep=folder)

@@ -104,15 +104,16 @@ def pack(recording: Recording, archive: pathlib.Path) -> None:
             packed.addfile(member, io.BytesIO(content))
 
 
-def unpack(archive: pathlib.Path, room: pathlib.Path, cases: list[str]) -> Recording:
-    """The recording of an archive of a set, in a new folder of the room, with the sessions that are cases."""
+def unpack(archive: pathlib.Path, room: pathlib.Path, cases: list[str] | None) -> Recording:
+    """The recording of an archive of a set, in a new folder of the room, with the sessions that are cases, or all."""
     recording = Recording(archive.parent, archive.name.removesuffix(SUFFIX), room)
     recording = recording._replace(folder=room / recording.name)
     recording.folder.mkdir(parents=True)
     with tarfile.open(archive) as packed:
         packed.extractall(recording.folder, [
             member for member in packed
-            if member.name == "kernel" or f"{recording.name}/{member.name.partition('/')[0]}" in cases])
+            if cases is None or member.name == "kernel"
+            or f"{recording.name}/{member.name.partition('/')[0]}" in cases])
     return recording
 
 
