@@ -15,6 +15,7 @@ import os
 import pathlib
 import re
 import subprocess
+from concurrent.futures import ThreadPoolExecutor
 from typing import Iterator
 
 from checks.kit.checking import Fail, check
@@ -50,14 +51,21 @@ def words_of(tool: str) -> list[str]:
     return [tool, "--format=gcc", *sources((".sh", ".bash"), SHELL)]
 
 
+def faults_of(tool: str) -> list[str]:
+    ended = subprocess.run(words_of(tool), cwd=ROOT, stdin=subprocess.DEVNULL, stdout=subprocess.PIPE,
+                           stderr=subprocess.STDOUT, encoding="utf-8", errors="replace")
+    if ended.returncode and not ended.stdout:
+        return [f"status {ended.returncode}"]
+    return ended.stdout.splitlines()
+
+
 def judge(given: argparse.Namespace, _: pathlib.Path, fail: Fail) -> None:
-    for tool in [given.tool] if given.tool else TOOLS:
-        ended = subprocess.run(words_of(tool), cwd=ROOT, stdin=subprocess.DEVNULL, stdout=subprocess.PIPE,
-                               stderr=subprocess.STDOUT, encoding="utf-8", errors="replace")
-        for line in ended.stdout.splitlines():
-            fail(f"{tool}: {line}")
-        if ended.returncode and not ended.stdout:
-            fail(f"{tool}: status {ended.returncode}")
+    """Runs the linters side by side."""
+    tools = [given.tool] if given.tool else TOOLS
+    with ThreadPoolExecutor(len(tools)) as pool:
+        for tool, faults in zip(tools, pool.map(faults_of, tools)):
+            for fault in faults:
+                fail(f"{tool}: {fault}")
 
 
 if __name__ == "__main__":
