@@ -1,7 +1,8 @@
 -- A, C, T, U: calls and served calls that are open.
 -- needs: database/schema.sql: finding, raw_call, raw_delivery, raw_thread, side_time; nodes.sql: who; records.sql:
 --   from_before; paths.sql: path_of; ages.sql: ended, last, life, old; rule.sql: lossy; waits.sql: full_pool,
---   lock_ring, own_ring, pool, ring, step, waited, waits, waits_for; pools.sql: full_wait; judging.py: counted
+--   lock_ring, own_ring, pool, ring, step, waited, waits, waits_for; pools.sql: full_wait; judging.py: counted,
+--   duration
 -- makes: temporary tables: keeps_busy
 
 -- ---- what findings are called
@@ -149,3 +150,7 @@ UPDATE finding SET note = iif(waiting > 0, counted(waiting, 'waits', 'wait') || 
     WHERE l.id = finding.id), '')
 FROM waits w WHERE w.id = finding.id AND rule IN ('B1', 'C3', 'C4', 'C5', 'C6', 'C8', 'C9', 'C10', 'U2');
 UPDATE finding SET rule = 'C4' WHERE rule IS NULL AND section = 'served' AND what = 'open';
+-- How long what hangs has been open, at least: the recording ended before it did.
+UPDATE finding SET note = 'open for ≥ ' || duration(age) || coalesce('; ' || note, '')
+WHERE rule IN ('B1', 'C3', 'C4', 'C5', 'C6', 'C7', 'C8', 'C9', 'C10', 'U2') AND section IN ('calls', 'served', 'books')
+  AND what = 'open' AND age NOTNULL;

@@ -50,8 +50,8 @@ def with_set_clock(text: str) -> str:
 
 
 def check_moments(folder: pathlib.Path, room: pathlib.Path, fail: Fail) -> None:
-    """Groups, calls, what a thread did and the axis of growth have times, and the head has those of the recording.
-    Without a side list nothing does."""
+    """Groups, calls, what a thread did and the axis of growth have times, and the head has those of the recording; a
+    call that hangs has its age. Without a side list nothing has a time."""
     capture, text = texts_stored("hello-stuck")
     (room / "set.cap").write_bytes(capture)
     (room / "set.side").write_text(with_set_clock(text), "utf-8")
@@ -62,6 +62,7 @@ def check_moments(folder: pathlib.Path, room: pathlib.Path, fail: Fail) -> None:
     first, stuck, waits = side.moment(1), side.moment(177), side.moment(198)
     for what, due in (("a group", f"16,172 {stuck}"), ("another group", f"18,140 {waits}"),
                       ("a call", f"16172 {stuck} client 451"),
+                      ("a call that hangs", "IHello code 6 open ≥ 3.18 s"),
                       ("what a thread did", f"16172 177 {stuck} ┌ BC_TRANSACTION"),
                       ("the axis of growth", f"buffers {first} "),
                       ("the zone", "seq at XST "),

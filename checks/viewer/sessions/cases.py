@@ -43,7 +43,7 @@ def case(due, *words, has_side=True, **given):
 # ---- calls that wait
 
 
-@case("C4:1 A1:2", "has done nothing since", "C4 by service 100: 1", wait=200)
+@case("C4:1 A1:2", "(open for ≥ 201 ms; service 100 got it at", "has done nothing since", "C4 by service 100: 1", wait=200)
 @case("U6:1 A1:2", "U6 by service 100: 1", wait=50)
 def never_answered(s, wait):
     service, client = s.two()
@@ -289,7 +289,7 @@ def pool_of_a_flight_recorder(s, serves, replies=0, ends=False, process=100, nes
 
 
 @case("C5:2", "not got: a looper is in a call from before the capture", serves=1)
-@case("C5:2", "(not got)", serves=0)
+@case("C5:2", "; not got)", serves=0)
 def only_looper_serves_on(s, serves):
     """The only looper of a service got a call before the first file of a flight recorder, and never answers. Two calls
     wait. Another thread of the service only makes calls."""

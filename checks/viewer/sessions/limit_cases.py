@@ -54,11 +54,11 @@ NO_LOOPER = "not got: none of its threads has said that it takes calls, and the 
 
 
 @case("C5:1 W3:1", NO_LOOPER, "C5 by other 300: 1", driver="Rust")
-@case("C5:1 W3:1", "(not got)", driver="C")
-@case("C5:1 W3:1", "(not got)", driver="Rust", says="other")
+@case("C5:1 W3:1", "; not got)", driver="C")
+@case("C5:1 W3:1", "; not got)", driver="Rust", says="other")
 @case("U6:2", driver="Rust", wait=20)
-@case("C5:1 W3:1", "(not got)", driver="Rust", met="in-mid-life")
-@case("C5:1 W3:1", "(not got)", driver="Rust", loses=True)
+@case("C5:1 W3:1", "; not got)", driver="Rust", met="in-mid-life")
+@case("C5:1 W3:1", "; not got)", driver="Rust", loses=True)
 def threads_that_say_nothing(s, driver, says=None, met="from-start", wait=1100, loses=False):
     """No thread of a service says that it takes calls, or one says so that does not read, and a call and a oneway send
     wait."""

@@ -52,7 +52,7 @@ def holds_a(s, calls, told=None):
         client.main.answered(service.main.replies(address, string16(told)))
 
 
-@case("C5:1", "IOne code 7 to handle 9 (not got")
+@case("C5:1", "IOne code 7 to handle 9 (open for ≥ ")
 def hangs_nowhere(s):
     """A call to a handle whose node is not known."""
     _, client = s.two()
@@ -194,7 +194,7 @@ def keeps_replies_of_service(s):
     s.wait(200)
 
 
-@case("C5:1", "IOne code 7 to handle 9 hello (not got")
+@case("C5:1", "IOne code 7 to handle 9 hello (open for ≥ ")
 def hangs_at_unknown_node(s):
     """A call to a service whose process is not known."""
     manager, client = s.two(met="in-mid-life")

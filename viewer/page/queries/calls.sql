@@ -1,6 +1,7 @@
 -- Calls that are not answered, and the 50 that took longest, by time or else by frames, with what became of each, when
--- it was sent, and how long it took from the send to the delivery. ?1: the most rows.
--- needs: database/schema.sql: raw_call, raw_delivery, raw_record, raw_send, raw_thread, side_time;
+-- it was sent, and how long it took from the send to the delivery. An open call has the age that it had at the end, or
+-- at the end of its thread. ?1: the most rows.
+-- needs: database/schema.sql: finding, raw_call, raw_delivery, raw_record, raw_send, raw_thread, side_time;
 --   database/numbers.sql: verdict; rules/nodes.sql: node_of
 -- makes: columns: place, upid, thread, handle, code, verdict, closer, dur_seq, dur, delivery, fits, server, reply,
 --   delay_seq, delay, node_upid, ptr, interface, ts
@@ -10,7 +11,8 @@ WITH asked AS (
       LEFT JOIN side_time x ON x.seq = c.seq LEFT JOIN side_time z ON z.seq = c.seq + c.dur_seq
     WHERE c.served = 0 AND c.verdict = 1 ORDER BY z.ts - x.ts DESC, c.dur_seq DESC LIMIT 50)
   LIMIT ?1)
-SELECT c.place, t.upid, t.thread, r.handle, r.code, v.name AS verdict, c.closer, c.dur_seq, z.ts - x.ts AS dur,
+SELECT c.place, t.upid, t.thread, r.handle, r.code, v.name AS verdict, c.closer, coalesce(c.dur_seq, o.age_seq) AS dur_seq,
+  coalesce(z.ts - x.ts, o.age) AS dur,
   s.delivery, s.fits,
   coalesce((SELECT g.upid FROM raw_delivery d JOIN raw_thread g USING (utid) WHERE d.place = s.delivery), n.upid)
     AS server,
@@ -22,4 +24,5 @@ FROM asked c JOIN raw_thread t USING (utid) JOIN raw_record r USING (place) JOIN
   LEFT JOIN node_of n ON n.generation = s.generation
   LEFT JOIN side_time x ON x.seq = c.seq LEFT JOIN side_time y ON y.seq = d.seq
   LEFT JOIN side_time z ON z.seq = c.seq + c.dur_seq
-ORDER BY c.verdict = 1, z.ts - x.ts DESC, c.dur_seq DESC
+  LEFT JOIN (SELECT place, age, age_seq FROM finding WHERE section = 'calls' AND what = 'open') o USING (place)
+ORDER BY c.verdict = 1, coalesce(z.ts - x.ts, o.age) DESC, coalesce(c.dur_seq, o.age_seq) DESC
