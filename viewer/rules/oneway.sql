@@ -1,6 +1,6 @@
 -- W, E3, U1: oneway sends that never came, and the buffers that they wait for.
--- needs: database/schema.sql: finding, raw_delivery, raw_record, raw_thread, side_time; ages.sql: ended, old,
---   process_life; rule.sql: lossy; limits.sql: no_looper; judging.py: counted
+-- needs: database/schema.sql: finding, raw_delivery, raw_record, raw_thread, side_time; records.sql: to_frozen;
+--   ages.sql: ended, old, process_life; rule.sql: lossy; limits.sql: no_looper; judging.py: counted
 -- after: buffers.sql
 -- makes: temporary tables: last_oneway
 
@@ -28,11 +28,35 @@
 --   rests on: OLD, LONG, ENOUGH, VERY_LONG
 --   met by: `oneway_handler()`: a handler is at work for 1100 ms, and a send waits
 --   fault: oneway handlers at work
+-- W7 explained: Its receiver was frozen: the driver keeps it until the thaw.
+--   rests on: TOO_MANY, VERY_LONG
+--   met by: `sends_to_the_frozen()`: nine sends
+--   fault: oneway sends to what is frozen
+-- W8 maybe: Its receiver was frozen, and this process went on: {TOO_MANY} such sends or more, for over {VERY_LONG}.
+--   next: whether the sender can tell that the receiver is frozen, and stop or drop what it sends
+--   rests on: TOO_MANY, VERY_LONG
+--   met by: `sends_to_the_frozen()`: ten sends in 1.1 s
+--   fault: oneway sends to what is frozen
 
 -- ---- what they say of which finding
 
 UPDATE finding SET rule = 'W1' WHERE rule IS NULL AND section = 'oneway'
   AND (SELECT flags & :TF_UPDATE_TXN FROM raw_record r WHERE r.place = finding.place);
+-- What one process sent to another one that was frozen, of one code.
+UPDATE finding SET
+  rule = iif(n >= :TOO_MANY AND coalesce(lasted > :VERY_LONG, 0), 'W8', 'W7'),
+  said = '{who} was frozen' || iif(n = 1, '', ' when {how_many:send} with {of_how_many:byte} were sent'
+    || iif(lasted > 0, ', within {how_long}', '')),
+  other_upid = target,
+  how_many = n,
+  of_how_many = bytes,
+  how_long = lasted
+FROM (SELECT f.id, count(*) OVER alike AS n, sum(r.data_size) OVER alike AS bytes,
+    max(x.ts) OVER alike - min(x.ts) OVER alike AS lasted
+  FROM finding f JOIN raw_record r USING (place) LEFT JOIN side_time x ON x.seq = f.seq
+  WHERE f.section = 'oneway' AND f.rule IS NULL AND f.place IN (SELECT place FROM to_frozen)
+  WINDOW alike AS (PARTITION BY f.upid, f.target, f.code)) z
+WHERE z.id = finding.id;
 UPDATE finding SET rule = 'E3' WHERE rule IS NULL AND section = 'oneway' AND finding.id IN (SELECT id FROM ended);
 UPDATE finding SET rule = 'U1' WHERE rule IS NULL AND section = 'oneway' AND n_good >= :ENOUGH
   AND coalesce(age <= :USUAL * longest, age_seq <= :USUAL * longest_seq);

@@ -3,8 +3,8 @@
 -- needs: database/schema.sql: book_open, finding, raw_call, raw_delivery, raw_generation, raw_record, raw_send,
 --   raw_thread, report; database/views.sql: delivery, status; nodes.sql: node_of
 -- after: freeze_facts.sql
--- makes: temporary tables: from_before, dead_record, told_death, asked; indexes: dead_cookie, dead_handle, dead_place,
---   told_generation, asked_node
+-- makes: temporary tables: to_frozen, from_before, dead_record, told_death, asked; indexes: to_frozen_place,
+--   dead_cookie, dead_handle, dead_place, told_generation, asked_node
 
 -- ---- findings that are not rows of the report
 
@@ -21,6 +21,12 @@ FROM (SELECT 1 FROM report WHERE section = 'codes' AND text LIKE '% BR_ONEWAY_SP
   CROSS JOIN raw_send s JOIN raw_record k ON k.place = s.confirmed AND k.kind = :BR_ONEWAY_SPAM_SUSPECT
   JOIN raw_record r ON r.place = s.place JOIN raw_thread t ON t.utid = s.utid
 WHERE s.generation NOTNULL;
+-- Oneway sends to a process that was frozen, as the driver said when it took them: it keeps them until the thaw.
+CREATE TEMP TABLE to_frozen AS
+SELECT s.place FROM (SELECT 1 FROM report WHERE section = 'codes' AND text LIKE '% BR_TRANSACTION_PENDING_FROZEN %'
+    LIMIT 1) CROSS JOIN raw_send s JOIN raw_record k ON k.place = s.confirmed
+WHERE k.kind = :BR_TRANSACTION_PENDING_FROZEN;
+CREATE UNIQUE INDEX temp.to_frozen_place ON to_frozen(place);
 -- Calls that were answered with a status. libgbinder also sends 0, which is no error.
 INSERT INTO finding(section, what, place, upid, handle, code)
 SELECT 'answers', 'status', r.place, t.upid, r.handle, r.code

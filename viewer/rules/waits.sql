@@ -1,7 +1,7 @@
 -- What open calls wait for, and what the threads do that could take them.
 -- needs: database/schema.sql: book_call, book_open, book_process, finding, raw_call, raw_process, raw_record, raw_send,
 --   raw_thread, side_calls, side_thread, side_time; database/views.sql: came_to, process, sent_to, thread; records.sql:
---   from_before; ages.sql: last, life, old, process_life; judging.py: call_name, duration
+--   from_before, to_frozen; ages.sql: last, life, old, process_life; judging.py: call_name, duration
 -- after: counts.sql
 -- makes: temporary tables: waits, few, waits_for, main_thread, ring_step, ring, lock_step, lock_way, lock_ring,
 --   own_ring, serves_on, queued, loop, taker, taken, came, holder, pool, full_pool, step, waited; indexes: waits_id,
@@ -120,13 +120,14 @@ WHERE coalesce(l.ended_after = last.seq, 1) AND coalesce(s.ended_after >= last.s
   AND c.served > (SELECT count(*) FROM finding f JOIN raw_record r USING (place)
     WHERE f.section = 'strays' AND f.utid = t.utid AND r.kind IN (:BC_REPLY, :BC_REPLY_SG));
 
--- What was sent to a process and waits there: calls and oneway sends that nobody got.
+-- What was sent to a process and waits there: calls and oneway sends that nobody got, but not what waits for a thaw.
 CREATE TEMP TABLE queued(id INTEGER, place INTEGER, upid INTEGER);
 INSERT INTO queued
 SELECT w.id, w.place, w.server_upid AS upid FROM waits w
 WHERE w.delivery IS NULL AND w.server_upid NOTNULL
   AND NOT EXISTS (SELECT 1 FROM waits x WHERE x.server = w.utid AND x.upid = w.server_upid)
-UNION ALL SELECT id, place, target FROM finding WHERE section = 'oneway';
+UNION ALL SELECT id, place, target FROM finding
+WHERE section = 'oneway' AND place NOT IN (SELECT place FROM to_frozen);
 CREATE INDEX temp.queued_at ON queued(upid);
 -- The threads of such a process that may take calls and had not ended at the last frame: those that said that they are
 -- loopers, those that were seen to take one, and those that serve one from before the capture. How many there may be at
