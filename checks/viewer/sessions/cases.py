@@ -43,7 +43,8 @@ def case(due, *words, has_side=True, **given):
 # ---- calls that wait
 
 
-@case("C4:1 A1:2", "(open for ≥ 201 ms; service 100 got it at", "has done nothing since", "C4 by service 100: 1", wait=200)
+@case("C4:1 A1:2", "(open for ≥ 201 ms; service 100 got it at", "has done nothing since", "C4 by service 100: 1",
+      wait=200)
 @case("U6:1 A1:2", "U6 by service 100: 1", wait=50)
 def never_answered(s, wait):
     service, client = s.two()

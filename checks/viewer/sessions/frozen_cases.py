@@ -64,8 +64,8 @@ def told_late(s, answer):
         service.main.frees(service.main.gets(one))
 
 
-@case("A1:2 C4:1 W7:2", "(service 100 got it at ", answer=PENDING)
-@case("A1:2 C4:1 W3:2", "(2 wait for it; service 100 got it at ", answer=DONE)
+@case("A1:2 C4:1 W7:2", "s; service 100 got it at ", answer=PENDING)
+@case("A1:2 C4:1 W3:2", "s; 2 wait for it; service 100 got it at ", answer=DONE)
 def told_in_a_call(s, answer):
     """A service serves a call when it is frozen, and what is sent to it does not wait for its looper. Or it hangs."""
     service, client = s.two()
