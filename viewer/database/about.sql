@@ -63,4 +63,10 @@ INSERT INTO about VALUES
   ('defect', 'inferred', 'what is wrong, which process causes it, on which path; id is the same in another capture'),
   ('finding_defect', 'inferred', 'which defect a finding is'),
   ('talk', 'inferred', 'traffic by the names that are the same in another capture'),
-  ('traffic', 'inferred', 'who talks to whom: a generation of a handle, a code, and how much');
+  ('traffic', 'inferred', 'who talks to whom: a generation of a handle, a code, and how much'),
+  ('txn', 'inferred', 'a transaction with both ends: times, names, sizes and outcome'),
+  ('holder', 'inferred', 'who holds whose object at the end, also by what the driver''s books have of the beginning'),
+  ('death_request', 'inferred', 'who asked to be told of whose death, and what ended the request'),
+  ('fd_sent', 'inferred', 'descriptors that were sent: from whom, to whom, with which call'),
+  ('looper', 'inferred', 'threads that take calls, and what each serves and calls at the end'),
+  ('sender', 'inferred', 'how much each process sends, and at which rate');

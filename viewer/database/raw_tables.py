@@ -15,7 +15,7 @@ from viewer.program_names import LIBRARY, PACKED, called
 FOLDER = pathlib.Path(__file__).resolve().parent
 
 # The files that make the tables and the views of a new database, in order.
-SCHEMA = ("schema.sql", "numbers.sql", "views.sql", "about.sql")
+SCHEMA = ("schema.sql", "numbers.sql", "views.sql", "joined_views.sql", "about.sql")
 
 # The layout of the raw tables in schema.sql. `./listing` writes that of its rows into the table `capture`.
 LAYOUT = 5

@@ -6,7 +6,7 @@
 -- Since version 7, program, call_text, defect, finding_defect, talk, book_process, book_open, book_stats, and the
 -- columns fault of rule, culprit of finding, driver of device and of book_opening, and those of freeze notifications in
 -- book_opening are new; the notifications have their names in record; what the driver in Rust does not tell is NULL.
--- Since version 9, package and the column bits of thread are new.
+-- Since version 9, package, txn, holder, death_request, fd_sent, looper, sender and the column bits of thread are new.
 -- needs: nothing
 -- makes: tables: raw_capture, raw_process, raw_thread, raw_frame, raw_record, raw_interface, raw_service, raw_object,
 --   raw_call, raw_generation, raw_send, raw_delivery, raw_slice, raw_level, side_device, side_process, side_thread,
@@ -19,7 +19,7 @@ PRAGMA user_version = 9;
 
 -- ---- raw tables: the rows that `./listing --tables` writes, column by column
 --
--- docs/DATABASE.md has the form of a row. These tables may change; the views in views.sql may not. A change of a
+-- docs/DATABASE.md has the form of a row. These tables may change; the views may not. A change of a
 -- column, of its meaning or of the order raises the layout, here, in raw_tables.py and in ending.rt of listing_tables.
 -- They are not STRICT: the loader has only whole numbers and texts, and checking each took a quarter of its time.
 --

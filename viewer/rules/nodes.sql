@@ -2,7 +2,7 @@
 -- needs: database/schema.sql: book_handle, raw_call, raw_delivery, raw_generation, raw_object, raw_process, raw_record,
 --   raw_send, raw_thread, side_device; database/views.sql: device, process
 -- makes: tables: who, peer, node_of; temporary tables: handed, passed_on, manager; indexes: call_of_thread,
---   object_of_record, send_refused, generation_of_handle, passed_on_from
+--   object_of_record, send_refused, generation_of_handle, passed_on_from, node_of_object
 
 -- ---- indexes: a query below, or one of the page, was slow without them
 
@@ -83,6 +83,8 @@ SELECT g.id, m.upid, m.ptr, m.cookie, m.certain FROM raw_generation g JOIN raw_p
   SELECT q.device, n.* FROM node_of n JOIN raw_generation o ON o.id = n.generation JOIN raw_process q ON q.upid = o.upid
   WHERE o.handle = 0 GROUP BY q.device HAVING count(DISTINCT n.upid) = 1) m ON m.device = p.device
 WHERE g.handle = 0 AND g.id NOT IN (SELECT generation FROM node_of);
+-- Who holds an object is asked of it.
+CREATE INDEX node_of_object ON node_of(upid, ptr);
 
 CREATE TEMP TABLE manager AS
 SELECT DISTINCT n.upid FROM node_of n JOIN raw_generation g ON g.id = n.generation WHERE g.handle = 0;

@@ -47,7 +47,7 @@ def wrong_types(database: sqlite3.Connection, name: str, told: Told) -> list[str
     """The columns whose values have another type than the page says."""
     wrong = []
     for column, kind in told.types.items():
-        of = "text" if kind == "text" else "integer"
+        of = kind if kind in ("text", "real") else "integer"
         held = {found for found, in database.execute(f'SELECT DISTINCT typeof("{column}") FROM {name}')} - {"null"}
         if kind != "any" and held - {of}:
             wrong.append(f"{column} has {', '.join(sorted(held))}")

@@ -135,6 +135,28 @@ def claims(report: str) -> Iterator[Claim]:
                 " (SELECT place FROM raw_delivery)", [(0,)])
 
 
+def joined_claims(report: str) -> Iterator[Claim]:
+    """What the views of whole transactions, descriptors and requests must have."""
+    calls, answered, *_ = head_of(report, "calls")
+    oneway = sum(int(w[4]) for w in rows_of(report, "oneway") if w[2] == "sent")
+    yield Claim("transactions", "SELECT total(NOT oneway), total(outcome = 'answered'), total(oneway) FROM txn",
+                [(calls, answered, oneway)])
+    yield Claim("senders", "SELECT total(calls), total(oneway) FROM sender", [(calls, oneway)])
+    yield Claim("transactions without an answer", "SELECT place, code FROM txn WHERE outcome IN ('failed', 'refused')"
+                " AND NOT oneway ORDER BY 1",
+                [(int(w[0]), int(w[5])) for w in rows_of(report, "calls") if w[6] == "failed"])
+    codes = {name: int(count) for _, name, count in rows_of(report, "codes")}
+    yield Claim("requests for deaths", "SELECT count(*) FROM death_request",
+                [(codes.get("BC_REQUEST_DEATH_NOTIFICATION", 0),)])
+    sorts = next(line.split() for line in report.splitlines() if line.startswith("objects "))[1:]
+    yield Claim("descriptors, at both ends", "SELECT total((sent NOTNULL) + (received NOTNULL)) FROM fd_sent",
+                [(sum(int(count) for name, count in zip(sorts[::2], sorts[1::2]) if name in ("fd", "fda")),)])
+    yield Claim("handles that nobody holds", "SELECT count(*) FROM handle h JOIN process p USING (upid), raw_capture c"
+                " WHERE h.strong > 0 AND coalesce(p.ended_after >= c.last_seq, 1)"
+                " AND (h.upid, h.handle) NOT IN (SELECT upid, handle FROM holder)", [(0,)])
+
+
+
 def held_at_end(database: sqlite3.Connection) -> dict[tuple, tuple]:
     """The buffers, their bytes and the strong references that each process holds at the end, as on the page."""
     who = {upid: rest for upid, *rest in database.execute("SELECT upid, device, process FROM process")}
@@ -243,7 +265,7 @@ def check_sample(folder: pathlib.Path, room: pathlib.Path, files: list[pathlib.P
     if not report.startswith("BINDER AUDIT "):
         return
     database = loaded(folder, made, files, side)
-    for claim in claims(report):
+    for claim in (*claims(report), *joined_claims(report)):
         compare(f"{name}, {claim.name}", database.execute(claim.query).fetchall(), claim.due, fail)
     compare(f"{name}, what is held at the end", held_at_end(database), held_due(report), fail)
     check_in_use(name, database, fail)
