@@ -282,11 +282,12 @@ def request_left(s, release, again=False, met="from-start", held=None, weakly=Fa
 
 @case("D1:1", release=True)
 @case("D5:1", release=False)
-def request_of_the_manager(s, release):
-    """A request for the context manager, whose handle is let go of, or not."""
+@case("D5:1", release=False, takes=0)
+def request_of_the_manager(s, release, takes=1):
+    """A request for the context manager, whose handle is let go of, or not, or was never taken."""
     service, client = s.two()
     client.main.asks(service.main)
-    client.main.writes(*each(BC_ACQUIRE, 0), watch(BC_REQUEST_DEATH_NOTIFICATION, 0, 0xD))
+    client.main.writes(*each(BC_ACQUIRE, *[0] * takes), watch(BC_REQUEST_DEATH_NOTIFICATION, 0, 0xD))
     if release:
         client.main.writes(*each(BC_RELEASE, 0))
 

@@ -1,0 +1,315 @@
+"""More sessions as in cases.py: with something else beside what a rule is about, of another path, process, thread or
+cookie, or of another section, which the rule must leave alone."""
+
+from checks.kit.captures import (BC_CLEAR_DEATH_NOTIFICATION, BC_CLEAR_FREEZE_NOTIFICATION, BC_DEAD_BINDER_DONE,
+                                 BC_RELEASE, BC_REQUEST_DEATH_NOTIFICATION, BC_REQUEST_FREEZE_NOTIFICATION,
+                                 BC_TRANSACTION, BR_CLEAR_DEATH_NOTIFICATION_DONE, BR_CLEAR_FREEZE_NOTIFICATION_DONE,
+                                 BR_DEAD_BINDER, BR_FAILED_REPLY, BR_REPLY, ENTER, each, each_long, frozen, record, u32,
+                                 watch)
+from checks.viewer.sessions.book_cases import begun
+from checks.viewer.sessions.cases import case, with_server
+from checks.viewer.sessions.freeze_cases import watching
+from checks.viewer.sessions.session import DONE, ONE_WAY, STATUS_CODE, Sent
+
+
+# ---- two paths that differ in one thing
+
+
+def two_paths(s, other):
+    """A caller, and for each of two paths the server, and of calls there the handle, ptr, code and status: they differ
+    only in `other`."""
+    manager, client, server = with_server(s)
+    first = server, 1, 0x9000, 7, 1
+    if other == "code":
+        return client, first, (server, 1, 0x9000, 8, 1)
+    if other == "status":
+        return client, first, (server, 1, 0x9000, 7, 2)
+    if other == "node":
+        server.main.gives(manager.main, 4, node=0x9100)
+        client.main.is_given(manager.main, 2, server_handle=4)
+        return client, first, (server, 2, 0x9100, 7, 1)
+    if other == "process":
+        twin = s.process(301, "server")
+        twin.main.gives(manager.main, 4, node=0x9000)
+        client.main.is_given(manager.main, 2, server_handle=4)
+        return client, first, (twin, 2, 0x9000, 7, 1)
+    for handle, code in (2, 5), (3, 6):
+        client.main.is_given(server.main, handle, code, via=1, ptr=0x9000)
+    return client, (server, 2, 0x200, 7, 1), (server, 3, 0x300, 7, 1)
+
+
+@case("R1:3 R2:1", other="code")
+@case("R1:4 R2:1", other="status", first=(4, 0), second=(1, 0))
+@case("R1:3 R2:1", other="node")
+@case("R1:3 R2:1", other="process")
+@case("R1:3 R2:1", other="way")
+@case("R2:4", other="code", first=(2, 0), second=(2, 0))
+@case("R2:4", other="status", first=(2, 0), second=(2, 0))
+@case("R2:4", other="node", first=(2, 0), second=(2, 0))
+@case("R2:4", other="process", first=(2, 0), second=(2, 0))
+@case("R2:4", other="way", first=(2, 0), second=(2, 0))
+def statuses_of_two_paths(s, other, first=(3, 0), second=(1, 1)):
+    """So many calls of each path are answered with its status, and so many without one."""
+    client, *paths = two_paths(s, other)
+    for (server, handle, ptr, code, status), (wrong, right) in zip(paths, (first, second)):
+        for _ in range(wrong):
+            address = server.main.gets(client.main.sends(handle, code), ptr)
+            client.main.answered(server.main.replies(address, u32(status), flags=STATUS_CODE))
+        for _ in range(right):
+            client.main.asks(server.main, code, handle, ptr)
+
+
+@case("U3:3 U4:1", other="code")
+@case("U3:3 U4:1", other="node")
+@case("U3:3 U4:1", other="process")
+@case("U4:4", other="code", first=(2, 0), second=(2, 0))
+@case("U4:4", other="node", first=(2, 0), second=(2, 0))
+@case("U4:4", other="process", first=(2, 0), second=(2, 0))
+def replies_of_two_paths(s, other, first=(3, 0), second=(1, 1)):
+    """So many replies of each path are kept, and so many are freed."""
+    client, *paths = two_paths(s, other)
+    for (server, handle, ptr, code, _), (kept, freed) in zip(paths, (first, second)):
+        for at in range(kept + freed):
+            client.main.asks(server.main, code, handle, ptr, free=at >= kept)
+    client.main.asks(paths[0][0].main, 9, *paths[0][1:3])
+    s.wait(200)
+
+
+@case("U3:3 U4:1", calls=(3, 0), oneway=(1, 1))
+@case("U4:4", calls=(2, 0), oneway=(2, 0))
+def calls_and_oneway_sends_kept(s, calls, oneway):
+    """Of calls and of oneway sends with one code a service keeps so many, and frees so many."""
+    service, client = s.two()
+    for flags, (kept, freed) in (0, calls), (ONE_WAY, oneway):
+        for at in range(kept + freed):
+            address = service.main.gets(client.main.sends(0, 1, flags))
+            if at >= kept:
+                service.main.frees(address)
+            if not flags:
+                client.main.answered(service.main.replies())
+    client.main.asks(service.main, 2)
+    s.wait(200)
+
+
+@case("U3:4 T1:1", before=4)
+@case("U4:2 T1:2", before=2, leaving=2)
+@case("U3:4 U6:1", before=4, wait=50, last=1, leaving=0, ends=False)
+@case("U4:2 U6:1", before=2, wait=50, last=1, leaving=0, ends=False)
+def replies_kept_to_the_end(s, before, leaving=1, last=0, wait=200, ends=True):
+    """So many replies are kept for long, then so many shortly before the process ends, which its thread goes on after,
+    or does not."""
+    service, client = s.two()
+    for _ in range(before):
+        client.main.asks(service.main, free=False)
+    client.main.asks(service.main, 2)
+    s.wait(200)
+    for _ in range(leaving + last):
+        client.main.asks(service.main, free=False)
+    for _ in range(leaving):
+        client.main.asks(service.main, 2)
+    if ends:
+        client.ends()
+    s.wait(wait)
+
+
+# ---- strays and crossed calls
+
+
+def sends_two(thread, handle=0):
+    """Two oneway sends in one write. Returns the first one."""
+    sent = Sent(thread, 7, ONE_WAY, b"", b"")
+    thread.writes(*[sent.record(BC_TRANSACTION, handle)] * 2)
+    return sent
+
+
+def second_refused(thread):
+    thread.reads(DONE, record(BR_FAILED_REPLY))
+
+
+@case("L1:1", late=True)
+@case("S1:1", late=False)
+def refusal_read(s, late):
+    """The refusal of one of two sends is read after the end of the recording."""
+    service, client = s.two()
+    client.main.asks(service.main)
+    service.main.frees(service.main.gets(sends_two(client.main)))
+    s.stops(late)
+    second_refused(client.main)
+
+
+@case("S1:1 S3:1 U4:1", keeps=True)
+@case("S1:1 S3:1 S4:1", before=True)
+@case("S1:1 S3:1 S4:1", after="thread")
+@case("S1:1 S3:1 S4:1", after="process")
+def strays_beside_a_crossed_call(s, keeps=False, before=False, after=""):
+    """As `after_a_crossed_call`. The buffer of the served call is kept; or its thread replies to nothing before; or
+    another thread does afterwards, of the same process or of another one."""
+    service, client = s.two()
+    client.main.gives(service.main, 7)
+    if before:
+        service.main.replies()
+    address = service.main.gets(client.main.sends(0, 1))
+    client.main.frees(client.main.gets(sends_two(service.main, 7), 0x9700))
+    second_refused(service.main)
+    client.main.answered(service.main.replies(None if keeps else address))
+    if after:
+        (client if after == "process" else service).thread(1).replies()
+    client.main.asks(service.main)
+    s.wait(200)
+
+
+@case("P1:1", known=False)
+@case("S4:1", known=True)
+def stray_of_one_of_two(s, known):
+    """Of two processes one was met from its start and the other in mid-life. One of them reads an answer to nothing."""
+    both = [s.process(100, "first"), s.process(200, "second", "in-mid-life")]
+    for process in both:
+        process.main.writes(ENTER)
+    reads_answer(both[0 if known else 1].main)
+
+
+@case("P1:1 S4:1")
+def strays_of_two_threads(s):
+    """Of a process that was met in mid-life, and whose calls the driver's books have, one thread was in no call. The
+    other one reads first, and may have been in a write since before the recording."""
+    _, client = begun(s)
+    client.main.writes(ENTER)
+    reads_answer(client.main)
+    reads_answer(client.thread(1))
+
+
+def reads_answer(thread):
+    """Reads an answer to nothing, and frees it."""
+    address = thread.process.address()
+    thread.reads(Sent(None, 0, 0, b"", b"").record(BR_REPLY, 0, address))
+    thread.frees(address)
+
+
+# ---- requests, deaths and clears
+
+
+def watches(thread, handle, cookie):
+    thread.writes(watch(BC_REQUEST_DEATH_NOTIFICATION, handle, cookie))
+
+
+@case("D2:1 D5:2", "the one before is at", other="process")
+@case("D2:1 D5:2", "the one before is at", other="handle")
+@case("D1:2", lets_go=True)
+@case("D2:1 D5:1", cleared=True)
+@case("D2:1 D5:1 U6:1", frozen_too=True)
+@case("D2:1 D5:1 U6:1", other="handle", cleared=True, told=True)
+def requested_again(s, other="", lets_go=False, cleared=False, frozen_too=False, told=False):
+    """A handle is requested twice, with two cookies. Another process, or another handle, has only a request with the
+    second cookie, by which a death is told or not. Or the handle is let go of; or the second request is cleared, or its
+    cookie is also that of a freeze notification that is not acknowledged."""
+    service, client = s.two()
+    client.main.is_given(service.main, 1)
+    watches(client.main, 1, 0xD)
+    watches(client.main, 1, 0xE)
+    if other:
+        asker, handle = (s.process(300, "other"), 1) if other == "process" else (client, 2)
+        asker.main.is_given(service.main, handle, node=0x200)
+        watches(asker.main, handle, 0xE)
+    if told:
+        client.main.reads(*each_long(BR_DEAD_BINDER, 0xE))
+    if lets_go:
+        client.main.writes(*each(BC_RELEASE, 1))
+    if cleared:
+        client.main.writes(watch(BC_CLEAR_DEATH_NOTIFICATION, 1, 0xE))
+    if frozen_too:
+        client.main.writes(watch(BC_REQUEST_FREEZE_NOTIFICATION, 1, 0xE))
+        client.main.reads(frozen(0xE, 1))
+
+
+@case("U6:2", death=("first", 0xD), clear=("second", 0xD))
+@case("U6:2", death=("first", 0xD), clear=("first", 0xE))
+@case("D3:1 U6:1", death=("first", 0xD), clear=("first", 0xD))
+@case("U6:2", death=("first", 0xD), clear=("first", 0xD), death_is="freeze")
+@case("U6:2", death=("first", 0xD), clear=("first", 0xD), clear_is="freeze")
+@case("D4:1 U6:1", death=("first", 0xD), clear=("first", 0xD), death_is="answer")
+@case("D3:1 U6:1", death=("first", 0xD), clear=("first", 0xD), death_is="freeze", clear_is="freeze")
+@case("U6:2", death=("first", 0xD), clear=("second", 0xD), death_is="freeze", clear_is="freeze")
+@case("U6:2", death=("first", 0xD), clear=("first", 0xE), death_is="freeze", clear_is="freeze")
+def told_and_cleared(s, death, clear, death_is="death", clear_is="death"):
+    """A process is told of a death, or freeze, by a cookie, and does not acknowledge it, or acknowledges a death that
+    was not told; and a clear with a cookie, by this process or another one, is not confirmed. Requests for deaths have
+    the same cookies as those for freezes."""
+    service, client = s.two()
+    both = {"first": client, "second": s.process(300, "second")}
+    for process in both.values():
+        for handle, cookie in (1, 0xD), (2, 0xE):
+            process.main.is_given(service.main, handle)
+            for asks in BC_REQUEST_DEATH_NOTIFICATION, BC_REQUEST_FREEZE_NOTIFICATION:
+                process.main.writes(watch(asks, handle, cookie))
+    who, cookie = death
+    if death_is == "answer":
+        both[who].main.writes(*each_long(BC_DEAD_BINDER_DONE, cookie))
+    else:
+        both[who].main.reads(*(each_long(BR_DEAD_BINDER, cookie) if death_is == "death" else [frozen(cookie, 1)]))
+    who, cookie = clear
+    clears = BC_CLEAR_DEATH_NOTIFICATION if clear_is == "death" else BC_CLEAR_FREEZE_NOTIFICATION
+    both[who].main.writes(watch(clears, 1 if cookie == 0xD else 2, cookie))
+
+
+@case("D4:1 U6:1")
+def confirmed_freeze_without_a_clear(s):
+    """A clear of a freeze notification is confirmed that nobody made, while a notification with its cookie is not
+    acknowledged."""
+    _, client = watching(s)
+    client.main.reads(frozen(0xF, 1))
+    client.main.reads(*each_long(BR_CLEAR_FREEZE_NOTIFICATION_DONE, 0xF))
+
+
+@case("D8:3 U4:1", deaths=(3, 1))
+@case("D8:3 U4:1", deaths=(3,), clears=1)
+@case("U4:3", deaths=(2,), clears=1)
+def deaths_of_two(s, deaths, clears=0):
+    """So many deaths are told to each process, and not acknowledged; and clears of the first one are not confirmed."""
+    service, client = s.two()
+    for at, told in enumerate(deaths):
+        process = s.process(300 + at, "server")
+        for cookie in range(1, 1 + told + clears):
+            process.main.is_given(service.main, cookie, node=0x100 * cookie, take=False)
+            watches(process.main, cookie, cookie)
+        process.main.reads(*each_long(BR_DEAD_BINDER, *range(1, 1 + told)))
+        for handle in range(1 + told, 1 + told + (0 if at else clears)):
+            process.main.writes(watch(BC_CLEAR_DEATH_NOTIFICATION, handle, handle))
+        for _ in range(2):
+            process.main.writes(ENTER)
+    s.wait(200)
+
+
+@case("D4:1 D6:1", events="done death death done done")
+@case("D4:3", events="death done done done other")
+@case("D4:3", events="done done death done confirm")
+@case("D4:2", events="confirm done")
+@case("D4:2", events="elsewhere done")
+def more_answers(s, events):
+    """Deaths with one cookie are acknowledged, also before they are told or again, and clears with that cookie
+    confirmed that nobody made. `other`: an acknowledgement with another cookie; `elsewhere`: by another process."""
+    service, client = s.two()
+    other = s.process(300, "other")
+    for event in events.split():
+        thread = other.main if event == "elsewhere" else client.main
+        cookie = 0xE if event == "other" else 0xD
+        if event == "death":
+            thread.reads(*each_long(BR_DEAD_BINDER, cookie))
+        elif event == "confirm":
+            thread.reads(*each_long(BR_CLEAR_DEATH_NOTIFICATION_DONE, cookie))
+        else:
+            thread.writes(*each_long(BC_DEAD_BINDER_DONE, cookie))
+
+
+@case("D1:1", before=200, met="from-start")
+@case("P1:1", before=0, met="in-mid-life")
+def freeze_of_one_of_two(s, before, met):
+    """A handle is let go of after a freeze was told, long after the recording began, or by a process met in mid-life
+    beside one met from its start."""
+    first, service, client = s.process(50, "first"), s.process(100, "service", met), s.process(200, "client", met)
+    first.main.writes(ENTER)
+    s.wait(before)
+    service.main.writes(ENTER)
+    client.main.is_given(service.main, 1)
+    client.main.writes(watch(BC_REQUEST_FREEZE_NOTIFICATION, 1, 0xF))
+    client.main.reads(frozen(0xF, 1))
+    client.main.writes(*each(BC_RELEASE, 1))
