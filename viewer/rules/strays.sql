@@ -45,6 +45,7 @@ WHERE rule IS NULL AND section = 'strays' AND s.place = finding.place AND s.refu
 -- The error by which the driver refused it is the same finding.
 UPDATE finding SET lead = r.id FROM finding r
 WHERE finding.section = 'refused' AND finding.rule = 'E5' AND r.rule = 'S2' AND r.other = finding.place;
+-- What comes after the first crossed call of a thread is shifted by one: strays, and calls that are closed then.
 -- Of a thread that had calls open when the recording began, as many closers are theirs. It is known of a thread without
 -- a frame before the copy of the books. But a thread that reads first may have been in a write since before the
 -- recording, and have sent a call after the copy that no frame has.
@@ -56,7 +57,8 @@ FROM (SELECT f.id, f.upid, f.utid, f.place, iif(r.kind IN (:BC_REPLY, :BC_REPLY_
     FROM finding f JOIN raw_record r USING (place) WHERE f.rule IS NULL AND f.section = 'strays') s
   JOIN raw_thread t ON t.utid = s.utid JOIN raw_frame q ON q.seq = t.first_seq JOIN begun b ON b.upid = s.upid;
 UPDATE finding SET rule = CASE
-  WHEN EXISTS (SELECT 1 FROM first_crossed c WHERE c.utid = finding.utid AND c.closer < finding.place) THEN 'S3'
+  WHEN EXISTS (SELECT 1 FROM first_crossed c WHERE c.utid = finding.utid
+    AND c.closer < coalesce((SELECT o.closer FROM raw_call o WHERE o.place = finding.place), finding.place)) THEN 'S3'
   WHEN EXISTS (SELECT 1 FROM begun_call b WHERE b.id = finding.id AND b.nth <= b.n) THEN 'P2'
   WHEN finding.upid IN (SELECT upid FROM lossy) THEN 'M1'
   WHEN (SELECT known FROM process_life p WHERE p.upid = finding.upid)

@@ -137,6 +137,21 @@ def refusal_read(s, late):
     second_refused(client.main)
 
 
+@case("S1:1 S3:2", "the send at")
+def crossed_within_a_call(s):
+    """While a thread serves a call within its own, the second of its two oneway sends is refused. The error reply
+    crosses the served call, the reply to that crosses the outer call, whose answer is a stray."""
+    service, client = s.two()
+    client.main.gives(service.main, 7)
+    outer = service.main.gets(client.main.sends(0, 1))
+    served = client.main.gets(service.main.sends(7, 2), 0x9700)
+    looper = service.looper(1)
+    looper.frees(looper.gets(sends_two(client.main)))
+    second_refused(client.main)
+    service.main.answered(client.main.replies(served))
+    client.main.answered(service.main.replies(outer))
+
+
 @case("S1:1 S3:1 U4:1", keeps=True)
 @case("S1:1 S3:1 S4:1", before=True)
 @case("S1:1 S3:1 S4:1", after="thread")
