@@ -47,10 +47,11 @@ _binder_listing() { # COMMAND WORD BEFORE
     --side | --tables) _binder_audit_files ;;
     --at | --frame | --call | --process | --thread | --device | --from | --to | --code) ;;
     --handle | --cookie | --node | --address | --flag | --larger | --interface | --table) ;;
+    --last | --between | --around) ;;
     *)
       _binder_audit_options "$2" '--at --frame --call --process --thread --device --direction --from --to --code
-        --handle --cookie --node --address --flag --larger --interface --objects --form --side --tables --table --help
-        --version'
+        --handle --cookie --node --address --flag --larger --interface --objects --form --side --last --between
+        --around --tables --table --help --version'
       ;;
   esac
 }
@@ -81,12 +82,12 @@ _binder_record() { # COMMAND WORD BEFORE
 _binder_view() { # COMMAND WORD BEFORE
   COMPREPLY=()
   case $3 in
-    --process | --thread | --from | --to) ;;
+    --process | --thread | --from | --to | --last | --between | --around) ;;
     --fail-on) _binder_audit_words "$2" 'real maybe' ;;
     --names) _binder_audit_words "$2" android ;;
     *)
       _binder_audit_options "$2" '--side --methods --symbols -o --database --groups --against --fail-on --known --trace
-        --names --process --thread --from --to --help --version'
+        --names --process --thread --from --to --last --between --around --help --version'
       ;;
   esac
 }

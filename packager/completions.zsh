@@ -63,6 +63,9 @@ case $service in
       '--objects[a line for each object]' \
       '--form[the form of a line]:form:(tab)' \
       '--side[side list, for times and names]:side list:_files' \
+      '(--between --around)--last[records of the last time]:5s, 500ms or 2m:' \
+      '(--last --around)--between[records from a moment to another one]:begin: :end:' \
+      '(--last --between)--around[records around a place]:place:' \
       '--tables[write all raw tables]:folder:_files -/' \
       '--table[write one raw table]:name:' \
       '(- *)--help[say what the options do]' \
@@ -118,6 +121,9 @@ case $service in
       '--thread[narrow it to a thread]:thread:' \
       '--from[from this frame on]:sequence:' \
       '--to[up to this frame]:sequence:' \
+      '(--between --around)--last[show the last time]:5s, 500ms or 2m:' \
+      '(--last --around)--between[show from a moment to another one]:begin: :end:' \
+      '(--last --between)--around[show what is around a place]:place:' \
       '(- *)--help[say what the options do]' \
       '(- *)--version[say what the programs are made of]' \
       $parts

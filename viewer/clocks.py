@@ -34,6 +34,12 @@ class Clock:
         """A time of CLOCK_MONOTONIC on this clock; the same if that is not known."""
         return ns + self.ahead[bisect.bisect_right(self.since, ns)] if self.since else ns + self.ahead[0]
 
+    def back(self, shown: int) -> int:
+        """The time of CLOCK_MONOTONIC at which it showed this last; if it was set past this, when it was set."""
+        times = [shown - ahead for ahead in self.ahead]
+        at = next((at for at in range(len(self.since), 0, -1) if times[at] >= self.since[at - 1]), 0)
+        return min([times[at], *self.since[at:at + 1]])
+
 
 def boottime_of(moments: list[Moment]) -> Clock:
     """CLOCK_BOOTTIME, which is ahead by all the time that the system has slept."""

@@ -167,7 +167,7 @@ def faults_of_heads() -> Iterator[str]:
     judging.judge(watched)
     for statement, path in watched.files.items():
         if path.parent == QUERIES:
-            watched.execute(statement, {"1": 0, "2": 0})
+            watched.execute(statement, {str(at): 0 for at in range(1, 9)})
     watched.look_into_views()
     for path in sorted(VIEWER.rglob("*.sql")):
         said = "\n".join(takewhile(lambda line: line.startswith("--"), path.read_text("utf-8").splitlines()))

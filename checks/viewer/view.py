@@ -23,6 +23,7 @@ What must hold:
 - If frames of a scenario are lost, in seven ways, only what is real in the whole capture is real. The side list says
   for each lost frame whose it was, or only its number, or only that something without a number was missed.
 - The page says how long findings lasted, which fields a row has, who served failed calls, and what is held at the end.
+- --last, --between and --around show the groups, calls, records and events of a time, and of nothing else.
 - The page says when things were, by the clocks of the side list, and nothing of it without one.
 - The files of a flight recorder, each with its side list, are shown like the whole capture; the last one alone says
   what it cannot know.
@@ -95,6 +96,7 @@ from checks.viewer.page.stacks import check_stacks
 from checks.viewer.page.users import check_bits, check_packages
 from checks.viewer.page.words import (check_hostile, check_no_engine, check_python, check_secrets, check_stopped,
                                       check_templates, check_told, check_untimed, check_version, check_words)
+from checks.viewer.page.windows import check_windows
 from checks.viewer.page.wrong import check_edits
 from viewer.database import raw_tables
 
@@ -117,7 +119,8 @@ IN_TURN = parts_of(
     check_side, check_forms, check_no_lists, check_list_of_loader, check_renames, check_last_names, check_files,
     check_secrets, check_told, check_untimed, check_late, check_hostile, check_methods, check_unnamed, check_services,
     check_manager, check_times, check_loader, check_agreement, check_copies, check_bad_books, check_long_books,
-    check_commands, check_packages, check_bits, check_stacks, check_growth, check_against, check_moments)
+    check_commands, check_packages, check_bits, check_stacks, check_growth, check_against, check_moments,
+    check_windows)
 
 
 def names() -> list[str]:

@@ -8,7 +8,9 @@ from viewer.clocks import Times
 from viewer.files import word_of
 from viewer.malformed import fault_of
 from viewer.program_names import called
+from viewer.page.within import groups_within
 from viewer.rules.names import Names
+from viewer.window import Window
 
 QUERIES = pathlib.Path(__file__).resolve().parent / "queries"
 
@@ -17,10 +19,12 @@ ROWS = 1000
 
 
 class Capture:
-    """The capture. A process is called as in `who`, and a call or an object as in `names`."""
+    """The capture, and the window of it that is shown. A process is called as in `who`, and a call or an object as in
+    `names`."""
 
-    def __init__(self, database: sqlite3.Connection, files: list[str]):
-        self.database = database
+    def __init__(self, database: sqlite3.Connection, files: list[str], window: Window | None = None):
+        self.database, self.window = database, window
+        self.groups = set(groups_within(database, window))
         named = " ".join(map(word_of, files))
         self.command, self.report = f"{called('listing')} {named}", f"{called('audit')} report {named}"
         self.facts = dict(database.execute("SELECT key, value FROM capture"))

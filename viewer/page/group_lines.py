@@ -5,16 +5,21 @@ import sqlite3
 from typing import Iterator
 
 from viewer.malformed import Fault
+from viewer.page.within import groups_within
 from viewer.terminal import line_of
+from viewer.window import Window
 
 KEYS = (pathlib.Path(__file__).resolve().parent / "queries/group_keys.sql").read_text("utf-8")
 
 
-def group_lines(database: sqlite3.Connection) -> Iterator[str]:
+def group_lines(database: sqlite3.Connection, window: Window | None = None) -> Iterator[str]:
     """A line for each group, its fields separated by tabs: verdict, kind, n, all, device, process, path, rule, note,
     the names of the processes, which are those that cause it, and the keys of the defects."""
+    shown = set(groups_within(database, window))
     for number, *fields in database.execute(
             "SELECT grp, verdict, title, n, n_all, path, rules, note FROM finding_group ORDER BY nth").fetchall():
+        if number not in shown:
+            continue
         verdict, title, n, n_all, path, rules, note = fields
         of = database.execute("SELECT DISTINCT p.device, p.process, p.name FROM finding_head h JOIN finding f"
                               " USING (id) JOIN process p ON p.upid = coalesce(f.culprit, f.upid)"
@@ -27,10 +32,10 @@ def group_lines(database: sqlite3.Connection) -> Iterator[str]:
         yield line_of(verdict, title, n, n_all, devices, processes, path, rules, note, names, keys)
 
 
-def lines_of(database: sqlite3.Connection, fault: Fault | None) -> Iterator[str]:
+def lines_of(database: sqlite3.Connection, fault: Fault | None, window: Window | None) -> Iterator[str]:
     """What --groups prints. If the capture is malformed, a line comes first that has the fields of a group, but no
     verdict: so nobody takes the groups for those of a whole capture, or the line for a group."""
     if fault:
         yield line_of("malformed", fault.kind, None, None, None, None, fault.file, None,
                       f"at {fault.place}: {fault.meaning}", None, None)
-    yield from group_lines(database)
+    yield from group_lines(database, window)

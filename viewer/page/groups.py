@@ -47,7 +47,7 @@ class Groups:
     def of(self, *verdicts: str) -> Iterator[Group]:
         """The groups of some verdicts, one after another."""
         for verdict in verdicts:
-            for row in self.capture.asked("groups", verdict, ROWS):
+            for row in self.rows(verdict)[:ROWS]:
                 group = Group(self.capture, self.stacks, self.marks, row)
                 if verdict != "normal" and self.lanes < LANES:
                     self.give_lane(group)
@@ -55,7 +55,10 @@ class Groups:
 
     def left(self, *verdicts: str) -> int:
         """How many groups there are that `of` leaves out."""
-        return sum(max(self.capture.count("finding_group", "verdict = ?", verdict) - ROWS, 0) for verdict in verdicts)
+        return sum(max(len(self.rows(verdict)) - ROWS, 0) for verdict in verdicts)
+
+    def rows(self, verdict: str) -> list[tuple]:
+        return [row for row in self.capture.asked("groups", verdict, -1) if row[0] in self.capture.groups]
 
     def give_lane(self, group: Group) -> None:
         """Gives a group the place of its first finding that has a thread, and the lines around that."""

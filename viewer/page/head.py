@@ -1,6 +1,7 @@
 """What the head of the page says: what the capture has, and what is not known of it."""
 
 from viewer.page.capture import Capture
+from viewer.page.within import counts_of
 from viewer.rules import agreement
 
 # Rows of the side list, if they count between two frames of the capture.
@@ -28,5 +29,5 @@ def head_of(capture: Capture) -> dict[str, object]:
                     " AND (SELECT last_seq FROM raw_capture) GROUP BY 1 ORDER BY 2 DESC"),
         "missed": ask(f"SELECT what, sum(count) FROM side_missed, {WITHIN}"),
         "unstacked": ask(f"SELECT what, sum(count) FROM side_unstacked, {WITHIN}"),
-        "groups": {verdict: n for verdict, n in ask("SELECT verdict, count(*) FROM finding_group GROUP BY 1")},
-        "findings": {verdict: n for verdict, n in ask("SELECT verdict, sum(n) FROM finding_group GROUP BY 1")}}
+        "shown": counts_of(capture.database, capture.window), "window": capture.window,
+        "all_groups": capture.count("finding_group")}

@@ -14,13 +14,15 @@ from typing import Iterator
 from viewer.database.report import columns_of
 from viewer.defects.gate import Shown
 from viewer.files import Stopped, for_owner, shown_name, whole_file
-from viewer.page.capture import Capture
+from viewer.page.capture import ROWS, Capture
 from viewer.page.groups import FINDINGS, Groups
 from viewer.page.head import head_of
 from viewer.page.plots import axis_of, growths_of
 from viewer.page.texts import pieces_of, title_of, user_name
+from viewer.page.within import counts_of
 from viewer.rules.verdicts import VERDICTS
 from viewer.units import code_name, counted, duration_of
+from viewer.window import Window
 
 FOLDER = pathlib.Path(__file__).resolve().parent
 
@@ -44,6 +46,12 @@ FILTERS = {"pieces": pieces_of, "number": number, "hex": address, "counted": cou
            "code": code_name, "user_name": user_name}
 
 
+def calls_of(capture: Capture) -> list[tuple]:
+    """The calls that are not answered, and those that took longest."""
+    window = capture.window
+    return capture.asked("calls", ROWS, *((None, None, None) if window is None else window[:3]))
+
+
 def asked_of(capture: Capture, shown: Shown) -> dict[str, object]:
     """What templates ask. Sections ask when they are written, so that no two are in memory."""
     groups = Groups(capture, shown.marks)
@@ -51,7 +59,8 @@ def asked_of(capture: Capture, shown: Shown) -> dict[str, object]:
             "command": capture.command, "asked": capture.rows, "count": capture.count, "groups": groups.of,
             "left": groups.left, "most": FINDINGS, "all_verdicts": VERDICTS, "columns_of": columns_of,
             "growths": lambda: growths_of(capture), "axis": lambda: axis_of(capture),
-            "has_stacks": groups.stacks.are_there, "gone": shown.gone}
+            "has_stacks": groups.stacks.are_there, "gone": shown.gone, "calls": lambda: calls_of(capture),
+            "groups_shown": len(capture.groups)}
 
 
 def document(capture: Capture, shown: Shown) -> Iterator[str]:
@@ -89,14 +98,15 @@ def refuse_other(files: list[str], path: pathlib.Path) -> None:
         raise Stopped(1, f"{path} exists already, and is no page of {shown_name(files)}: name another file by -o")
 
 
-def counts_in(database: sqlite3.Connection) -> str:
+def counts_in(database: sqlite3.Connection, window: Window | None) -> str:
     """How many groups a page has of which verdict, as in its four counts."""
-    counts = dict(database.execute("SELECT verdict, count(*) FROM finding_group GROUP BY 1"))
-    return ", ".join(f"{counts.get(verdict, 0)} {verdict}" for verdict in VERDICTS)
+    counts = counts_of(database, window)
+    return ", ".join(f"{counts.get(verdict, (0, 0))[0]} {verdict}" for verdict in VERDICTS)
 
 
-def write(database: sqlite3.Connection, files: list[str], path: pathlib.Path, shown: Shown | None = None) -> None:
+def write(database: sqlite3.Connection, files: list[str], path: pathlib.Path, shown: Shown | None = None,
+          window: Window | None = None) -> None:
     """Writes the page, for its owner only. `shown`: what it shows of another capture."""
     with whole_file(path, lambda: is_page_of(files, path)) as made:
         with open(made, "x", encoding="utf-8", errors="replace", opener=for_owner) as out:
-            out.writelines(document(Capture(database, files), shown or Shown({}, [])))
+            out.writelines(document(Capture(database, files, window), shown or Shown({}, [])))

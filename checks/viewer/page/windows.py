@@ -1,0 +1,85 @@
+"""What `view` and `listing` show of a time: --last, --between and --around."""
+
+import os
+import pathlib
+import re
+import shutil
+
+from checks.kit.checking import Fail, compare
+from checks.kit.runs import answer
+from checks.viewer.page.common import stored, texts_of, timeline_of, view
+from checks.viewer.page.moments import SECOND, ZONE, clock_of
+
+# Of hello-stuck: the first frame, the call that hangs from 2.288 s on, and the one that waits for it from 3.080 s on;
+# the last frame is 198, and the recording ends 5.713 s after the first frame. Both callers end before that.
+WALL = 1795829816129412140 - 442801680412 + 442941067552
+STUCK, WAITS = "calls that keep a pool busy", "calls without an answer"
+
+# The words, and the groups that are no normal ones; the frames of the listing, and how many calls the page has.
+WINDOWS = (
+    (("--last", "2.5s"), [STUCK, WAITS], (199, 198), 2),
+    (("--last", "2633ms"), [STUCK, WAITS], (198, 198), 2),
+    (("--last", "10ms"), [], (199, 198), 0),
+    (("--between", "+2.241", "+2.2464"), [], (145, 150), 1),
+    (("--between", "+2.5s", "+2.6s"), [STUCK], (179, 178), 1),
+    (("--between", clock_of(WALL + 2 * SECOND), clock_of(WALL + 3 * SECOND)), [STUCK], None, None),
+    (("--around", 16172), [STUCK, WAITS], (30, 198), None),
+    (("--around", 18140), [STUCK, WAITS], None, None))
+
+# What is asked for and not there, and why.
+WRONG = ((("--last", "5"), 64), (("--between", "25:00", "26:00"), 64), (("--between", "+3", "+2"), 1),
+         (("--between", "+7", "+8"), 1), (("--around", 18304), 1), (("--around", "x"), 64),
+         (("--last", "1s", "--around", 16), 64))
+
+
+def frames_of(folder: pathlib.Path, room: pathlib.Path, *words: object) -> list[int]:
+    _, said, _ = answer([folder / "listing", *map(str, words), "--form", "tab"], cwd=room, encoding="utf-8",
+                        env={**os.environ, **ZONE})
+    return [int(line.split("\t")[1]) for line in said.splitlines()]
+
+
+def groups_in(folder: pathlib.Path, room: pathlib.Path, *words: object) -> list[str]:
+    _, said, _ = answer([folder / "view", *map(str, words), "--groups"], cwd=room, encoding="utf-8",
+                        env={**os.environ, **ZONE})
+    return [line.split("\t")[1] for line in said.splitlines() if not line.startswith("normal")]
+
+
+def check_windows(folder: pathlib.Path, room: pathlib.Path, fail: Fail) -> None:
+    """Groups, calls, timeline and listing have what was then."""
+    capture = stored("hello-stuck")
+    every = frames_of(folder, room, *capture)
+    for number, (words, groups, frames, calls) in enumerate(WINDOWS):
+        compare(f"{words}, groups", groups_in(folder, room, *capture, *words), groups, fail)
+        if frames is not None:
+            compare(f"{words}, the listing", frames_of(folder, room, *capture, *words),
+                    [seq for seq in every if frames[0] <= seq <= frames[1]], fail)
+        if calls is not None:
+            answer([folder / "view", *map(str, (*capture, *words)), "-o", f"{number}.html", "--trace",
+                    f"{number}.json.gz"], cwd=room, env={**os.environ, **ZONE})
+            rows = (room / f"{number}.html").read_text("utf-8").partition('aria-label="calls"')[2]
+            compare(f"{words}, calls of the page", rows.partition("</table>")[0].count("\n<tr>"), calls, fail)
+            compare(f"{words}, what the page says", "Shown are the groups and the calls from" in
+                    texts_of(room / f"{number}.html"), True, fail)
+            drawn = timeline_of(room / f"{number}.json.gz")["traceEvents"]
+            seqs = {event["args"]["seq"] for event in drawn if "seq" in event.get("args", {})}
+            compare(f"{words}, frames of the timeline", [seq for seq in seqs if frames and seq > frames[1]], [], fail)
+    for words, due in WRONG:
+        for program in ("view", "listing"):
+            status, said, told = answer([folder / program, *map(str, (*capture, *words)),
+                                         *(["--groups"] if program == "view" else [])], cwd=room, encoding="utf-8")
+            compare(f"{program} {words}", (status, said, bool(re.search(f"^{program}: ", told, re.MULTILINE))),
+                    (due, "", True), fail)
+    check_untimed_windows(folder, room, fail)
+
+
+def check_untimed_windows(folder: pathlib.Path, room: pathlib.Path, fail: Fail) -> None:
+    """Without a side list there are frames around a place, and no times."""
+    shutil.copy(stored("hello-stuck")[0], room / "bare.cap")
+    for program in ("view", "listing"):
+        _, _, told = answer([folder / program, "bare.cap", "--last", "5s"], cwd=room, encoding="utf-8")
+        compare(f"{program} --last without a side list", told,
+                f"{program}: --last takes the times of a side list, and there are none\n", fail)
+    compare("the listing around a place, without a side list", frames_of(folder, room, "bare.cap", "--around", 8036),
+            [seq for seq in frames_of(folder, room, "bare.cap") if seq <= 187], fail)
+    status, said, _ = view(folder, room, "bare.cap", "--around", 16172, "--groups")
+    compare("groups around a place, without a side list", (status, WAITS in said), (0, True), fail)

@@ -1,0 +1,43 @@
+"""The groups that a page and --groups show: all of a capture, or those of some frames."""
+
+import argparse
+import pathlib
+import sqlite3
+
+from viewer.files import Stopped
+from viewer.window import Recording, Window, is_asked
+
+WITHIN = (pathlib.Path(__file__).resolve().parent / "queries/within.sql").read_text("utf-8")
+
+
+def window_of(database: sqlite3.Connection, asked: argparse.Namespace) -> Window | None:
+    """The frames that are asked for; None if all are."""
+    if not is_asked(asked):
+        return None
+    size, first, last = database.execute("SELECT bytes, first_seq, last_seq FROM raw_capture").fetchone()
+    if asked.around is not None:
+        found = database.execute("SELECT seq FROM raw_frame WHERE place <= ? ORDER BY place DESC LIMIT 1",
+                                 (asked.around,)).fetchone()
+        if found is None or asked.around >= size:
+            raise Stopped(1, f"--around: no frame has the byte at {asked.around}")
+        asked.around = found[0]
+    return Recording(database, first, last).window(asked)
+
+
+def groups_within(database: sqlite3.Connection, window: Window | None) -> list[int]:
+    """The groups that are shown, in their order: those that have a finding in the window, or a call that was open
+    then."""
+    if window is None:
+        return [group for group, in database.execute("SELECT grp FROM finding_group ORDER BY nth")]
+    return [group for group, in database.execute(WITHIN, (window.first, window.last, window.begin))]
+
+
+def counts_of(database: sqlite3.Connection, window: Window | None) -> dict[str, tuple[int, int]]:
+    """How many groups, and how many findings, are shown of each verdict."""
+    shown = set(groups_within(database, window))
+    found: dict[str, tuple[int, int]] = {}
+    for group, verdict, n in database.execute("SELECT grp, verdict, n FROM finding_group"):
+        if group in shown:
+            groups, findings = found.get(verdict, (0, 0))
+            found[verdict] = groups + 1, findings + n
+    return found

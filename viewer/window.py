@@ -1,0 +1,156 @@
+"""The frames of a time: what --last, --between and --around ask for."""
+
+import argparse
+import contextlib
+import datetime
+import re
+import sqlite3
+from typing import Iterator, NamedTuple
+
+from viewer.clocks import SECOND, Times
+from viewer.files import Stopped
+
+# To either side of the place of --around: so long or, without times, so many frames.
+AROUND, FRAMES_AROUND = SECOND, 100
+
+UNITS = {"ms": SECOND // 1000, "s": SECOND, "m": 60 * SECOND, "h": 3600 * SECOND}
+LENGTH = re.compile(r"(\d{1,9})(?:\.(\d{1,9}))?(ms|s|m|h)", re.ASCII)
+SINCE = re.compile(r"\+(\d{1,9})(?:\.(\d{1,9}))? ?s?", re.ASCII)
+OF_DAY = re.compile(r"(?:(?:(\d{4})-)?(\d\d)-(\d\d)[ T])?(\d\d):(\d\d)(?::(\d\d)(?:\.(\d{1,9}))?)?", re.ASCII)
+
+
+def fraction(digits: str | None, unit: int) -> int:
+    return int((digits or "0").ljust(9, "0")) * unit // SECOND
+
+
+def length(word: str) -> int:
+    """A length of time in nanoseconds: `5s`, `500ms`, `1.5m`."""
+    found = LENGTH.fullmatch(word)
+    if not found:
+        raise argparse.ArgumentTypeError(f"{word!r} is no length of time, as 5s, 500ms or 2m")
+    unit = UNITS[found[3]]
+    return int(found[1]) * unit + fraction(found[2], unit)
+
+
+class Since(NamedTuple):
+    """A moment, in nanoseconds since the first frame."""
+    ns: int
+
+
+class OfDay(NamedTuple):
+    """A moment by the wall clock. It may have no day, or no year."""
+    year: int | None
+    month: int | None
+    day: int | None
+    time: datetime.time
+    ns: int
+
+    def possible(self, days: list[datetime.date]) -> Iterator[int]:
+        """When it may be, in nanoseconds since 1970, if the recording has these days."""
+        for day in days:
+            with contextlib.suppress(ValueError, OverflowError):  # of the 29th of February, or no such day
+                on = day.replace(self.year or day.year, self.month or day.month, self.day or day.day)
+                yield int(datetime.datetime.combine(on, self.time).timestamp()) * SECOND + self.ns
+
+
+def moment(word: str) -> Since | OfDay:
+    """`14:03:22.117`, the same with a day in front, as logcat has it, or `+2.288` seconds since the first frame."""
+    if found := SINCE.fullmatch(word):
+        return Since(int(found[1]) * SECOND + fraction(found[2], SECOND))
+    if found := OF_DAY.fullmatch(word):
+        year, month, day = (int(it) if it else None for it in found.groups()[:3])
+        with contextlib.suppress(ValueError):
+            time = datetime.time(int(found[4]), int(found[5]), int(found[6] or 0))
+            return OfDay(year, month, day, time, fraction(found[7], SECOND))
+    raise argparse.ArgumentTypeError(f"{word!r} is no moment, as 14:03:22, '11-28 14:03:22.117' or +2.288")
+
+
+def place(word: str) -> int:
+    if not re.fullmatch("[0-9]{1,18}", word):
+        raise argparse.ArgumentTypeError(f"{word!r} is no place in a capture")
+    return int(word)
+
+
+def add_to(line: argparse.ArgumentParser) -> None:
+    """The options, of which a command line has one."""
+    which = line.add_mutually_exclusive_group()
+    which.add_argument("--last", type=length, metavar="TIME")
+    which.add_argument("--between", type=moment, nargs=2, metavar=("BEGIN", "END"))
+    which.add_argument("--around", type=place, metavar="PLACE")
+
+
+def is_asked(asked: argparse.Namespace) -> bool:
+    return not (asked.last is None and asked.between is None and asked.around is None)
+
+
+class Window(NamedTuple):
+    """The frames from `first` to `last`, of which there may be none, and the times from `begin` to `end`; without times
+    both are None."""
+    first: int
+    last: int
+    begin: int | None
+    end: int | None
+
+
+class Recording:
+    """The frames of a recording, with their times if there are any. Numbers of frames are as SQLite has them."""
+
+    def __init__(self, database: sqlite3.Connection, first: int | None, last: int | None):
+        self.database = database
+        self.first, self.last = first or 0, last or 0
+        self.times = Times(database)
+
+    def window(self, asked: argparse.Namespace) -> Window:
+        """What is asked for, with the number of a frame for a place."""
+        if asked.around is not None:
+            return self.around(asked.around)
+        name = "--last" if asked.between is None else "--between"
+        if self.times.first is None or self.times.until is None:
+            raise Stopped(1, f"{name} takes the times of a side list, and there are none")
+        begin, end = (self.times.until - asked.last, self.times.until) if asked.between is None else \
+            self.moments(*asked.between)
+        if end < self.times.first or begin > self.times.until:
+            raise Stopped(1, f"{name}: the recording goes from {self.times.both(self.times.first)} to"
+                             f" {self.times.both(self.times.until)}")
+        return self.between(begin, end)
+
+    def around(self, seq: int) -> Window:
+        """What is near to a frame."""
+        found = self.database.execute("SELECT ts FROM side_time WHERE seq = ?", (seq,)).fetchone()
+        if found is None:
+            return Window(max(seq - FRAMES_AROUND, self.first), min(seq + FRAMES_AROUND, self.last), None, None)
+        return self.between(found[0] - AROUND, found[0] + AROUND)
+
+    def between(self, begin: int, end: int) -> Window:
+        within = (self.first, self.last)
+        first, = self.database.execute("SELECT min(seq) FROM side_time WHERE ts >= ? AND seq BETWEEN ? AND ?",
+                                       (begin, *within)).fetchone()
+        last, = self.database.execute("SELECT max(seq) FROM side_time WHERE ts <= ? AND seq BETWEEN ? AND ?",
+                                      (end, *within)).fetchone()
+        return Window(self.last + 1 if first is None else first, self.first - 1 if last is None else last, begin, end)
+
+    def moments(self, begin: Since | OfDay, end: Since | OfDay) -> tuple[int, int]:
+        """When --between begins and ends. What has no day is on the day on which it is in the recording."""
+        first, until = self.times.first or 0, self.times.until or 0
+        begins = self.nearest(begin, first, until)
+        ends = self.nearest(end, max(begins, first), until)
+        if ends < begins:
+            raise Stopped(1, "--between: the end is before the beginning")
+        return begins, ends
+
+    def nearest(self, moment: Since | OfDay, first: int, until: int) -> int:
+        """The time of a moment that is within these times, or else nearest to them."""
+        if isinstance(moment, Since):
+            return moment.ns + (self.times.first or 0)
+        if not self.times.wall.is_known:
+            raise Stopped(1, "the side list does not say what the wall clock showed: give seconds, as +2.288")
+        times = [self.times.wall.back(ns) for ns in moment.possible(self.days(first, until))]
+        if not times:
+            raise Stopped(1, "--between names a day that is not in the calendar")
+        return min(times, key=lambda ts: max(first - ts, ts - until, 0))
+
+    def days(self, first: int, until: int) -> list[datetime.date]:
+        """The days of the recording: the first and the last ones, if it was very long."""
+        begin, end = (datetime.date(*self.times.local(ts)[:3]) for ts in (first, until))
+        count = min((end - begin).days, 400)
+        return [begin + datetime.timedelta(at) for at in range(count + 1)] + [end]
