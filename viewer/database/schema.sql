@@ -371,7 +371,7 @@ CREATE TABLE finding(
   target INTEGER,         -- the process that its handle leads to
   relation TEXT,          -- how it belongs to the call or the thing that it is about, by RELATIONS of paths.py
   about INTEGER,          -- the process of the object, or with a minus that of a handle of it
-  node INTEGER,           -- the ptr of the object, or that handle; or an address
+  node INTEGER,           -- the ptr of the object, or that handle; or an address, or the id of the name of a service
   interface TEXT,         -- of the call, or of the object
   others INTEGER,         -- 1 if some name another interface
   method TEXT,

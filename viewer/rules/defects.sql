@@ -6,7 +6,8 @@
 -- of its device: who suffers from it may be another process in each capture. The path has the names of processes, whole
 -- interfaces, and methods, or where a method is not known its code. What is of one recording is left out: numbers of
 -- processes and threads, nodes, handles but 0, cookies, addresses; counts, ages and verdicts; and names of services,
--- which a capture has only if it saw that they were registered or asked for.
+-- which a capture has only if it saw that they were registered or asked for. But of a service that is not found the
+-- name is all that there is.
 --
 -- If any of that changes, the last number in this file, `prints`, rises: keys with another one are not compared.
 -- needs: database/schema.sql: call_interface, capture, finding, method, object_interface; database/views.sql: call,
@@ -40,7 +41,7 @@ WHERE f.rule IN ('H5', 'H8', 'H9', 'H10', 'H12');
 -- or an address. If the node of a call or a handle is not known, upid has the process that holds it with a minus, and
 -- ptr the handle. Which oneway send finds no space at a receiver is chance: no code says it.
 CREATE TEMP TABLE matter AS
-SELECT f.id, f.section, f.what, f.place, f.rule, f.upid AS own, coalesce(f.culprit, f.upid) AS causes,
+SELECT f.id, f.section, f.what, f.place, f.rule, f.service, f.upid AS own, coalesce(f.culprit, f.upid) AS causes,
   iif(f.rule = 'E5' AND f.culprit NOTNULL OR f.section = 'frees', NULL, coalesce(w.code, f.code)) AS code,
   coalesce(w.upid, f.about, f.target, -f.upid) AS upid,
   coalesce(w.ptr, f.node, iif(f.about > 0 OR f.target NOTNULL, f.ptr, f.handle)) AS ptr,
@@ -74,11 +75,11 @@ CREATE TEMP TABLE told AS
 SELECT id, kind || coalesce(' (' || answer || ')', '') AS kind, who, own_call AS call,
   path_text(relation,
     CASE WHEN relation IN ('handle', 'node', 'cookie', 'address') THEN thing WHEN relation = 'no space at' THEN ''
-      WHEN relation <> 'a reply' THEN call END,
+      WHEN relation = 'service' THEN service WHEN relation <> 'a reply' THEN call END,
     CASE WHEN relation IN ('handle', 'node') THEN object WHEN relation IN ('at', 'oneway at') THEN own
-      WHEN relation NOT IN ('a reply to', 'cookie', 'address') THEN other END,
+      WHEN relation NOT IN ('a reply to', 'cookie', 'address', 'service') THEN other END,
     status) AS path
-FROM (SELECT m.id, m.relation, c.program || ' on ' || c.device AS who, p.program AS own, t.call,
+FROM (SELECT m.id, m.relation, m.service, c.program || ' on ' || c.device AS who, p.program AS own, t.call,
     iif(m.causes IN (m.own, m.other), t.call, NULL) AS own_call,
     coalesce(r.fault, k.of_section) AS kind,
     CASE WHEN m.section = 'calls' AND m.what = 'failed' THEN (SELECT e.kind FROM call c

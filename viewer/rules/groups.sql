@@ -55,7 +55,7 @@ SELECT
   iif(f.relation = 'given', w.interface, f.interface) AS interface,
   iif(f.relation = 'given', w.others, f.others) AS others,
   iif(f.relation = 'given', w.method, f.method) AS method,
-  f.calls,
+  iif(f.relation = 'service', f.service, f.calls) AS calls,
   iif(f.section = 'answers', status_name(f.status), NULL) AS status,
   CASE
     WHEN f.relation = 'given' THEN iif(w.reply, w.other, (SELECT name FROM alike_name a WHERE a.upid = f.giver))

@@ -28,6 +28,8 @@ RELATIONS = {
     "freed": Relation("", "", "code ?"), "freed reply to": Relation("reply to ", "", "reply to code ?"),
     # Not a call, but a thing with a number.
     "handle": Relation(""), "node": Relation(""), "cookie": Relation(""), "address": Relation(""),
+    # A name that the context manager was asked for.
+    "service": Relation("service "),
     # Which oneway send finds no space at a receiver is chance: a key has no call there.
     "no space at": Relation("oneway", " to ")}
 

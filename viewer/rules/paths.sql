@@ -1,7 +1,7 @@
 -- What the path of each finding is made of, by which findings are grouped: how the finding belongs to what it is about,
 -- the call, and the object that this goes to or comes of. And the views by which it becomes a text.
 -- needs: database/schema.sql: finding, raw_call, raw_delivery, raw_generation, raw_record, raw_send, raw_thread;
---   database/views.sql: delivery, status; nodes.sql: manager, node_of, who; names.sql: call_named, code_named,
+--   database/views.sql: delivery, service, status; nodes.sql: manager, node_of, who; names.sql: call_named, code_named,
 --   object_named, service_named; judging.py: call_words, name_words, object_words, path_text, short_name, status_name,
 --   thing_words
 -- after: records.sql
@@ -133,7 +133,7 @@ SELECT
   coalesce(c.interface, a.interface, b.interface, o.interface) AS interface,
   coalesce(c.others, a.others, o.others) AS others,
   coalesce(c.method, a.method, b.method) AS method,
-  s.service,
+  coalesce(s.service, v.name) AS service,
   s.others AS service_others
 FROM finding f
   LEFT JOIN call_named c ON (c.code, c.upid, c.ptr) = (f.code, f.about, f.node)
@@ -142,7 +142,8 @@ FROM finding f
   LEFT JOIN code_named b ON c.code IS NULL AND a.code IS NULL AND b.code = f.code
     AND f.relation NOT IN ('handle', 'node', 'given')
   LEFT JOIN object_named o ON (o.upid, o.ptr) = (f.about, f.node) AND f.relation IN ('handle', 'node', 'given')
-  LEFT JOIN service_named s ON (s.upid, s.ptr) = (f.about, f.node);
+  LEFT JOIN service_named s ON (s.upid, s.ptr) = (f.about, f.node)
+  LEFT JOIN service v ON f.relation = 'service' AND v.id = f.node;
 -- The thing that each finding is about, if it is none that came a way.
 CREATE TEMP VIEW thing_path AS
 SELECT
@@ -153,6 +154,7 @@ SELECT
       WHEN f.relation IN ('handle', 'given') THEN thing_words('handle', f.handle)
       WHEN f.relation = 'cookie' THEN thing_words('cookie', f.cookie)
       WHEN f.relation IN ('node', 'address') THEN thing_words(f.relation, f.node)
+      WHEN f.relation = 'service' THEN n.service
       ELSE coalesce(f.calls, call_words(f.code, short_name(n.interface), n.others, n.method)) END,
     CASE
       WHEN f.relation IN ('handle', 'given')
