@@ -1,15 +1,17 @@
 """More sessions as in cases.py: with something else beside what a rule is about, of another path, process, thread or
 cookie, or of another section, which the rule must leave alone."""
 
-from checks.kit.captures import (BC_CLEAR_DEATH_NOTIFICATION, BC_CLEAR_FREEZE_NOTIFICATION, BC_DEAD_BINDER_DONE,
-                                 BC_RELEASE, BC_REQUEST_DEATH_NOTIFICATION, BC_REQUEST_FREEZE_NOTIFICATION,
-                                 BC_TRANSACTION, BR_CLEAR_DEATH_NOTIFICATION_DONE, BR_CLEAR_FREEZE_NOTIFICATION_DONE,
-                                 BR_DEAD_BINDER, BR_FAILED_REPLY, BR_REPLY, ENTER, each, each_long, frozen, record, u32,
-                                 watch)
+from checks.kit.captures import (BC_ACQUIRE, BC_CLEAR_DEATH_NOTIFICATION, BC_CLEAR_FREEZE_NOTIFICATION,
+                                 BC_DEAD_BINDER_DONE, BC_DECREFS, BC_INCREFS, BC_RELEASE, BC_REQUEST_DEATH_NOTIFICATION,
+                                 BC_REQUEST_FREEZE_NOTIFICATION, BC_TRANSACTION, BR_CLEAR_DEATH_NOTIFICATION_DONE,
+                                 BR_CLEAR_FREEZE_NOTIFICATION_DONE, BR_DEAD_BINDER, BR_FAILED_REPLY, BR_REPLY, ENTER,
+                                 changed, each, each_long, frozen, of_handle, offsets, record, u32, u64, watch)
 from checks.viewer.sessions.book_cases import begun
 from checks.viewer.sessions.cases import case, with_server
 from checks.viewer.sessions.freeze_cases import watching
-from checks.viewer.sessions.session import DONE, ONE_WAY, STATUS_CODE, Sent
+from checks.viewer.sessions.kept_cases import Quarters
+from checks.viewer.sessions.name_cases import ONE, TWO
+from checks.viewer.sessions.session import DONE, ONE_WAY, STATUS_CODE, UPDATE_TXN, Sent, node_object
 
 
 # ---- two paths that differ in one thing
@@ -328,3 +330,169 @@ def freeze_of_one_of_two(s, before, met):
     client.main.writes(watch(BC_REQUEST_FREEZE_NOTIFICATION, 1, 0xF))
     client.main.reads(frozen(0xF, 1))
     client.main.writes(*each(BC_RELEASE, 1))
+
+
+# ---- frees
+
+
+def freed_once(s):
+    """A server, a client of it, and a buffer of the client that was freed: the reply to a call. The manager has another
+    interface with the same code."""
+    manager, client, server = with_server(s)
+    client.main.asks(manager.main, 7, body=TWO)
+    return server, client, manager, client.main.asks(server.main, 7, 1, 0x9000, body=ONE)
+
+
+@case("F1:1", "\nIOne code 7 (at ", of="call")
+@case("F1:1", "\nreply to IOne code 7 (at ", of="reply")
+@case("F1:1 F2:1", "\nreply to IOne code 7 (at ", of="reply", also="nothing")
+@case("F2:1", of="reply", also="elsewhere")
+def freed_twice_beside(s, of, also=""):
+    """The buffer of a call, or of a reply, is freed twice, before and after those of other calls. The process also
+    frees what it never got; or another one alone frees that address."""
+    server, client, manager, address = freed_once(s)
+    if of == "call":
+        address = server.main.gets(client.main.sends(1, 7, body=ONE), 0x9000)
+        client.main.answered(server.main.replies(address))
+    client.main.asks(manager.main, 7, body=TWO)
+    if also == "elsewhere":
+        s.process(400, "other").main.frees(address)
+    else:
+        (server if of == "call" else client).main.frees(address)
+    if also == "nothing":
+        client.main.frees(0x1230)
+
+
+@case("F1:2", "(at 2472)", "(at 3012)", again=True)
+@case("F1:1", again=False)
+@case("F1:1 U6:1", keeps=True)
+def freed_and_given_again(s, again=False, keeps=False):
+    """A buffer is freed twice, and then one comes at the same address, which is kept, or freed once or twice."""
+    server, client, _, address = freed_once(s)
+    client.main.frees(address)
+    client.next = address - 0x1000
+    client.main.asks(server.main, 7, 1, 0x9000, free=not keeps)
+    if again:
+        client.main.frees(address)
+
+
+# ---- references
+
+
+TAKES = {"A": BC_ACQUIRE, "R": BC_RELEASE, "I": BC_INCREFS, "D": BC_DECREFS}
+
+
+@case("", changes="IAARR")
+@case("", changes="AIIDD")
+@case("H4:1", "(2 times, and let go of 0 times)", changes="AA")
+@case("H4:1", "(2 times, and let go of 1 time)", changes="AAR")
+@case("H4:1", "(3 times, weakly, and let go of 0 times)", changes="IIAARRI")
+@case("H4:1", "(2 times, weakly, and let go of 0 times)", changes="AII")
+@case("H4:1", "(2 times, weakly, and let go of 1 time)", changes="IID")
+@case("C4:1 H4:1 A1:2", changes="AA", called=True)
+@case("H4:1 H11:1", changes="AA", more=True)
+def taken_and_let_go(s, changes, called=False, more=False):
+    """A handle is acquired, released, taken weakly and let go of so, in this order. A call to it is never answered; or
+    another handle is taken more and more often."""
+    service, client = s.two()
+    client.main.is_given(service.main, 1, take=False)
+    client.main.is_given(service.main, 2, take=False)
+    for change in changes:
+        client.main.writes(*each(TAKES[change], 1))
+    for gained in (1, 1, 5, 5) if more else ():
+        client.main.writes(*each(BC_ACQUIRE, *[2] * gained))
+        s.wait(1000)
+    if called:
+        service.main.gets(client.main.sends(1, 8), 0x100)
+    s.wait(300)
+
+
+@case("H3:1")
+def dead_taken_again(s):
+    """A handle was taken twice, and its process holds it long after its death was told."""
+    service, client = s.two()
+    client.main.is_given(service.main, 1)
+    client.main.writes(*each(BC_ACQUIRE, 1))
+    watches(client.main, 1, 0xD)
+    client.main.reads(*each_long(BR_DEAD_BINDER, 0xD))
+    client.main.writes(*each_long(BC_DEAD_BINDER_DONE, 0xD))
+    s.wait(1100)
+
+
+@case("H4:1 H5:4", twice=1)
+@case("C4:1 H5:4 A1:2", called=True)
+@case("C4:1 H9:8 A1:2", "(4 held at half of its time, 8 at the end)", called=True, grows=True)
+def kept_beside(s, twice=0, called=False, grows=False):
+    """A client keeps what replies gave it. Another one of these it took twice, or a call to one is never answered."""
+    manager, client, server = with_server(s)
+    Quarters(s, client, manager).plays(server, (2, 2, 2, 2) if grows else (1, 2, 1, 0), 2 if grows else 0,
+                                       twice=(0, 0, 0, twice), uses=grows)
+    if called:
+        server.main.gets(client.main.sends(100, 9), 0x100 * 100)
+    s.wait(300)
+
+
+# ---- oneway sends
+
+
+@case("W1:1 W5:1", flags=ONE_WAY | UPDATE_TXN, freed=False)
+@case("W1:1", flags=ONE_WAY | UPDATE_TXN, held=20, wait=20)
+@case("W2:1", wait=70)
+@case("W3:1", wait=200)
+@case("E3:1 W2:1", wait=20, late=True)
+@case("W2:1 W3:1", wait=20, late=True, other="process")
+@case("W3:1", wait=50, other="node")
+@case("W3:1", wait=50, other="cookie")
+@case("W3:1 W5:1", freed=False, other="cookie")
+def oneway_beside_another(s, flags=ONE_WAY, held=300, wait=0, freed=True, other="", late=False):
+    """As `oneway_after_another`, and the process does more before it ends. A send replaces the one before it, or goes
+    to another object: of another address, process or cookie. `late`: one more follows, shortly before the end or, of
+    two processes, to the one that ends."""
+    service, client = s.two()
+    given(client, service, 1, 0x9100)
+    if other == "process":
+        given(s.process(300, "twin"), service, 2, 0x9100)
+    elif other:
+        given(client, service, 2, 0x9200 if other == "node" else 0x9100, 0x77 if other == "cookie" else 0)
+    looper, main = client.looper(1), service.main
+    for _ in range(3):
+        looper.frees(looper.gets(main.sends(1, 7, ONE_WAY), 0x9100))
+    address = looper.gets(main.sends(1, 7, ONE_WAY), 0x9100)
+    main.sends(2 if other else 1, 7, flags)
+    if late and other:
+        main.sends(1, 7, flags)
+    s.wait(held)
+    if late and not other:
+        main.sends(1, 7, flags)
+    if freed:
+        looper.frees(address)
+    s.wait(wait)
+    client.main.writes(ENTER)
+    if freed:
+        client.ends()
+    s.wait(500)
+
+
+def given(giver, taker, handle, ptr, cookie=0):
+    """An object of a process with this cookie is handed over."""
+    body, listed = changed(node_object(ptr), (16, u64(cookie))), offsets(0)
+    address = taker.main.gets(giver.main.sends(0, 4, body=body, listed=listed), 0, of_handle(2, handle))
+    taker.main.writes(*each(BC_ACQUIRE, handle))
+    giver.main.answered(taker.main.replies(address))
+
+
+@case("W3:1 U6:1", kept=True)
+@case("O3:2 W3:1", kept=False)
+def oneway_to_a_twin(s, kept):
+    """Two processes have an object at the same address. A oneway send to one of them never comes. That process keeps a
+    reply of the other one that has the flag of a oneway transaction, or makes oneway sends to it with an unknown
+    flag."""
+    manager, client, server = with_server(s)
+    client.main.gives(manager.main, 7, node=0x9000)
+    if kept:
+        address = server.main.gets(client.main.sends(1, 7), 0x9000)
+        client.main.answered(server.main.replies(address, flags=ONE_WAY), free=False)
+    else:
+        server.main.frees(server.main.gets(client.main.sends(1, 7, ONE_WAY | 0x80), 0x9000))
+    manager.main.sends(7, 9, ONE_WAY)
+    s.wait(300)

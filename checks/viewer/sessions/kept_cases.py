@@ -221,6 +221,8 @@ class Quarters:
 @case("H5:12", gains=(4, 4, 4, 0), passing=0, uses=False, rests=3900)
 @case("M2:12", gains=(3, 3, 3, 3), passing=3, uses=False, lost=True)
 @case("H4:4", gains=(4, 0, 0, 0), twice=(0, 0, 2, 2))
+@case("H4:1 H10:12", gains=(3, 3, 3, 3), passing=0, twice=(0, 0, 0, 1), uses=False)
+@case("H4:1 H5:9", gains=(3, 2, 2, 2), passing=0, twice=(0, 0, 0, 1), uses=False)
 @case("M1:8", lost=True)
 @case("H5:8", passing=0, lost=True)
 @case("", gains=(6, 3, 2, 0), late=True)
