@@ -82,12 +82,12 @@ _binder_record() { # COMMAND WORD BEFORE
 _binder_view() { # COMMAND WORD BEFORE
   COMPREPLY=()
   case $3 in
-    --process | --thread | --from | --to | --last | --between | --around) ;;
+    --process | --thread | --from | --to | --last | --between | --around | --slow) ;;
     --fail-on) _binder_audit_words "$2" 'real maybe' ;;
     --names) _binder_audit_words "$2" android ;;
     *)
       _binder_audit_options "$2" '--side --methods --symbols -o --database --groups --against --fail-on --known --trace
-        --names --process --thread --from --to --last --between --around --help --version'
+        --names --process --thread --from --to --last --between --around --slow --help --version'
       ;;
   esac
 }

@@ -124,6 +124,7 @@ case $service in
       '(--between --around)--last[show the last time]:5s, 500ms or 2m:' \
       '(--last --around)--between[show from a moment to another one]:begin: :end:' \
       '(--last --between)--around[show what is around a place]:place:' \
+      '--slow[how long a call of a main thread takes at least that the page lists]:16ms or 1s:' \
       '(- *)--help[say what the options do]' \
       '(- *)--version[say what the programs are made of]' \
       $parts

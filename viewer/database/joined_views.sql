@@ -1,10 +1,10 @@
 -- Views that join what a question needs: both ends of a transaction, with times, names and outcome; who holds whose
 -- object; who asked to be told of whose death; descriptors; loopers and what they serve; and senders in sum. They have
 -- numbers in place of names, and joined lines, as views.sql has.
--- needs: schema.sql: capture, method, object_interface, object_service, raw_call, raw_capture, raw_delivery,
---   raw_generation, raw_interface, raw_object, raw_process, raw_record, raw_send, raw_service, raw_thread,
---   side_process, side_thread, side_time; numbers.sql: kind, verdict; views.sql: sent_to; rules/nodes.sql: node_of;
---   rules/groups.sql: traffic; rules/defects.sql: call_text
+-- needs: schema.sql: book_handle, capture, method, object_interface, object_service, raw_call, raw_capture,
+--   raw_delivery, raw_generation, raw_interface, raw_object, raw_process, raw_record, raw_send, raw_service,
+--   raw_thread, side_process, side_thread, side_time; numbers.sql: kind, verdict; views.sql: sent_to; rules/nodes.sql:
+--   node_of; rules/groups.sql: traffic; rules/defects.sql: call_text
 -- makes: views: txn, holder, death_request, fd_sent, looper, sender
 
 -- The outcome of a call is how its thread saw it end; that of a oneway transaction is what became of it at the driver.
@@ -179,6 +179,7 @@ SELECT
   x.ts,
   CASE WHEN l.serving NOTNULL THEN (SELECT value FROM capture WHERE key = 'until_ts') - x.ts END AS age,
   coalesce(i.name, k.interface) AS interface,
+  r.ptr,
   r.code,
   coalesce(m.method, k.method) AS method,
   s.upid AS client_upid,

@@ -4,7 +4,7 @@ import os
 import pathlib
 import sqlite3
 
-from viewer.clocks import Times
+from viewer.clocks import SECOND, Times
 from viewer.files import word_of
 from viewer.malformed import fault_of
 from viewer.program_names import called
@@ -17,13 +17,16 @@ QUERIES = pathlib.Path(__file__).resolve().parent / "queries"
 # The most rows of a section. The rest is counted.
 ROWS = 1000
 
+# How long a call of a main thread takes at least that the page lists, in nanoseconds: six frames of a screen are missed.
+SLOW = SECOND // 10
+
 
 class Capture:
     """The capture, and the window of it that is shown. A process is called as in `who`, and a call or an object as in
     `names`."""
 
-    def __init__(self, database: sqlite3.Connection, files: list[str], window: Window | None = None):
-        self.database, self.window = database, window
+    def __init__(self, database: sqlite3.Connection, files: list[str], window: Window | None = None, slow: int = SLOW):
+        self.database, self.window, self.slow = database, window, slow
         self.groups = set(groups_within(database, window))
         named = " ".join(map(word_of, files))
         self.command, self.report = f"{called('listing')} {named}", f"{called('audit')} report {named}"

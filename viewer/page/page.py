@@ -14,7 +14,7 @@ from typing import Iterator
 from viewer.database.report import columns_of
 from viewer.defects.gate import Shown
 from viewer.files import Stopped, for_owner, shown_name, whole_file
-from viewer.page.capture import ROWS, Capture
+from viewer.page.capture import ROWS, SLOW, Capture
 from viewer.page.groups import FINDINGS, Groups
 from viewer.page.head import head_of
 from viewer.page.plots import axis_of, growths_of
@@ -60,6 +60,7 @@ def asked_of(capture: Capture, shown: Shown) -> dict[str, object]:
             "left": groups.left, "most": FINDINGS, "all_verdicts": VERDICTS, "columns_of": columns_of,
             "growths": lambda: growths_of(capture), "axis": lambda: axis_of(capture),
             "has_stacks": groups.stacks.are_there, "gone": shown.gone, "calls": lambda: calls_of(capture),
+            "slow": capture.slow, "slow_calls": lambda: capture.asked("main_thread", ROWS, capture.slow),
             "groups_shown": len(capture.groups)}
 
 
@@ -105,8 +106,9 @@ def counts_in(database: sqlite3.Connection, window: Window | None) -> str:
 
 
 def write(database: sqlite3.Connection, files: list[str], path: pathlib.Path, shown: Shown | None = None,
-          window: Window | None = None) -> None:
-    """Writes the page, for its owner only. `shown`: what it shows of another capture."""
+          window: Window | None = None, slow: int = SLOW) -> None:
+    """Writes the page, for its owner only. `shown`: what it shows of another capture. `slow`: how long a call of a main
+    thread takes at least that it lists."""
     with whole_file(path, lambda: is_page_of(files, path)) as made:
         with open(made, "x", encoding="utf-8", errors="replace", opener=for_owner) as out:
-            out.writelines(document(Capture(database, files, window), shown or Shown({}, [])))
+            out.writelines(document(Capture(database, files, window, slow), shown or Shown({}, [])))

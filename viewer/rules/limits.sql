@@ -2,7 +2,7 @@
 -- process of the pool, and how much of the receiver's space for oneway sends was free. The driver in Rust hands calls
 -- and oneway sends only to threads that have said that they take calls.
 -- needs: database/schema.sql: book_stats, finding, raw_thread; database/views.sql: device, process; ages.sql:
---   process_life; rule.sql: lossy; waits.sql: full_pool, holder, loop, queued, waits; judging.py: counted
+--   process_life; rule.sql: lossy; waits.sql: full_pool, loop, occupies, queued, waits; judging.py: counted
 -- after: calls.sql, failures.sql
 -- makes: temporary tables: pool_limit, no_looper
 
@@ -14,7 +14,7 @@ SELECT upid, CASE WHEN most = 0 AND started + requested = 0 THEN 'the driver ask
 FROM book_stats WHERE moment = 'end';
 -- The pool that a call keeps busy, or else the one that it waits in.
 UPDATE finding SET note = note || '; ' || p.limits FROM pool_limit p
-WHERE finding.rule = 'C6' AND p.upid = (SELECT min(h.upid) FROM holder h JOIN full_pool USING (upid)
+WHERE finding.rule = 'C6' AND p.upid = (SELECT min(h.upid) FROM occupies h JOIN full_pool USING (upid)
   WHERE h.id = finding.id);
 UPDATE finding SET note = coalesce(note || '; ', '') || p.limits FROM waits w JOIN full_pool f ON f.upid = w.server_upid
   JOIN pool_limit p ON p.upid = f.upid

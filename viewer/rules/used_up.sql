@@ -1,6 +1,6 @@
 -- Q: pools that are used up, which are findings of their own, one for each server.
 -- needs: database/schema.sql: finding, raw_call, raw_delivery, raw_record, raw_send, raw_thread, side_time; nodes.sql:
---   who; ages.sql: process_life; waits.sql: holder, step; pools.sql: full_wait, kept_by, kept_by_method, kept_for;
+--   who; ages.sql: process_life; waits.sql: occupies, step; pools.sql: full_wait, kept_by, kept_by_method, kept_for;
 --   judging.py: counted, duration
 -- after: calls.sql
 -- makes: temporary tables: usual_wait, told_by_call, used_up
@@ -41,7 +41,7 @@ WITH RECURSIVE told(at) AS (SELECT id FROM finding WHERE rule IN ('C3', 'C6', 'C
     AND EXISTS (SELECT 1 FROM full_wait)
   UNION SELECT s.id FROM told t JOIN step s ON s.next = t.at LEFT JOIN finding f ON f.id = s.id
     WHERE s.id < 0 OR f.rule = 'C7')
-SELECT DISTINCT upid AS server FROM holder WHERE id IN (SELECT at FROM told);
+SELECT DISTINCT upid AS server FROM occupies WHERE id IN (SELECT at FROM told);
 CREATE TEMP TABLE used_up AS
 SELECT w.server, count(*) AS n, max(w.until - w.since) AS longest, u.dur AS usual,
   coalesce(sum(w.until - w.since > :OLD * u.dur) >= :OFTEN, 0) AS is_real

@@ -4,7 +4,7 @@
 --   from_before, to_frozen; ages.sql: last, life, old, process_life; judging.py: call_name, duration
 -- after: counts.sql
 -- makes: temporary tables: waits, few, waits_for, main_thread, ring_step, ring, lock_step, lock_way, lock_ring,
---   own_ring, serves_on, queued, loop, taker, taken, came, holder, pool, full_pool, step, waited; indexes: waits_id,
+--   own_ring, serves_on, queued, loop, taker, taken, came, occupies, pool, full_pool, step, waited; indexes: waits_id,
 --   waits_process, waits_place, waits_thread, waits_server, waits_delivery, next_wait, ring_step_from, lock_step_from,
 --   lock_way_from, lock_ring_of, own_ring_of, queued_at, came_place, pool_of, full_pool_of, step_from, step_to
 
@@ -164,13 +164,13 @@ FROM last, taker k LEFT JOIN life l ON l.utid = k.utid
 CREATE TEMP TABLE came AS
 SELECT id, place, section FROM finding WHERE section IN ('served', 'buffers') AND EXISTS (SELECT 1 FROM taken);
 CREATE INDEX temp.came_place ON came(place, section);
-CREATE TEMP TABLE holder AS
+CREATE TEMP TABLE occupies AS
 SELECT t.upid, coalesce((SELECT w.id FROM waits w WHERE w.delivery = t.place OR w.place = t.place),
   (SELECT c.id FROM came c WHERE c.place = t.place ORDER BY c.section DESC),
   (SELECT w.id FROM waits w WHERE w.server = t.utid AND w.place < 0 AND t.place IS NULL ORDER BY w.delivery DESC))
   AS id
 FROM taken t WHERE t.place NOTNULL OR t.earlier;
-DELETE FROM holder WHERE id IS NULL;
+DELETE FROM occupies WHERE id IS NULL;
 -- Of a process that was met in mid-life, other threads may take calls too.
 CREATE TEMP TABLE pool AS
 SELECT t.upid, count(*) AS threads, sum(t.place NOTNULL OR t.earlier) AS busy,
@@ -187,13 +187,13 @@ CREATE UNIQUE INDEX temp.pool_of ON pool(upid);
 -- A pool of which all threads are in something that is a finding too.
 CREATE TEMP TABLE full_pool AS
 SELECT upid, n, doing || '; ' || iif(n = 1, '1 send waits', n || ' sends wait') AS doing FROM pool
-WHERE threads = busy AND upid IN (SELECT upid FROM holder);
+WHERE threads = busy AND upid IN (SELECT upid FROM occupies);
 CREATE UNIQUE INDEX temp.full_pool_of ON full_pool(upid);
 
 -- What waits for what. The steps go from a full pool to what its threads are in, from a call that nobody got to the
 -- pool, and from a call to the one that it waits for: a pool is its process below 0.
 CREATE TEMP TABLE step AS
-SELECT -h.upid AS id, h.id AS next FROM holder h JOIN full_pool USING (upid)
+SELECT -h.upid AS id, h.id AS next FROM occupies h JOIN full_pool USING (upid)
 UNION SELECT w.id, -w.server_upid FROM waits w JOIN full_pool p ON p.upid = w.server_upid WHERE w.delivery IS NULL
 UNION SELECT n.id, n.next FROM waits_for n JOIN waits w USING (id) WHERE w.delivery NOTNULL;
 CREATE INDEX temp.step_from ON step(id);

@@ -1,0 +1,56 @@
+"""The folded sections of the page that answer a question: who serves what, slow calls of main threads, the largest
+transactions, senders, holders, death recipients, and descriptors."""
+
+import pathlib
+import re
+
+from checks.kit.checking import Fail, compare
+from checks.viewer.page.common import stored, view
+
+SECTION = re.compile(r'<details class="fold"><summary>([^<]*)</summary>(.*?)</details>', re.DOTALL)
+BODY = re.compile(r"<tbody>(.*?)</tbody>", re.DOTALL)
+
+
+def sections_of(page: str) -> dict[str, list[list[str]]]:
+    """The rows of each folded section, by the first words of its title, each cell without markup and times of day."""
+    found = {}
+    for title, inner in SECTION.findall(page):
+        body = BODY.search(inner)
+        rows = body[1].split("<tr>")[1:] if body else []
+        found[title] = [[re.sub(r"<[^>]*>", "", re.sub(r'<span class="of">.*?</span>', "", cell)).partition(">")[2].strip()
+                         for cell in row.split("<td")[1:]] for row in rows]
+    return found
+
+
+def page_of(folder: pathlib.Path, room: pathlib.Path, scenario: str, *words: str) -> dict[str, list[list[str]]]:
+    path = room / f"{scenario}.html"
+    status, _, said = view(folder, room, *stored(scenario), "-o", path, *words)
+    return sections_of(path.read_text("utf-8")) if status == 0 else {said: []}
+
+
+# Of some scenarios the first row of a section, or what it has of one.
+DUE = {
+    "hello-stuck": {
+        "Threads that take calls, and what each serves at the end":
+            ["hello 444", "binder#1 446", "2.288 s", "3.42 s", "IHello code 6", "client 451", ""],
+        "Calls of main threads that took 30 ms or more":
+            ["hello 444", "client 447", "ICallback code 1", "1", "45.9 ms", "45.9 ms", "6060", "1.496 s"],
+        "The largest transactions":
+            ["780", "0.614 s", "hello 444", "names 443", "IServiceManager.addService (code 3)", "call", "168", "4",
+             "answered"],
+        "Who sends most": ["client 447", "0", "8", "1", "0", "620", "1.58", "109"],
+        "Death recipients: who asked to be notified of whose death":
+            ["hello 444", "names 443", "android.os.IServiceManager", "1", "1", "0", "0"]},
+    "hello-sessions": {
+        "Who holds whose objects":
+            ["client 351", "hello 344", "org.example.ISession", "", "6", "6", "5.353 s"]},
+    "objects": {"File descriptors that came": ["service 230", "client 231", "code 1", "2", "", "", ""]}}
+
+
+def check_sections(folder: pathlib.Path, room: pathlib.Path, fail: Fail) -> None:
+    for scenario, due in DUE.items():
+        found = page_of(folder, room, scenario, "--slow", "30ms")
+        came = {title: rows[0] for title, rows in found.items() if title in due and rows}
+        compare(f"first rows of sections, {scenario}", came, due, fail)
+    found = page_of(folder, room, "hello-stuck")
+    compare("calls of main threads over 100 ms", [title for title in found if "main threads" in title], [], fail)
