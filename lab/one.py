@@ -36,7 +36,8 @@ class Inputs(NamedTuple):
     methods: list[str]
 
     def options(self) -> list[str]:
-        return [f"--side={side}" for side in self.sides] + [f"--methods={table}" for table in self.methods]
+        sides = [f"--side={side}" for side in self.sides] or ["--no-side"]
+        return sides + [f"--methods={table}" for table in self.methods]
 
 
 def digest_of(files: list[str]) -> str:

@@ -86,8 +86,9 @@ _binder_view() { # COMMAND WORD BEFORE
     --fail-on) _binder_audit_words "$2" 'real maybe' ;;
     --names) _binder_audit_words "$2" android ;;
     *)
-      _binder_audit_options "$2" '--side --methods --symbols -o --database --groups --against --fail-on --known --trace
-        --names --process --thread --from --to --last --between --around --slow --help --version'
+      _binder_audit_options "$2" '--side --no-side --methods --symbols -o --database --groups --columns --all --against
+        --fail-on --known --trace --names --process --thread --from --to --last --between --around --slow --help
+        --version'
       ;;
   esac
 }

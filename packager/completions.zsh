@@ -107,11 +107,14 @@ case $service in
   binder-view)
     _arguments \
       '*--side[side list, for times and names]:side list:_files' \
+      '(*--side)--no-side[take no side list]' \
       '*--methods[table of methods]:table:_files' \
       '*--symbols[folder with files that have symbols]:folder:_files -/' \
       '-o[file of the page]:page:_files' \
       '--database[keep the database]:database:_files' \
       '--groups[print the groups of findings]' \
+      '--columns[print them in columns]' \
+      '--all[also those that are explained or normal]' \
       '--against[what is new since another capture]:database:_files' \
       '--fail-on[end with status 10 if there is such a defect]:verdict:(real maybe)' \
       '--known[defects that are known]:file:_files' \

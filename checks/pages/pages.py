@@ -134,8 +134,9 @@ def wrong_answers(page, program, room):
     path = f"{folder}/bin:{os.environ['PATH']}" if with_sqlite3(folder) else os.environ["PATH"]
     for number, block, _ in blocks(page):
         for at, command, due in commands_in(block):
-            _, said, _ = answer(["bash", "-c", command], timeout=LONGEST, cwd=folder, env={**os.environ, "PATH": path},
-                                encoding="utf-8", stderr=subprocess.STDOUT)
+            _, said, _ = answer(["bash", "-c", command], timeout=LONGEST, cwd=folder, encoding="utf-8",
+                                env={**os.environ, "PATH": path, "TZ": "UTC", "COLUMNS": "100"},
+                                stderr=subprocess.STDOUT)
             if said.splitlines() != due:
                 yield number + at, f"it prints {said!r}"
 

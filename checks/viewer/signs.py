@@ -116,10 +116,14 @@ def check_planted(folder: pathlib.Path, room: pathlib.Path, fail: Fail) -> None:
     status, out, err = ran(folder, room, *words, "--groups", "--database", f"c{NAMED}.db", "--trace", "t.json.gz")
     compare("planted signs, status", (status, len(out.splitlines()) > 0), (0, True), fail)
     compare("planted signs, lines on standard error", [line.partition(b" ")[0] for line in err.split(b"\n")],
-            [b"view:", b"view:", b""], fail)
+            [b"view:", b"view:", b"view:", b""], fail)
     compare("planted signs, the line on the books", b"handle 1 1 by the report and 2 by the books" in err, True, fail)
     clean("the groups", out, fail, "\n\t")
     clean("what is told of them", err, fail)
+    status, out, err = ran(folder, room, *words, "--groups", "--columns", "--all")
+    compare("planted signs, columns", (status, len(out.splitlines()) > 2), (0, True), fail)
+    clean("the columns", out, fail)
+    clean("what is told of the columns", err, fail)
     status, out, err = ran(folder, room, *words, "-o", f"d{NAMED}.html", "--trace", "t.pftrace")
     compare("planted signs, the page's status", (status, out), (0, b""), fail)
     clean("what is told of the page", err, fail)
@@ -227,10 +231,12 @@ def check_locale(folder: pathlib.Path, room: pathlib.Path, fail: Fail) -> None:
     (room / "named.side").write_text(side, "utf-8")
     answers = []
     for settings in ({"LC_ALL": "C.UTF-8"}, {"LC_ALL": "C", "PYTHONCOERCECLOCALE": "0", "PYTHONUTF8": "0"}):
-        page = room / f"{settings['LC_ALL']}.html"
+        page = room / "named.html"
         words = here / "capture-1.cap", "--side", "named.side"
         answers.append((ran(folder, room, *words, "--groups", **settings),
+                        ran(folder, room, *words, "--groups", "--columns", "--all", **settings),
                         ran(folder, room, *words, "-o", page, **settings), page.exists() and page.read_bytes()))
+        page.unlink(missing_ok=True)
     compare("a name that the locale lacks is in the groups", "клиент".encode() in answers[0][0][1], True, fail)
     compare("groups and page in a locale that lacks signs", answers[1] == answers[0], True, fail)
 

@@ -486,7 +486,7 @@ def check_stopped(folder: pathlib.Path, room: pathlib.Path, fail: Fail) -> None:
             (1, "stopped.json.gz", SIGTERM, (143, "")), (2, "stopped.json.gz", SIGTERM, (143, "")),
             (1, "stopped.pftrace", SIGTERM, (143, "")),
             (1, "full.pftrace", FULL, (4, "view: full.pftrace: No space left on device\n"))):
-        words = [folder / "view", DRIVER / "gaps/capture-1.cap", "--trace", name]
+        words = [folder / "view", DRIVER / "gaps/capture-1.cap", "--no-side", "--trace", name]
         ended = subprocess.run([sys.executable, "-c", HAPPENS_AT, str(at), happens, *words], cwd=room,
                                env={**os.environ, "TMPDIR": str(room / "tmp")}, stderr=subprocess.PIPE,
                                encoding="utf-8")

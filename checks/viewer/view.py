@@ -38,6 +38,9 @@ What must hold:
   status 2. Standard error and the first line of --groups name the file and what the fault means; the status is 2 with
   --fail-on too.
 - A pipe, a folder, and a capture that changes while it is read end in a line. A file by whatever name is read.
+- The side list that lies beside a capture by its name is taken, and a line says so. A line says at the end what a page
+  has. At a terminal --groups prints columns, with the sentences of rules, of what is real or maybe, and of all with
+  --all.
 - A page is whole or not there, whatever ends it. It replaces an earlier page of the capture, and no other file.
 - SIGTERM leaves nothing in TMPDIR.
 - `--version` says the commit. Without a part of Python's library a line names that.
@@ -84,8 +87,8 @@ from checks.viewer.page.books import (check_agreement, check_bad_books, check_co
                                       check_long_books)
 from checks.viewer.page.browser import check_browser
 from checks.viewer.page.common import groups_of, loaded, renew_groups
-from checks.viewer.page.files import (check_again, check_changing, check_malformed, check_names, check_pipes,
-                                      check_terminal, check_whole)
+from checks.viewer.page.files import (check_again, check_beside, check_changing, check_malformed, check_names,
+                                      check_pipes, check_terminal, check_whole)
 from checks.viewer.page.growth import check_growth
 from checks.viewer.page.losses import CUTS, FAULTLESS, check_cuts, check_gaps
 from checks.viewer.page.methods import check_methods, check_unnamed
@@ -116,7 +119,8 @@ SIDE_BY_SIDE = [
     *(Part(f"cut/{name}/{cut}", check_cuts, (name, cut)) for name in FAULTLESS for cut in range(CUTS)),
     *(Part(f"libgbinder/{name}", check_libgbinder, (name,)) for name in CAPTURES),
     *(Part(f"lost/{name}", check_gaps, (name,)) for name, (_, side) in SAMPLES.items() if side),
-    *parts_of(check_malformed, check_pipes, check_names, check_changing, check_again, check_whole, check_terminal)]
+    *parts_of(check_malformed, check_pipes, check_names, check_changing, check_again, check_whole,
+               check_terminal, check_beside)]
 BY_SCRIPTS = parts_of(check_templates, check_words, check_stopped, check_no_engine, check_python, check_version)
 IN_TURN = parts_of(
     check_side, check_forms, check_no_lists, check_list_of_loader, check_renames, check_last_names, check_files,

@@ -19,7 +19,6 @@ from viewer.page.groups import FINDINGS, Groups
 from viewer.page.head import head_of
 from viewer.page.plots import axis_of, growths_of
 from viewer.page.texts import pieces_of, title_of, user_name
-from viewer.page.within import counts_of
 from viewer.rules.verdicts import VERDICTS
 from viewer.units import code_name, counted, duration_of
 from viewer.window import Window
@@ -97,12 +96,6 @@ def refuse_other(files: list[str], path: pathlib.Path) -> None:
     """A page replaces an earlier one of the capture, and no other file."""
     if os.path.lexists(path) and not is_page_of(files, path):
         raise Stopped(1, f"{path} exists already, and is no page of {shown_name(files)}: name another file by -o")
-
-
-def counts_in(database: sqlite3.Connection, window: Window | None) -> str:
-    """How many groups a page has of which verdict, as in its four counts."""
-    counts = counts_of(database, window)
-    return ", ".join(f"{counts.get(verdict, (0, 0))[0]} {verdict}" for verdict in VERDICTS)
 
 
 def write(database: sqlite3.Connection, files: list[str], path: pathlib.Path, shown: Shown | None = None,

@@ -5,6 +5,7 @@ import pathlib
 import sqlite3
 
 from viewer.files import Stopped
+from viewer.units import counted
 from viewer.window import Recording, Window, is_asked
 
 WITHIN = (pathlib.Path(__file__).resolve().parent / "queries/within.sql").read_text("utf-8")
@@ -30,6 +31,16 @@ def groups_within(database: sqlite3.Connection, window: Window | None) -> list[i
     if window is None:
         return [group for group, in database.execute("SELECT grp FROM finding_group ORDER BY nth")]
     return [group for group, in database.execute(WITHIN, (window.first, window.last, window.begin))]
+
+
+def told_of(database: sqlite3.Connection, window: Window | None) -> str:
+    """How many groups are shown, and what the capture has, in a line."""
+    counts = {verdict: groups for verdict, (groups, _) in counts_of(database, window).items()}
+    others = sum(counts.values()) - counts.get("real", 0) - counts.get("maybe", 0)
+    frames, missing, malformed = database.execute("SELECT frames, missing, fault FROM raw_capture").fetchone()
+    until = " up to its fault" if malformed else ""
+    return (f"{counts.get('real', 0):,} real, {counts.get('maybe', 0):,} maybe, {others:,} others;"
+            f" {counted(frames, 'frame')}{until}, {f'{missing % 2**64:,}' if missing else 'none'} missing")
 
 
 def counts_of(database: sqlite3.Connection, window: Window | None) -> dict[str, tuple[int, int]]:

@@ -15,8 +15,18 @@ from viewer.database.sqlite import open_database
 from viewer.page.group_lines import group_lines
 
 
+# The line on standard error by which a page or a timeline ends.
+AT_END = re.compile(r"^view: .*: [0-9,]+ real, [0-9,]+ maybe, [0-9,]+ others; .* missing\n\Z", re.MULTILINE)
+
+
+def without_end(came: tuple[int, str, str]) -> tuple[int, str, str]:
+    """What was answered, without that line."""
+    return came[0], came[1], AT_END.sub("", came[2])
+
+
 def view(folder: pathlib.Path, room: pathlib.Path, *words: object) -> tuple[int, str, str]:
-    return answer([folder / "view", *map(str, words)], timeout=120, cwd=room, encoding="utf-8")
+    """What `view` answers, without its line at the end."""
+    return without_end(answer([folder / "view", *map(str, words)], timeout=120, cwd=room, encoding="utf-8"))
 
 
 def stored(scenario: str) -> tuple[pathlib.Path, str, pathlib.Path]:

@@ -1,19 +1,23 @@
 """The files that `view` reads, which may be malformed, foreign, odd or changed meanwhile; and pages, which are whole or
 not there."""
 
+import contextlib
+import fcntl
 import os
 import pathlib
 import re
 import shutil
+import struct
 import subprocess
 import sys
+import termios
 from typing import NamedTuple
 
 from checks.kit.checking import Fail, compare
 from checks.kit.frames import frames_of
 from checks.kit.programs import DRIVER, ROOT
 from checks.kit.runs import answer
-from checks.viewer.page.common import stored, view
+from checks.viewer.page.common import stored, view, without_end
 from viewer.malformed import MEANINGS
 
 CAPTURE = DRIVER / "gaps/capture-1.cap"
@@ -114,7 +118,7 @@ def check_names(folder: pathlib.Path, room: pathlib.Path, fail: Fail) -> None:
     for name, word in NAMES.items():
         shutil.copyfile(CAPTURE, os.path.join(os.fsencode(room), name))
         came = answer([folder / "view", "-o", "named.html", "--", name], cwd=room, encoding="utf-8")
-        compare(f"{name!r}", came, (0, "", ""), fail)
+        compare(f"{name!r}", without_end(came), (0, "", ""), fail)
         text = re.sub("&#39;", "'", (room / "named.html").read_text("utf-8"))
         compare(f"{name!r}: the command on its page", f"./audit report {word} writes" in re.sub("<[^>]*>", "", text),
                 True, fail)
@@ -169,15 +173,79 @@ def check_again(folder: pathlib.Path, room: pathlib.Path, fail: Fail) -> None:
     compare("the page after these", page.read_bytes(), made[1][1], fail)
 
 
-def check_terminal(folder: pathlib.Path, room: pathlib.Path, fail: Fail) -> None:
-    """At a terminal a line says what the page has."""
+def at_terminal(words: list, room: pathlib.Path, columns: int) -> str:
+    """What a program writes whose standard output and standard error are a terminal so wide."""
     at, terminal = os.openpty()
-    answer([folder / "view", *stored("leaks"), "-o", "page.html"], cwd=room, stderr=terminal)
-    os.close(terminal)
-    said = os.read(at, 1 << 16).decode()
+    fcntl.ioctl(terminal, termios.TIOCSWINSZ, struct.pack("HHHH", 40, columns, 0, 0))
+    without = {name: value for name, value in os.environ.items() if name not in ("COLUMNS", "LINES")} | {"TZ": "UTC"}
+    with subprocess.Popen(words, cwd=room, stdout=terminal, stderr=terminal, env=without):
+        os.close(terminal)
+        said = b""
+        with contextlib.suppress(OSError):  # the terminal has ended
+            while piece := os.read(at, 1 << 16):
+                said += piece
     os.close(at)
-    compare("what is said at a terminal", re.findall(r"\033\[K(view: page.*)\r\n", said),
-            ["view: page.html: 0 real, 5 maybe, 1 explained, 3 normal"], fail)
+    return re.sub(r"[^\n]*\x1b\[K", "", said.decode().replace("\r\n", "\n"))
+
+
+END = "0 real, 5 maybe, 4 others; 85 frames, none missing\n"
+
+
+def check_terminal(folder: pathlib.Path, room: pathlib.Path, fail: Fail) -> None:
+    """A line says at the end what a page has. At a terminal --groups prints columns of what is real or maybe, in lines
+    that are no longer than the terminal is wide, and with --all of all; through a pipe its lines of fields, and no
+    other line."""
+    words = [folder / "view", *stored("leaks")]
+    _, said, told = answer([*words, "-o", "page.html"], cwd=room, encoding="utf-8")
+    compare("what is said of a page", (said, told), ("", f"view: page.html: {END}"), fail)
+    compare("what is said of a page at a terminal", at_terminal([*words, "-o", "page.html"], room, 80),
+            f"view: page.html: {END}", fail)
+    _, fields, told = answer([*words, "--groups"], cwd=room, encoding="utf-8")
+    compare("lines of fields through a pipe", ({line.count("\t") for line in fields.splitlines()}, told), ({10}, ""),
+            fail)
+    for columns in (80, 130):
+        table = at_terminal([*words, "--groups"], room, columns)
+        heads, *lines = table.splitlines()
+        compare(f"{columns} columns, the heads", heads.split(), ["verdict", "n", "what", "who", "at", "UTC"], fail)
+        compare(f"{columns} columns, the groups", [line.split()[0] for line in lines if line[:1] not in " 4v"],
+                ["maybe"] * 5, fail)
+        at = heads.index("who")
+        compare(f"{columns} columns, who", [line[at:].split()[0] for line in lines if line.startswith("maybe")],
+                ["deaf-watcher", "client", "service", "hasty-watcher", "service"], fail)
+        compare(f"{columns} columns, longer texts", [line for line in lines if line[:1] == " " and len(line) > columns],
+                [], fail)
+        compare(f"{columns} columns, a sentence and the end", (" ".join(table.split()).count(
+            "code 2 at service 176 node 0x1000 Its thread went on with other work. (U4) Look at what the thread did"),
+            table.endswith(f"view: capture-1.cap: {END}")), (1, True), fail)
+    whole = answer([*words, "--groups", "--columns", "--all"], cwd=room, encoding="utf-8")[1]
+    compare("all groups in columns", [line.split()[0] for line in whole.splitlines()[1:] if line[:1] != " "],
+            ["maybe"] * 5 + ["explained"] + ["normal"] * 3, fail)
+    _, said, _ = answer([folder / "view", *stored("hello-11"), "--groups", "--columns"], cwd=room, encoding="utf-8")
+    compare("columns without a finding", said.splitlines(), [
+        "No group is real or maybe. This does not show that nothing is wrong.",
+        "8 groups explained or normal: --all shows them."], fail)
+    for more in ("--columns",), ("--all",), ("--no-side", "--side", "x"):
+        compare(f"{more} and no --groups", answer([*words, *more], cwd=room)[0], 64, fail)
+
+
+def check_beside(folder: pathlib.Path, room: pathlib.Path, fail: Fail) -> None:
+    """The side list that lies beside a capture by its name is taken, and a line says so."""
+    capture, _, side = stored("hello-stuck")
+    for cap, lists in (("a.cap", ["a.side"]), ("b-1.cap", ["b.side"]), ("c-1.cap", ["c-1.side"]), ("d.cap", []),
+                       ("e-1.cap", ["e-2.side"]), ("f", ["f.side"])):
+        shutil.copy(capture, room / cap)
+        for one in lists:
+            shutil.copy(side, room / one)
+        taken = lists if cap[0] in "abc" else []
+        due = [f"view: takes {taken[0]} beside the capture; --no-side leaves it out"] if taken else []
+        _, said, told = view(folder, room, cap, "--groups")
+        compare(f"{cap} beside {lists}", (told.splitlines()[:1], "real\t" in said), (due, bool(taken)), fail)
+        _, said, told = view(folder, room, cap, "--groups", "--no-side")
+        compare(f"{cap} beside {lists}, without it", (told, "real\t" in said), ("", False), fail)
+    shutil.copy(stored("leaks")[2], room / "d.side")
+    status, _, told = view(folder, room, "d.cap", "--groups")
+    compare("a side list of another capture beside it", (status, told.splitlines()[0], told.count("\n")),
+            (1, "view: takes d.side beside the capture; --no-side leaves it out", 2), fail)
 
 
 class End(NamedTuple):
@@ -209,7 +277,7 @@ runpy.run_path(sys.argv[0], run_name="__main__")
 def check_whole(folder: pathlib.Path, room: pathlib.Path, fail: Fail) -> None:
     """Whatever ends a page that is being written, it is not there, or an earlier one still is. What SIGKILL leaves is
     removed by the next page beside it."""
-    page, words = room / "pages/page.html", [folder / "view", CAPTURE, "-o", "pages/page.html"]
+    page, words = room / "pages/page.html", [folder / "view", CAPTURE, "--no-side", "-o", "pages/page.html"]
     run = {"cwd": room, "encoding": "utf-8", "env": {**os.environ, "TMPDIR": str(room), "PYTHONPATH": str(folder)}}
     page.parent.mkdir()
     for end in ENDS:

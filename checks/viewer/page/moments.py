@@ -68,7 +68,7 @@ def check_moments(folder: pathlib.Path, room: pathlib.Path, fail: Fail) -> None:
                       ("the zone", "seq at XST "),
                       ("the head", f"Recorded on 2026-11-28 from {clock_of(1795829816129412140)} to ")):
         compare(f"{what} has its time, {due}", due in shown, True, fail)
-    view(folder, room, "set.cap", "-o", "none.html")
+    view(folder, room, "set.cap", "--no-side", "-o", "none.html")
     compare("times without a side list", re.findall(r"\d\d:\d\d:\d\d|\d\.\d{3} s", texts_of(room / "none.html")), [],
             fail)
     view(folder, room, *stored("oneway"), "-o", "oneway.html")

@@ -17,7 +17,7 @@ from checks.kit.programs import DRIVER, ROOT
 from checks.kit.runs import answer
 from checks.recorder.driver.compare import SECRETS, TO_CLEAR
 from checks.viewer.page.columns import check_columns
-from checks.viewer.page.common import stored, texts_of, view
+from checks.viewer.page.common import AT_END, stored, texts_of, view
 from checks.viewer.page.reports import check_harmless, shown_of
 
 
@@ -86,7 +86,7 @@ def check_no_engine(folder: pathlib.Path, room: pathlib.Path, fail: Fail) -> Non
                             (("--groups", "--database", "some.db", "--trace", "some.json.gz"), (0, ""),
                              ["some.db", "some.json.gz"])):
         ended = subprocess.run([*words, *more], cwd=room, capture_output=True, encoding="utf-8")
-        compare(f"no engine, {more}", (ended.returncode, ended.stderr), due, fail)
+        compare(f"no engine, {more}", (ended.returncode, AT_END.sub("", ended.stderr)), due, fail)
         compare(f"no engine, {more}: what is made", [one for one in more if (room / one).exists()], made, fail)
 
 
@@ -187,7 +187,7 @@ def check_told(folder: pathlib.Path, room: pathlib.Path, fail: Fail) -> None:
 
 def check_untimed(folder: pathlib.Path, room: pathlib.Path, fail: Fail) -> None:
     """Without a side list nothing says since when it has lasted."""
-    status, said, _ = view(folder, room, DRIVER / "hello-stuck/capture-1.cap", "--groups")
+    status, said, _ = view(folder, room, DRIVER / "hello-stuck/capture-1.cap", "--no-side", "--groups")
     compare("hello-stuck without a side list", (status, re.findall(r".*since [;,)\t].*", said)), (0, []), fail)
 
 
