@@ -11,8 +11,8 @@ MEASURED = ROOT / "docs/MEASURED.md"
 
 # The sentences of README.md: sessions, those with a fault, faults found, wrong lines; and recordings with a second one,
 # of how many.
-SESSIONS = re.compile(
-    r"wrote (\d+) sessions, (\d+) of them with a fault\..*? page \[found (\d+)\].*? (no|\d+) line was wrong", re.DOTALL)
+SESSIONS = re.compile(r"blind test of (\d+) sessions, (\d+) of them with a fault, the page \[found\s+(\d+)\]"
+                      r".*? (no|\d+) line was wrong", re.DOTALL)
 WITNESS = re.compile(r"In (\d+) of (\d+) recordings on each of two kernels, a second recorder")
 
 # The rows of the table on the blind test, the last three of which count wrong lines.
