@@ -1,7 +1,7 @@
 //! The fields of payloads and of objects: their names and their positions, as in
 //! `linux/android/binder.h`.
 
-use crate::freeze::{FreezeKind, freeze_line};
+use crate::newer::{NewerKind, newer_line};
 use binder_code::Kind;
 use capture_frame::{u32_at, u64_at};
 use object_view::Sort;
@@ -230,20 +230,20 @@ pub fn fields_of(record: Record<'_>) -> &'static [Field] {
         Kind::BcRequestDeathNotification | Kind::BcClearDeathNotification => &WATCH,
         Kind::BcAttemptAcquire => &ATTEMPT,
         Kind::BrAttemptAcquire => &ATTEMPTED,
-        Kind::Opaque => freeze_fields(record),
+        Kind::Opaque => newer_fields(record),
         _ => &NONE,
     }
 }
 
-/// The fields of the payload of an opaque record: those of a freeze notification, or none.
-fn freeze_fields(record: Record<'_>) -> &'static [Field] {
-    match freeze_line(record) {
+/// The fields of the payload of an opaque record; none if no newer header lists it.
+fn newer_fields(record: Record<'_>) -> &'static [Field] {
+    match newer_line(record) {
         Some(line) => match line.kind {
-            FreezeKind::BcRequestFreezeNotification | FreezeKind::BcClearFreezeNotification => {
+            NewerKind::BcRequestFreezeNotification | NewerKind::BcClearFreezeNotification => {
                 &WATCH
             }
-            FreezeKind::BrFrozenBinder => &FROZEN,
-            FreezeKind::BcFreezeNotificationDone | FreezeKind::BrClearFreezeNotificationDone => {
+            NewerKind::BrFrozenBinder => &FROZEN,
+            NewerKind::BcFreezeNotificationDone | NewerKind::BrClearFreezeNotificationDone => {
                 &COOKIE
             }
         },

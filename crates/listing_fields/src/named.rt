@@ -1,6 +1,6 @@
 //! What a record names by itself, read without the names of its fields.
 
-use crate::freeze::{FreezeKind, freeze_line};
+use crate::newer::{NewerKind, newer_line};
 use binder_code::Kind;
 use capture_frame::{u32_at, u64_at};
 use record_view::Record;
@@ -69,16 +69,16 @@ fn reference_of(record: Record<'_>) -> Named {
         | Kind::BrRelease
         | Kind::BrDecrefs => node_at(bytes, 0),
         Kind::BrAttemptAcquire => node_at(bytes, 8),
-        Kind::Opaque => freeze_reference_of(record),
+        Kind::Opaque => newer_reference_of(record),
         _ => NOTHING,
     }
 }
 
-/// What an opaque record names, if it is one of freeze notifications.
-fn freeze_reference_of(record: Record<'_>) -> Named {
-    match freeze_line(record) {
+/// What an opaque record names, if a newer header lists it.
+fn newer_reference_of(record: Record<'_>) -> Named {
+    match newer_line(record) {
         Some(line) => match line.kind {
-            FreezeKind::BcRequestFreezeNotification | FreezeKind::BcClearFreezeNotification => {
+            NewerKind::BcRequestFreezeNotification | NewerKind::BcClearFreezeNotification => {
                 watch_at(record.payload)
             }
             _ => cookie_at(record.payload),
@@ -105,9 +105,9 @@ pub fn number_of(record: Record<'_>) -> Option<u64> {
 }
 
 fn opaque_number(record: Record<'_>) -> Option<u64> {
-    match freeze_line(record) {
+    match newer_line(record) {
         Some(line) => match line.kind {
-            FreezeKind::BrFrozenBinder => word_at(record.payload, 8).map(u64::from),
+            NewerKind::BrFrozenBinder => word_at(record.payload, 8).map(u64::from),
             _ => None,
         },
         None => Some(u64::from(record.code.0)),

@@ -1,7 +1,7 @@
 //! Code words by the names of their records.
 
 use binder_code::Line;
-use listing_fields::FREEZE_LINES;
+use listing_fields::NEWER_LINES;
 
 /// The code word of the records of this name, for example `BC_ACQUIRE`. No two names have one code
 /// word.
@@ -11,7 +11,7 @@ pub(crate) fn word_named(name: &str) -> Option<u32> {
             return Some(line.word);
         }
     }
-    for line in FREEZE_LINES {
+    for line in NEWER_LINES {
         if line.name == name {
             return Some(line.word);
         }
