@@ -3,7 +3,7 @@ use Rattle.std.proofs.Common.{◌≡◌, ◌⊎◌, ⊎_elim, inl, inr, ℕ, zer
 use Rattle.std.specs.List.{Contains, filter}
 use Rattle.std.specs.Option.{option_map}
 use Rattle.std.proofs.lemmas.Option.{slice_get-map, slice_get_read}
-use Rattle.listing_tables.specs.Judging.{IsIn}
+use Rattle.listing_tables.specs.Certainty.{IsIn}
 
 module _ {X : Type 0} where
   none_some : (o : Option X) (x : X) → o ≡ None → o ≡ Some x → ⊥

@@ -1,8 +1,8 @@
 mod BufferLaws
 mod BufferSums
+mod CertaintyLaws
 mod CountLaws
 mod InLaws
-mod JudgingLaws
 mod LeakLaws
 mod ReplyLaws
 mod RowLaws

@@ -7,7 +7,7 @@ ghost use Rattle.capture_frame.specs.declared.version.Version.TheVariants.{Two};
 ghost use Rattle.capture_frame.specs.Envelope.{file_header, frame_bytes, frame_header, frame_text, placed_frame};
 ghost use Rattle.listing_tables.specs.BeforeFault.{before_place, capture_before_fault, good_capture, good_part};
 
-use crate::judge::frames_of;
+use crate::ending::frames_of;
 use byteorder::{LittleEndian, WriteBytesExt};
 use capture_frame::{Frame, FrameSlice};
 use listing_fields::{ListingError, Outcome, direction_number, write_error};

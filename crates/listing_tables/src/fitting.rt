@@ -2,8 +2,8 @@
 
 ghost use Rattle.std.specs.Prelude.{◌≡◌, ◌<◌, ◌≤◌, [], IfSome, OnOk};
 ghost use Rattle.std.specs.Bool.{OnTrue};
-ghost use Rattle.listing_tables.specs.Judging.{Adds, AreOfOneGeneration, ComesAfter, IsIn};
-ghost use Rattle.listing_tables.specs.Judging.{IsOnlyFit, IsOutOfQuestion};
+ghost use Rattle.listing_tables.specs.Certainty.{Adds, AreOfOneGeneration, ComesAfter, IsIn};
+ghost use Rattle.listing_tables.specs.Certainty.{IsOnlyFit, IsOutOfQuestion};
 ghost use Rattle.listing_tables.specs.declared.fitting.Fit.{Fit};
 
 use crate::messages::{Sent, Settled};

@@ -4,14 +4,14 @@
 mod before_fault;
 mod buffers;
 mod calls;
+mod certainty;
+mod ending;
 mod fitting;
 mod follow;
 mod generations;
 mod handed;
 mod handles;
 mod held;
-mod judge;
-mod judging;
 mod keys;
 pub mod laws;
 mod levels;
@@ -34,7 +34,7 @@ mod waiting;
 mod walk;
 
 pub use before_fault::write_before_fault;
-pub use judge::Ending;
+pub use ending::Ending;
 pub use rows::RowWriter;
 pub use tables::{NAMES, Name, Tables, name_of};
 pub use walk::{Writers, walk_to};

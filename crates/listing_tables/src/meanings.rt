@@ -2,7 +2,7 @@
 
 ghost use Rattle.std.specs.Prelude.{IfOk, IfSome};
 ghost use Rattle.std.specs.Bool.{OnTrue};
-ghost use Rattle.listing_tables.specs.Judging.{BeginsBefore, HasOtherHandle, MeansNode};
+ghost use Rattle.listing_tables.specs.Certainty.{BeginsBefore, HasOtherHandle, MeansNode};
 
 use crate::generations::Generations;
 use crate::numbered::Numbered;

@@ -5,7 +5,7 @@ ghost use Rattle.std.specs.Bool.{OnFalse};
 ghost use Rattle.listing_tables.specs.Buffers.{AreBufferColumns};
 ghost use Rattle.listing_tables.specs.Calls.{AreColumns};
 ghost use Rattle.listing_tables.specs.Columns.{AddsRows};
-ghost use Rattle.listing_tables.specs.Judging.{AreAlike};
+ghost use Rattle.listing_tables.specs.Certainty.{AreAlike};
 
 use crate::buffers::{Buffer, Buffers};
 use crate::calls::{Call, Closer, verdict_number};

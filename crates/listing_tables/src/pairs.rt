@@ -1,14 +1,14 @@
 //! Pairs each delivery with the send that it came from. viewer/database/schema.sql says how.
 
 ghost use Rattle.std.specs.Prelude.{◌≡◌, IfOk};
-ghost use Rattle.listing_tables.specs.Judging.{IsListOf};
+ghost use Rattle.listing_tables.specs.Certainty.{IsListOf};
 
 use crate::buffers::Buffers;
 use crate::calls::{Call, Closer};
+use crate::certainty::{Certainty, Evidence, Mark, Marked, Sought, is_refused, replied_by};
 use crate::fitting::{Fit, Fitting};
 use crate::generations::Generations;
 use crate::handed::{HandedOver, Object, numbered};
-use crate::judging::{Judge, Judged, Mark, Marked, Sought, is_refused, replied_by};
 use crate::meanings::Meanings;
 use crate::messages::{Detail, Message, Messages, Sent};
 use crate::numbered::{Numbered, one_more};
@@ -185,7 +185,7 @@ impl Pairing<'_, '_> {
     }
 
     fn pair_delivery(&mut self, sought: &Sought) -> Outcome {
-        let judge = Judge {
+        let evidence = Evidence {
             messages: self.messages,
             calls: self.facts.calls,
             generations: self.facts.generations,
@@ -194,19 +194,19 @@ impl Pairing<'_, '_> {
             waiting: &self.waiting,
             marks: &self.marks,
         };
-        let judged = judge.judge(&mut self.fitting, sought)?;
+        let certainty = evidence.certainty_of(&mut self.fitting, sought)?;
         if !self.fitting.is_whole {
             self.crowded.insert(sought.message.key)?;
         }
         let fits = self.fitting.count()?;
-        match judged {
-            Judged::Sure(fit) => self.take(sought, &fit),
-            Judged::OneHandle => self.take_one(sought),
-            Judged::Several => {
+        match certainty {
+            Certainty::Sure(fit) => self.take(sought, &fit),
+            Certainty::OneHandle => self.take_one(sought),
+            Certainty::Several => {
                 self.guess(sought, fits, false)?;
                 self.doubt_all(sought.message.key)
             }
-            Judged::Unknown => self.guess(sought, one_more(fits)?, false),
+            Certainty::Unknown => self.guess(sought, one_more(fits)?, false),
         }
     }
 

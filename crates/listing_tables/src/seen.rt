@@ -3,7 +3,7 @@
 
 ghost use Rattle.std.specs.Prelude.{IfOk};
 ghost use Rattle.std.specs.Bool.{OnTrue};
-ghost use Rattle.listing_tables.specs.Judging.{HasAll, IsReferred, IsWhole};
+ghost use Rattle.listing_tables.specs.Certainty.{HasAll, IsReferred, IsWhole};
 
 use crate::calls::Call;
 use crate::messages::Message;

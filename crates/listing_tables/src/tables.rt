@@ -8,7 +8,7 @@ ghost use Rattle.listing_tables.specs.Steps.{marked_of};
 ghost use Rattle.listing_tables.specs.Walk.{HasNoSteps};
 
 use crate::calls::{Call, all_calls};
-use crate::judge::Ending;
+use crate::ending::Ending;
 use crate::names::Names;
 use crate::numbered::{Numbered, narrow, sum};
 use crate::origin::Origin;

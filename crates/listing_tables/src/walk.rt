@@ -11,7 +11,7 @@ ghost use Rattle.listing_tables.specs.Columns.{AddsRows};
 ghost use Rattle.listing_tables.specs.Walk.{BeginsWith, HasNoSteps, IsFrameRow, counted_frames, record_begin, record_begins};
 ghost use Rattle.listing_tables.specs.Steps.{AddsMarked, IsKept, WritesCalls, marked_in, marked_of};
 
-use crate::judge::{Ending, frames_of};
+use crate::ending::{Ending, frames_of};
 use crate::numbered::sum;
 use crate::records::{frame_columns, record_columns, write_objects};
 use crate::rows::RowWriter;

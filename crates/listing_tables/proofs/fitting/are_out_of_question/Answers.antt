@@ -1,7 +1,7 @@
 use Rattle.std.proofs.Common.{arith, below_more}
 use Rattle.std.proofs.lemmas.Option.{slice_get_within}
-use Rattle.listing_tables.specs.Judging.{IsOutOfQuestion}
-use Rattle.listing_tables.proofs.JudgingLaws.{next_fit}
+use Rattle.listing_tables.specs.Certainty.{IsOutOfQuestion}
+use Rattle.listing_tables.proofs.CertaintyLaws.{next_fit}
 use Rattle.listing_tables.proofs.fitting.are_out_of_question.Goals as goal
 
 pub loop-fit-preserved : goal.loop-fit-preserved

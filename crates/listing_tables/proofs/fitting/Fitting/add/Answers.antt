@@ -1,5 +1,5 @@
 use Rattle.std.proofs.Common.{refl}
-use Rattle.listing_tables.proofs.JudgingLaws.{adds}
+use Rattle.listing_tables.proofs.CertaintyLaws.{adds}
 use Rattle.listing_tables.proofs.fitting.Fitting.add.Goals as goal
 
 pub returns : goal.returns

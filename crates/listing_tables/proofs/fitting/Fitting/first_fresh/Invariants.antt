@@ -1,5 +1,5 @@
 use Rattle.std.specs.Option.{IfSome}
-use Rattle.listing_tables.specs.Judging.{IsIn}
+use Rattle.listing_tables.specs.Certainty.{IsIn}
 use Rattle.listing_tables.proofs.fitting.Fitting.first_fresh.Given as goal
 
 abbrev pub invariant-loop-fit : goal.invariant-loop-fit

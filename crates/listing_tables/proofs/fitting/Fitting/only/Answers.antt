@@ -1,6 +1,6 @@
 use Rattle.std.proofs.Common.{List, sym, subst}
 use Rattle.listing_tables.specs.declared.fitting.Fit.{Fit}
-use Rattle.listing_tables.specs.Judging.{IsIn}
+use Rattle.listing_tables.specs.Certainty.{IsIn}
 use Rattle.listing_tables.proofs.fitting.Fitting.only.Goals as goal
 
 pub returns : goal.returns

@@ -9,17 +9,17 @@ use Rattle.std.specs.declared.cmp.Ordering.TheVariants.{Less, Equal, Greater}
 use Rattle.std.proofs.lemmas.Cmp.{ranked}
 use Rattle.std.proofs.lemmas.Option.{get_or_from_slice_get, slice_get_within}
 use Rattle.std.proofs.lemmas.Map.Views.{Contains-from_any, tells_apart}
+use Rattle.listing_tables.specs.declared.certainty.Evidence.{Evidence}
+use Rattle.listing_tables.specs.declared.certainty.Sought.{Sought}
 use Rattle.listing_tables.specs.declared.fitting.Fit.{Fit}
 use Rattle.listing_tables.specs.declared.fitting.Fitting.{Fitting}
-use Rattle.listing_tables.specs.declared.judging.Judge.{Judge}
-use Rattle.listing_tables.specs.declared.judging.Sought.{Sought}
 use Rattle.listing_tables.specs.declared.messages.Detail.TheVariants.{Sent as IsSent}
 use Rattle.listing_tables.specs.declared.messages.Message.{Message}
 use Rattle.listing_tables.specs.declared.messages.Sent.{Sent}
 use Rattle.listing_tables.specs.declared.waiting.Listed.{Listed}
 use Rattle.listing_tables.specs.declared.waiting.Look.{Look}
 use Rattle.listing_tables.specs.declared.waiting.Waiting.{Waiting}
-use Rattle.listing_tables.specs.Judging.{Adds, AreOfOneGeneration, AreOfOneHandle, ComesAfter, HasAll, HasFit, IsFit, IsFitOf, IsIn, IsOnlyFit, IsOnlyOne, IsOtherCall, LooksAt, LooksAtAll, LooksAtOne, MayBe, SpeaksAgainst}
+use Rattle.listing_tables.specs.Certainty.{Adds, AreOfOneGeneration, AreOfOneHandle, ComesAfter, HasAll, HasFit, IsFit, IsFitOf, IsIn, IsOnlyFit, IsOnlyOne, IsOtherCall, LooksAt, LooksAtAll, LooksAtOne, MayBe, SpeaksAgainst}
 use Rattle.listing_tables.specs.Waiting.{Entry, all_looks, entry_cmp, is_in, look_at, sends_in, waits}
 use Rattle.listing_tables.proofs.InLaws.{from_contains, in_filter, in_left, in_map, in_push, in_right, push_cases}
 use Rattle.listing_tables.proofs.WaitingLaws.{entry_exact}
@@ -107,8 +107,8 @@ is_looked_at waiting key list at index few which h =
 
 -- ---- one more look
 
-module _ (judge : Judge) (sought : Sought) where
-  pub no_look : (fitting : Fitting) → fitting.list.items ≡ [] → LooksAt judge sought fitting 0
+module _ (evidence : Evidence) (sought : Sought) where
+  pub no_look : (fitting : Fitting) → fitting.list.items ≡ [] → LooksAt evidence sought fitting 0
   no_look fitting empty = record {
     each = λ at l. absurd (omega (arith, l));
     fits = λ fit h. absurd (none_in fit (subst (λ (l : List Fit). IsIn l fit) empty h));
@@ -120,9 +120,9 @@ module _ (judge : Judge) (sought : Sought) where
       none_in : (x : Fit) → IsIn [] x → ⊥
       none_in x h = none_is x h.1
 
-  pub one_look : (old new : Fitting) (count : ℕ) (look : Look) → LooksAt judge sought old count
-      → slice_get old.looked.items count ≡ Some look → LooksAtOne judge sought look old new
-      → LooksAt judge sought new (count + 1)
+  pub one_look : (old new : Fitting) (count : ℕ) (look : Look) → LooksAt evidence sought old count
+      → slice_get old.looked.items count ≡ Some look → LooksAtOne evidence sought look old new
+      → LooksAt evidence sought new (count + 1)
   one_look old new count look looks is one =
       let same : new.looked.items ≡ old.looked.items = ap (λ l. l.items) one.looked in
       record {
@@ -134,12 +134,12 @@ module _ (judge : Judge) (sought : Sought) where
             (looks.each at l other (subst (λ (l : List Look). slice_get l at ≡ Some other) same h)))
             (λ (other : Look) (h : slice_get new.looked.items count ≡ Some other).
             let e = same_look look other (sym is ∙ subst (λ (l : List Look). slice_get l count ≡ Some other) same h) in
-            subst (λ (o : Look). SpeaksAgainst judge sought o.listed.index ⊎ ((new.rank ≡ 0) × HasFit new o.listed.index)) e one.here);
+            subst (λ (o : Look). SpeaksAgainst evidence sought o.listed.index ⊎ ((new.rank ≡ 0) × HasFit new o.listed.index)) e one.here);
         fits = λ fit h. ⊎_elim
             (λ (was : IsIn old.list.items fit).
             let found = looks.fits fit was in
             (found.0, subst (λ (l : List Look). IsIn l found.0) (sym same) found.1, found.2))
-            (λ (new_fit : IsFit judge look fit).
+            (λ (new_fit : IsFit evidence look fit).
             (look, subst (λ (l : List Look). IsIn l look) (sym same) (count, is), new_fit))
             (one.fits fit h);
       }
@@ -200,17 +200,17 @@ holds_if false h e = absurd (apart e)
     apart : false ≡ true → ⊥
     apart e = cc
 
-module _ (judge : Judge) (sought : Sought) where
-  pub other_call : (index : ℕ) (send : Message) (sent : Sent) (rank : ℕ) → slice_get judge.messages.now.list.all.items index ≡ Some send
-      → send.detail ≡ IsSent sent → (rank ≡ 0) ⊎ IsOtherCall judge sought send sent
-      → (rank ≡ 0) ⊎ SpeaksAgainst judge sought index
+module _ (evidence : Evidence) (sought : Sought) where
+  pub other_call : (index : ℕ) (send : Message) (sent : Sent) (rank : ℕ) → slice_get evidence.messages.now.list.all.items index ≡ Some send
+      → send.detail ≡ IsSent sent → (rank ≡ 0) ⊎ IsOtherCall evidence sought send sent
+      → (rank ≡ 0) ⊎ SpeaksAgainst evidence sought index
   other_call index send sent rank at is h =
       ⊎_elim inl
-      (λ (o : IsOtherCall judge sought send sent).
+      (λ (o : IsOtherCall evidence sought send sent).
       inr (λ message found there of.
       let e : send ≡ message = same_message send message (sym at ∙ there) in
       let f : sent ≡ found = same_sent sent found (sym is ∙ ap (λ (m : Message). m.detail) e ∙ of) in
-      inr (inr (subst (λ (m : Message). IsOtherCall judge sought m found) e (subst (λ (s : Sent). IsOtherCall judge sought send s) f o)))))
+      inr (inr (subst (λ (m : Message). IsOtherCall evidence sought m found) e (subst (λ (s : Sent). IsOtherCall evidence sought send s) f o)))))
       h
     where
       same_message : (a b : Message) → Some a ≡ Some b → a ≡ b
@@ -219,8 +219,8 @@ module _ (judge : Judge) (sought : Sought) where
       same_sent : (a b : Sent) → IsSent a ≡ IsSent b → a ≡ b
       same_sent a b h = cc
 
-  pub no_fit : (fitting : Fitting) (look : Look) → SpeaksAgainst judge sought look.listed.index
-      → LooksAtOne judge sought look fitting fitting
+  pub no_fit : (fitting : Fitting) (look : Look) → SpeaksAgainst evidence sought look.listed.index
+      → LooksAtOne evidence sought look fitting fitting
   no_fit fitting look against = record {
     here = inl against;
     best = λ zero. zero;
@@ -230,18 +230,18 @@ module _ (judge : Judge) (sought : Sought) where
     whole = refl;
   }
 
-  pub one_fit : (old new : Fitting) (look : Look) (rank : ℕ) (fit : Fit) → Adds old rank fit new → IsFit judge look fit
-      → (rank ≡ 0) ⊎ SpeaksAgainst judge sought look.listed.index → LooksAtOne judge sought look old new
+  pub one_fit : (old new : Fitting) (look : Look) (rank : ℕ) (fit : Fit) → Adds old rank fit new → IsFit evidence look fit
+      → (rank ≡ 0) ⊎ SpeaksAgainst evidence sought look.listed.index → LooksAtOne evidence sought look old new
   one_fit old new look rank fit added is h = record {
     here = ⊎_elim
         (λ (zero : rank ≡ 0). inr (added.first zero, (fit, added.added zero, ap (λ (l : Listed). l.index) is.listed)))
-        (λ (against : SpeaksAgainst judge sought look.listed.index). inl against)
+        (λ (against : SpeaksAgainst evidence sought look.listed.index). inl against)
         h;
     best = added.best;
     kept = added.kept;
     fits = λ other h. ⊎_elim
         (λ (was : IsIn old.list.items other). inl was)
-        (λ (e : other ≡ fit). inr (subst (IsFit judge look) (sym e) is))
+        (λ (e : other ≡ fit). inr (subst (IsFit evidence look) (sym e) is))
         (added.fits other h);
     looked = added.looked;
     whole = added.whole;
@@ -249,46 +249,46 @@ module _ (judge : Judge) (sought : Sought) where
 
 -- ---- what is certain
 
-module _ (judge : Judge) (sought : Sought) (fitting : Fitting)
-    (has_all : HasAll judge.seen.now sought.upid.index sought.node sought.message.place sought.message.gaps)
-    (looks : LooksAtAll judge sought fitting) (whole : fitting.is_whole ≡ true) where
-  is_fit : (fit : Fit) → IsIn fitting.list.items fit → IsFitOf judge sought fit
+module _ (evidence : Evidence) (sought : Sought) (fitting : Fitting)
+    (has_all : HasAll evidence.seen.now sought.upid.index sought.node sought.message.place sought.message.gaps)
+    (looks : LooksAtAll evidence sought fitting) (whole : fitting.is_whole ≡ true) where
+  is_fit : (fit : Fit) → IsIn fitting.list.items fit → IsFitOf evidence sought fit
   is_fit fit h =
       let found = looks.looks.fits fit h in
       (found.0, subst (λ (l : List Look). IsIn l found.0) (looks.all whole) found.1, found.2)
 
   -- either something speaks against a send that waits, or it is among the fits
-  judged : (list index : ℕ) → MayBe judge.waiting.now sought list index → SpeaksAgainst judge sought index ⊎ HasFit fitting index
-  judged list index may =
-      let found = is_looked_at judge.waiting.now sought.message.key (sought.node + 1) list index may.0 may.1 may.2 in
+  against_or_fit : (list index : ℕ) → MayBe evidence.waiting.now sought list index → SpeaksAgainst evidence sought index ⊎ HasFit fitting index
+  against_or_fit list index may =
+      let found = is_looked_at evidence.waiting.now sought.message.key (sought.node + 1) list index may.0 may.1 may.2 in
       let at = subst (λ (l : List Look). IsIn l found.0) (sym (looks.all whole)) found.1 in
       let within = slice_get_within fitting.looked.items at.0 found.0 at.1 in
       ⊎_elim
-      (λ (against : SpeaksAgainst judge sought found.0.listed.index).
-      inl (subst (SpeaksAgainst judge sought) found.2 against))
+      (λ (against : SpeaksAgainst evidence sought found.0.listed.index).
+      inl (subst (SpeaksAgainst evidence sought) found.2 against))
       (λ (has : (fitting.rank ≡ 0) × HasFit fitting found.0.listed.index). inr (subst (HasFit fitting) found.2 has.1))
       (looks.looks.each at.0 within found.0 at.1)
 
-  pub is_only_one : (fit : Fit) → IsOnlyFit sought.message.oneway fitting fit → IsOnlyOne judge sought fit
+  pub is_only_one : (fit : Fit) → IsOnlyFit sought.message.oneway fitting fit → IsOnlyOne evidence sought fit
   is_only_one fit only = record {
     has_all = has_all;
     is = is_fit fit only.is;
     only = λ list index may. ⊎_elim
-        (λ (against : SpeaksAgainst judge sought index). inr (inl against))
+        (λ (against : SpeaksAgainst evidence sought index). inr (inl against))
         (λ (has : HasFit fitting index). ⊎_elim
         (λ (same : has.0.listed.index ≡ fit.listed.index). inl (sym has.2 ∙ same))
         (λ (after : (sought.message.oneway ≡ true) × ComesAfter fit has.0).
         inr (inr (after.0, (has.0, is_fit has.0 has.1, has.2, after.1))))
         (only.only has.0 has.1))
-        (judged list index may);
+        (against_or_fit list index may);
   }
 
-  pub are_of_one_handle : AreOfOneGeneration fitting → AreOfOneHandle judge sought
+  pub are_of_one_handle : AreOfOneGeneration fitting → AreOfOneHandle evidence sought
   are_of_one_handle one = record {
     has_all = has_all;
     generation = one.0;
     only = λ list index may. ⊎_elim
-        (λ (against : SpeaksAgainst judge sought index). inl against)
+        (λ (against : SpeaksAgainst evidence sought index). inl against)
         (λ (has : HasFit fitting index). inr (has.0, is_fit has.0 has.1, has.2, one.1 has.0 has.1))
-        (judged list index may);
+        (against_or_fit list index may);
   }

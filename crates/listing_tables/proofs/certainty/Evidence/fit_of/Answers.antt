@@ -1,5 +1,5 @@
-use Rattle.listing_tables.proofs.JudgingLaws.{other_call}
-use Rattle.listing_tables.proofs.judging.Judge.fit_of.Goals as goal
+use Rattle.listing_tables.proofs.CertaintyLaws.{other_call}
+use Rattle.listing_tables.proofs.certainty.Evidence.fit_of.Goals as goal
 
 pub returns-clause-rank : goal.returns-clause-rank
 returns-clause-rank c =

@@ -46,15 +46,15 @@ pub(crate) fn frames_of<'c>(
     ensures good { IfOk result (λ found. All IsGood (take (found.1.count - 1) found.0)) }
 {
     match cut_parts(alloc, parts) {
-        Ok(frames) => judged(frames, None, parts),
+        Ok(frames) => with_ending(frames, None, parts),
         Err(PartCut::Memory) => Err(ListingError::Memory),
-        Err(PartCut::Bad { found, before }) => judged(before, Some(found), parts),
+        Err(PartCut::Bad { found, before }) => with_ending(before, Some(found), parts),
     }
 }
 
 /// The frames, and how far the capture goes in whose parts they are. After them a header has the
 /// fault `cut`, if there is one.
-fn judged<'c>(
+fn with_ending<'c>(
     frames: FrameList<'c>,
     cut: Option<PartFault>,
     parts: &[&[u8]],

@@ -3,9 +3,9 @@
 
 ghost use Rattle.std.specs.Prelude.{◌≡◌, ◌⊎◌, None, IfOk, IfSome, OnOk};
 ghost use Rattle.std.specs.Bool.{OnTrue, OnFalse};
-ghost use Rattle.listing_tables.specs.Judging.{IsElsewhere, IsFit, IsJudged};
-ghost use Rattle.listing_tables.specs.Judging.{IsOtherCall, IsRefused, IsRepliedBy, IsUnmarked};
-ghost use Rattle.listing_tables.specs.Judging.{LieBadly, LooksAtAll, LooksAtOne, SpeaksAgainst};
+ghost use Rattle.listing_tables.specs.Certainty.{IsElsewhere, IsFit, IsJustified};
+ghost use Rattle.listing_tables.specs.Certainty.{IsOtherCall, IsRefused, IsRepliedBy, IsUnmarked};
+ghost use Rattle.listing_tables.specs.Certainty.{LieBadly, LooksAtAll, LooksAtOne, SpeaksAgainst};
 ghost use Rattle.listing_tables.specs.declared.calls.Closer.{Closer};
 
 use crate::calls::{Call, Closer};
@@ -63,7 +63,7 @@ impl Marked {
 
 /// What is certain of the send that a delivery came from.
 #[derive(Clone, Copy)]
-pub(crate) enum Judged {
+pub(crate) enum Certainty {
     /// It is this one.
     Sure(Fit),
     /// It is one of those that fit, and one process sent them all by one handle.
@@ -80,9 +80,9 @@ struct Ranked {
     fit: Fit,
 }
 
-/// What deliveries are judged by.
+/// What speaks for and against the sends that deliveries may have come from.
 #[derive(Clone, Copy)]
-pub(crate) struct Judge<'j> {
+pub(crate) struct Evidence<'j> {
     pub messages: &'j Messages,
     pub calls: &'j Numbered<Call>,
     pub generations: &'j Generations,
@@ -93,14 +93,14 @@ pub(crate) struct Judge<'j> {
     pub marks: &'j Numbered<Mark>,
 }
 
-impl Judge<'_> {
-    /// Judges the sends that a delivery may have come from.
-    pub(crate) fn judge(
+impl Evidence<'_> {
+    /// What is certain of the send that a delivery came from.
+    pub(crate) fn certainty_of(
         &self,
         fitting: &mut Fitting,
         sought: &Sought,
-    ) -> Result<Judged, ListingError>
-        ensures { IfOk result (λ judged. IsJudged self.now sought.now judged) }
+    ) -> Result<Certainty, ListingError>
+        ensures { IfOk result (λ certainty. IsJustified self.now sought.now certainty) }
     {
         let message = sought.message;
         let all_there = self
@@ -108,18 +108,18 @@ impl Judge<'_> {
             .has_all(sought.upid, sought.node, message.place, message.gaps)?;
         self.look_at_all(fitting, sought, all_there)?;
         if fitting.rank != 0 || !fitting.is_whole || !all_there {
-            return Ok(Judged::Unknown);
+            return Ok(Certainty::Unknown);
         }
         if !fitting.are_alike() {
-            return Ok(Judged::Several);
+            return Ok(Certainty::Several);
         }
         if let Some(fit) = fitting.only(message.oneway) {
-            return Ok(Judged::Sure(fit));
+            return Ok(Certainty::Sure(fit));
         }
         if message.oneway {
             fitting.keep_next();
         }
-        Ok(Judged::OneHandle)
+        Ok(Certainty::OneHandle)
     }
 
     /// Looks at the sends that a delivery may have come from, as many as there is room for.

@@ -1,6 +1,6 @@
 use Rattle.std.proofs.lemmas.Result.{on_ok_weaker}
-use Rattle.listing_tables.proofs.JudgingLaws.{no_fit, one_fit}
-use Rattle.listing_tables.proofs.judging.Judge.look_at.Goals as goal
+use Rattle.listing_tables.proofs.CertaintyLaws.{no_fit, one_fit}
+use Rattle.listing_tables.proofs.certainty.Evidence.look_at.Goals as goal
 
 pub returns-in-None : goal.returns-in-None
 returns-in-None c =

@@ -4,16 +4,16 @@ use Rattle.call_stacks.specs.declared.verdict.Verdict.TheVariants.{Answered, Rep
 use Rattle.indexmap.specs.IndexMap.{get}
 use Rattle.listing_tables.specs.declared.calls.Call.{Call}
 use Rattle.listing_tables.specs.declared.calls.Closer.{Closer}
+use Rattle.listing_tables.specs.declared.certainty.Certainty.TheVariants.{Sure, OneHandle, Several, Unknown}
+use Rattle.listing_tables.specs.declared.certainty.Certainty.{Certainty}
+use Rattle.listing_tables.specs.declared.certainty.Evidence.{Evidence}
+use Rattle.listing_tables.specs.declared.certainty.Mark.{Mark}
+use Rattle.listing_tables.specs.declared.certainty.Marked.TheVariants.{Unmarked}
+use Rattle.listing_tables.specs.declared.certainty.Sought.{Sought}
 use Rattle.listing_tables.specs.declared.fitting.Fit.{Fit}
 use Rattle.listing_tables.specs.declared.fitting.Fitting.{Fitting}
 use Rattle.listing_tables.specs.declared.generations.Generation.{Generation}
 use Rattle.listing_tables.specs.declared.generations.Generations.{Generations}
-use Rattle.listing_tables.specs.declared.judging.Judge.{Judge}
-use Rattle.listing_tables.specs.declared.judging.Judged.{Judged}
-use Rattle.listing_tables.specs.declared.judging.Judged.TheVariants.{Sure, OneHandle, Several, Unknown}
-use Rattle.listing_tables.specs.declared.judging.Mark.{Mark}
-use Rattle.listing_tables.specs.declared.judging.Marked.TheVariants.{Unmarked}
-use Rattle.listing_tables.specs.declared.judging.Sought.{Sought}
 use Rattle.listing_tables.specs.declared.meanings.Known.TheVariants.{One}
 use Rattle.listing_tables.specs.declared.meanings.Meaning.{Meaning}
 use Rattle.listing_tables.specs.declared.meanings.Meanings.{Meanings}
@@ -90,15 +90,15 @@ IsOfProcess generations generation upid =
     (row : Generation) × (slice_get generations.list.all.items generation ≡ Some row) × (row.upid.index ≡ upid)
 
 -- a send goes to another node than that of a delivery
-abbrev pub IsElsewhere : Judge → Sought → Message → Sent → Type 0
-IsElsewhere judge sought message sent =
+abbrev pub IsElsewhere : Evidence → Sought → Message → Sent → Type 0
+IsElsewhere evidence sought message sent =
     (generation : ℕ) × (sent.generation ≡ Some generation)
-    × (IsOfProcess judge.generations.now generation sought.upid.index
-    ⊎ HasOtherHandle judge.generations.now judge.meanings.now generation message.gaps sought.node)
+    × (IsOfProcess evidence.generations.now generation sought.upid.index
+    ⊎ HasOtherHandle evidence.generations.now evidence.meanings.now generation message.gaps sought.node)
 
 -- a call that a message opens or closes
-abbrev pub HasCall : Judge → Message → Call → Type 0
-HasCall judge message call = IsAt judge.calls.now.all.items message.call call
+abbrev pub HasCall : Evidence → Message → Call → Type 0
+HasCall evidence message call = IsAt evidence.calls.now.all.items message.call call
 
 -- the reply by which a served call is closed
 abbrev pub IsRepliedBy : Call → Closer → Type 0
@@ -125,20 +125,20 @@ pub record HasOtherSender (sought : Sought) (sent : Sent) : Type 0 where
   pub real : sent.process < 4194304
 
 -- a call is not the one that a delivery serves
-abbrev pub IsOtherCall : Judge → Sought → Message → Sent → Type 0
-IsOtherCall judge sought message sent =
+abbrev pub IsOtherCall : Evidence → Sought → Message → Sent → Type 0
+IsOtherCall evidence sought message sent =
     HasOtherSender sought sent
-    ⊎ ((call served : Call) × HasCall judge message call × HasCall judge sought.message served
-    × LieBadly judge.messages.now call served)
+    ⊎ ((call served : Call) × HasCall evidence message call × HasCall evidence sought.message served
+    × LieBadly evidence.messages.now call served)
 
 -- Whatever send is at this index, it is not that of the delivery. With a frame missing between the two, its handle may
 -- mean another node by now.
-abbrev pub SpeaksAgainst : Judge → Sought → ℕ → Type 0
-SpeaksAgainst judge sought index =
-    (message : Message) (sent : Sent) → slice_get judge.messages.now.list.all.items index ≡ Some message
+abbrev pub SpeaksAgainst : Evidence → Sought → ℕ → Type 0
+SpeaksAgainst evidence sought index =
+    (message : Message) (sent : Sent) → slice_get evidence.messages.now.list.all.items index ≡ Some message
     → message.detail ≡ IsSent sent
-    → (message.gaps ≢ sought.message.gaps) ⊎ IsElsewhere judge sought message sent
-    ⊎ IsOtherCall judge sought message sent
+    → (message.gaps ≢ sought.message.gaps) ⊎ IsElsewhere evidence sought message sent
+    ⊎ IsOtherCall evidence sought message sent
 
 -- ---- what a fit is
 
@@ -151,16 +151,16 @@ abbrev pub IsUnmarked : List Mark → ℕ → Type 0
 IsUnmarked marks index = (mark : Mark) × (slice_get marks index ≡ Some mark) × (mark.other ≡ Unmarked)
 
 -- what is known of a send that is looked at. It is fresh if it has certainly not come before.
-pub record IsFit (judge : Judge) (look : Look) (fit : Fit) : Type 0 where
+pub record IsFit (evidence : Evidence) (look : Look) (fit : Fit) : Type 0 where
   pub message : Message
-  pub at : slice_get judge.messages.now.list.all.items look.listed.index ≡ Some message
+  pub at : slice_get evidence.messages.now.list.all.items look.listed.index ≡ Some message
   pub is : message.detail ≡ IsSent fit.sent
   pub listed : fit.listed ≡ look.listed
   pub place : fit.place ≡ message.place
   pub utid : fit.utid ≡ message.utid
   pub untaken : fit.fresh ≡ true → look.guessed ≡ false
   pub taken : fit.fresh ≡ true → IsRefused fit.sent → ⊥
-  pub unmarked : fit.fresh ≡ true → IsUnmarked judge.marks.now.all.items look.listed.index
+  pub unmarked : fit.fresh ≡ true → IsUnmarked evidence.marks.now.all.items look.listed.index
 
 -- a send of the same handle that the driver took after a fresh one, and that does not take the place of an earlier one:
 -- one thread sent both, or the fresh one was confirmed before
@@ -186,24 +186,24 @@ pub record Adds (old : Fitting) (rank : ℕ) (fit : Fit) (new : Fitting) : Type 
   pub whole : new.is_whole ≡ old.is_whole
 
 -- after one more look either something speaks against its send or it is among the fits, and their rank is 0
-pub record LooksAtOne (judge : Judge) (sought : Sought) (look : Look) (old new : Fitting) : Type 0 where
-  pub here : SpeaksAgainst judge sought look.listed.index ⊎ ((new.rank ≡ 0) × HasFit new look.listed.index)
+pub record LooksAtOne (evidence : Evidence) (sought : Sought) (look : Look) (old new : Fitting) : Type 0 where
+  pub here : SpeaksAgainst evidence sought look.listed.index ⊎ ((new.rank ≡ 0) × HasFit new look.listed.index)
   pub best : old.rank ≡ 0 → new.rank ≡ 0
   pub kept : old.rank ≡ 0 → (fit : Fit) → IsIn old.list.items fit → IsIn new.list.items fit
-  pub fits : (fit : Fit) → IsIn new.list.items fit → IsIn old.list.items fit ⊎ IsFit judge look fit
+  pub fits : (fit : Fit) → IsIn new.list.items fit → IsIn old.list.items fit ⊎ IsFit evidence look fit
   pub looked : new.looked ≡ old.looked
   pub whole : new.is_whole ≡ old.is_whole
 
 -- so it is of the first of all looks
-pub record LooksAt (judge : Judge) (sought : Sought) (fitting : Fitting) (count : ℕ) : Type 0 where
+pub record LooksAt (evidence : Evidence) (sought : Sought) (fitting : Fitting) (count : ℕ) : Type 0 where
   pub each : (at : ℕ) → at < count → (look : Look) → slice_get fitting.looked.items at ≡ Some look
-      → SpeaksAgainst judge sought look.listed.index ⊎ ((fitting.rank ≡ 0) × HasFit fitting look.listed.index)
-  pub fits : (fit : Fit) → IsIn fitting.list.items fit → (look : Look) × IsIn fitting.looked.items look × IsFit judge look fit
+      → SpeaksAgainst evidence sought look.listed.index ⊎ ((fitting.rank ≡ 0) × HasFit fitting look.listed.index)
+  pub fits : (fit : Fit) → IsIn fitting.list.items fit → (look : Look) × IsIn fitting.looked.items look × IsFit evidence look fit
 
 -- so it is of all that wait, if all were looked at
-pub record LooksAtAll (judge : Judge) (sought : Sought) (fitting : Fitting) : Type 0 where
-  pub looks : LooksAt judge sought fitting (length fitting.looked.items)
-  pub all : fitting.is_whole ≡ true → fitting.looked.items ≡ all_looks judge.waiting.now sought.message.key (sought.node + 1)
+pub record LooksAtAll (evidence : Evidence) (sought : Sought) (fitting : Fitting) : Type 0 where
+  pub looks : LooksAt evidence sought fitting (length fitting.looked.items)
+  pub all : fitting.is_whole ≡ true → fitting.looked.items ≡ all_looks evidence.waiting.now sought.message.key (sought.node + 1)
 
 -- a send is no other one than this one, or a oneway one that comes after it
 abbrev pub IsOutOfQuestion : Bool → Fit → Fit → Type 0
@@ -229,31 +229,31 @@ MayBe waiting sought list index =
     (index < 2 ^ 32) × ((list ≡ sought.node + 1) ⊎ (list ≡ 0)) × IsTrue (waits waiting (sought.message.key, list, index))
 
 -- what is known of such a send
-abbrev pub IsFitOf : Judge → Sought → Fit → Type 0
-IsFitOf judge sought fit =
-    (look : Look) × IsIn (all_looks judge.waiting.now sought.message.key (sought.node + 1)) look × IsFit judge look fit
+abbrev pub IsFitOf : Evidence → Sought → Fit → Type 0
+IsFitOf evidence sought fit =
+    (look : Look) × IsIn (all_looks evidence.waiting.now sought.message.key (sought.node + 1)) look × IsFit evidence look fit
 
 -- this send is the only one that can have been meant
-pub record IsOnlyOne (judge : Judge) (sought : Sought) (fit : Fit) : Type 0 where
-  pub has_all : HasAll judge.seen.now sought.upid.index sought.node sought.message.place sought.message.gaps
-  pub is : IsFitOf judge sought fit
-  pub only : (list index : ℕ) → MayBe judge.waiting.now sought list index
-      → (index ≡ fit.listed.index) ⊎ SpeaksAgainst judge sought index
+pub record IsOnlyOne (evidence : Evidence) (sought : Sought) (fit : Fit) : Type 0 where
+  pub has_all : HasAll evidence.seen.now sought.upid.index sought.node sought.message.place sought.message.gaps
+  pub is : IsFitOf evidence sought fit
+  pub only : (list index : ℕ) → MayBe evidence.waiting.now sought list index
+      → (index ≡ fit.listed.index) ⊎ SpeaksAgainst evidence sought index
       ⊎ ((sought.message.oneway ≡ true)
-      × ((other : Fit) × IsFitOf judge sought other × (other.listed.index ≡ index) × ComesAfter fit other))
+      × ((other : Fit) × IsFitOf evidence sought other × (other.listed.index ≡ index) × ComesAfter fit other))
 
 -- all sends that can have been meant are of one generation of a handle
-pub record AreOfOneHandle (judge : Judge) (sought : Sought) : Type 0 where
-  pub has_all : HasAll judge.seen.now sought.upid.index sought.node sought.message.place sought.message.gaps
+pub record AreOfOneHandle (evidence : Evidence) (sought : Sought) : Type 0 where
+  pub has_all : HasAll evidence.seen.now sought.upid.index sought.node sought.message.place sought.message.gaps
   pub generation : Option ℕ
-  pub only : (list index : ℕ) → MayBe judge.waiting.now sought list index
-      → SpeaksAgainst judge sought index
-      ⊎ ((other : Fit) × IsFitOf judge sought other × (other.listed.index ≡ index)
+  pub only : (list index : ℕ) → MayBe evidence.waiting.now sought list index
+      → SpeaksAgainst evidence sought index
+      ⊎ ((other : Fit) × IsFitOf evidence sought other × (other.listed.index ≡ index)
       × (other.sent.generation ≡ generation))
 
 -- what is said of a delivery is certain
-abbrev pub IsJudged : Judge → Sought → Judged → Type 0
-IsJudged judge sought (Sure fit) = IsOnlyOne judge sought fit
-IsJudged judge sought OneHandle = AreOfOneHandle judge sought
-IsJudged judge sought Several = Unit {0}
-IsJudged judge sought Unknown = Unit {0}
+abbrev pub IsJustified : Evidence → Sought → Certainty → Type 0
+IsJustified evidence sought (Sure fit) = IsOnlyOne evidence sought fit
+IsJustified evidence sought OneHandle = AreOfOneHandle evidence sought
+IsJustified evidence sought Several = Unit {0}
+IsJustified evidence sought Unknown = Unit {0}

@@ -1,7 +1,7 @@
 use Rattle.std.proofs.Common.{◌≡◌, ◌+◌, true, length}
-use Rattle.listing_tables.specs.Judging.{LooksAt}
+use Rattle.listing_tables.specs.Certainty.{LooksAt}
 use Rattle.listing_tables.specs.Waiting.{all_looks}
-use Rattle.listing_tables.proofs.judging.Judge.look_at_all.Given as goal
+use Rattle.listing_tables.proofs.certainty.Evidence.look_at_all.Given as goal
 
 abbrev pub invariant-loop-at : goal.invariant-loop-at
 invariant-loop-at l = record {

@@ -4,7 +4,7 @@ use Rattle.std.proofs.lemmas.Option.{get_or_from_slice_get, slice_get_within}
 use Rattle.capture_frame.specs.Envelope.{placed_frame}
 use Rattle.transaction_view.specs.Grammar.{IsGood, content_fault}
 use Rattle.listing_tables.proofs.WalkLaws.{all_good, no_fault, one_bad}
-use Rattle.listing_tables.proofs.judge.count_up_to_fault.Goals as goal
+use Rattle.listing_tables.proofs.ending.count_up_to_fault.Goals as goal
 
 pub returns-then-is_some-clause-counted : goal.returns-then-is_some-clause-counted
 returns-then-is_some-clause-counted c =

@@ -1,9 +1,9 @@
 use Rattle.std.proofs.Common.{◌≡◌, Some, length, slice_get, refl, ap, sym, subst, ◌∙◌, arith, rules}
 use Rattle.std.proofs.lemmas.Option.{slice_get_read}
-use Rattle.listing_tables.specs.Judging.{LooksAt}
+use Rattle.listing_tables.specs.Certainty.{LooksAt}
 use Rattle.listing_tables.specs.Waiting.{all_looks}
-use Rattle.listing_tables.proofs.JudgingLaws.{holds_if, no_look, one_look}
-use Rattle.listing_tables.proofs.judging.Judge.look_at_all.Goals as goal
+use Rattle.listing_tables.proofs.CertaintyLaws.{holds_if, no_look, one_look}
+use Rattle.listing_tables.proofs.certainty.Evidence.look_at_all.Goals as goal
 
 pub loop-at-init : goal.loop-at-init
 loop-at-init c = record {

@@ -1,5 +1,5 @@
-use Rattle.listing_tables.proofs.JudgingLaws.{are_of_one_handle, holds_if, is_only_one}
-use Rattle.listing_tables.proofs.judging.Judge.judge.Goals as goal
+use Rattle.listing_tables.proofs.CertaintyLaws.{are_of_one_handle, holds_if, is_only_one}
+use Rattle.listing_tables.proofs.certainty.Evidence.certainty_of.Goals as goal
 
 pub returns-in-Some : goal.returns-in-Some
 returns-in-Some c =
