@@ -1,5 +1,5 @@
 -- A capture that is read in stretches, each of which becomes a part of a capture.
-use Rattle.std.specs.Prelude.{◌≡◌, ℕ, ◌+◌, ◌-◌, ◌≤◌, List, length, take, drop, All, Option, IfSome, Ok, ⊤}
+use Rattle.std.specs.Prelude.{◌≡◌, ℕ, ◌+◌, ◌≤◌, List, length, take, drop, All, Option, IfSome, Ok, ⊤}
 use Rattle.std.specs.List.{flat_map}
 use Rattle.capture_frame.specs.declared.version.Version.{Version}
 use Rattle.capture_frame.specs.Parts.{header_at, joined_as}

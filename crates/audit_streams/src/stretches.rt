@@ -53,12 +53,23 @@ pub trait SharedFiles {
         ensures faults { IfErr result IsStretchError };
 }
 
-/// The bytes of a file from `start` on that are before `end`.
+/// The bytes of a file from `start` on that are before `end`, after its file header.
 #[derive(Clone, Copy)]
 struct Stretch {
-    found: FoundFile,
     start: u64,
     end: u64,
+    ghost after_header: { 16 ≤ start },
+    ghost in_order: { start ≤ end },
+    ghost fits: { end < 2 ^ 63 },
+}
+
+/// A file that is read in stretches, as it was found, and the file header that each part gets.
+#[derive(Drop)]
+struct SharedFile<'f, F> {
+    files: &'f F,
+    name: &'f str,
+    found: FoundFile,
+    head: &'f [u8],
 }
 
 /// Reads a file by several threads at once, each a stretch of it, as parts of a capture: each
@@ -96,18 +107,22 @@ pub fn read_stretches<T: Threads + Sync, F: SharedFiles + Sync>(
     if (most - size) / (FILE_HEADER as u64) < threads {
         return Ok(None);
     }
-    let first = Stretch {
+    let file = SharedFile {
+        files,
+        name,
         found,
+        head: head.as_slice(),
+    };
+    let first = Stretch {
         start: FILE_HEADER as u64,
         end: size,
     };
     let rest = Stretch {
-        found,
         start: size,
         end: most + 1,
     };
-    let parts = read_side_by_side(rt, alloc, files, name, head.as_slice(), first, threads)?;
-    let rest = part_of(alloc, files, name, head.as_slice(), rest)?;
+    let parts = file.read_side_by_side(rt, alloc, first, threads)?;
+    let rest = file.part_of(alloc, rest)?;
     let parts = with_rest(parts, rest)?;
     match of_one_capture(parts, version, limit) {
         Some(parts) => Ok(Some(parts)),
@@ -181,135 +196,152 @@ fn are_within(parts: &[Vec<u8>], limit: usize) -> bool
     true
 }
 
-/// Reads a stretch by several threads at once: the stretch and the threads are halved as long as
-/// there are two threads. The parts come in order.
-fn read_side_by_side<T: Threads + Sync, F: SharedFiles + Sync>(
-    rt: &T,
-    alloc: Global,
-    files: &F,
-    name: &str,
-    head: &[u8],
-    stretch: Stretch,
-    threads: u64,
-) -> Result<Vec<Vec<u8>>, RunError>
-    requires after { 16 ≤ stretch.start }
-    requires some { stretch.start ≤ stretch.end }
-    requires fits { stretch.end < 2 ^ 63 }
-    ensures read { IfOk result (λ parts. ArePartsOf (F.known files.now name.now) stretch.start
-        (stretch.end - stretch.start) (map (λ part. part.items) parts.items)) }
-    ensures faults { IfErr result IsStretchError }
-{
-    if threads < 2 {
-        return one_part(alloc, files, name, head, stretch);
+impl<F: SharedFiles> SharedFile<'_, F> {
+    /// Reads a stretch by several threads at once: the stretch and the threads are halved as long as
+    /// there are two threads. The parts come in order.
+    fn read_side_by_side<T: Threads + Sync>(
+        &self,
+        rt: &T,
+        alloc: Global,
+        stretch: Stretch,
+        threads: u64,
+    ) -> Result<Vec<Vec<u8>>, RunError>
+    where
+        F: Sync,
+        ensures read { IfOk result (λ parts.
+            ArePartsOf (F.known self.now.files.now self.now.name.now) stretch.start
+            (stretch.end - stretch.start) (map (λ part. part.items) parts.items)) }
+        ensures faults { IfErr result IsStretchError }
+    {
+        if threads < 2 {
+            return self.one_part(alloc, stretch);
+        }
+        let some = threads / 2;
+        let others = threads - some;
+        let Some(seam) = self.seam_in(alloc, stretch)? else {
+            return self.one_part(alloc, stretch);
+        };
+        let front = Stretch {
+            start: stretch.start,
+            end: seam,
+        };
+        let back = Stretch {
+            start: seam,
+            end: stretch.end,
+        };
+        // A closure that has the struct, with its lifetime, would lose what it ensures.
+        let (files, name, found, head) = (self.files, self.name, self.found, self.head);
+        let (first, second) = thread::join(
+            rt,
+            || -> Result<Vec<Vec<u8>>, RunError>
+                requires { IsSync T.row × IsSync F.row }
+                ensures { IfOk result (λ parts.
+                    ArePartsOf (F.known files.entry.now name.entry.now) front.start
+                    (front.end - front.start) (map (λ part. part.items) parts.items))
+                    × IfErr result IsStretchError }
+            {
+                let file = SharedFile {
+                    files,
+                    name,
+                    found,
+                    head,
+                };
+                file.read_side_by_side(rt, alloc, front, some)
+            },
+            || -> Result<Vec<Vec<u8>>, RunError>
+                requires { IsSync T.row × IsSync F.row }
+                ensures { IfOk result (λ parts.
+                    ArePartsOf (F.known files.entry.now name.entry.now) back.start
+                    (back.end - back.start) (map (λ part. part.items) parts.items))
+                    × IfErr result IsStretchError }
+            {
+                let file = SharedFile {
+                    files,
+                    name,
+                    found,
+                    head,
+                };
+                file.read_side_by_side(rt, alloc, back, others)
+            },
+        );
+        self.both_halves(first, second, front, back)
     }
-    let some = threads / 2;
-    let others = threads - some;
-    let Some(seam) = seam_in(alloc, files, name, head, stretch)? else {
-        return one_part(alloc, files, name, head, stretch);
-    };
-    let front = Stretch {
-        found: stretch.found,
-        start: stretch.start,
-        end: seam,
-    };
-    let back = Stretch {
-        found: stretch.found,
-        start: seam,
-        end: stretch.end,
-    };
-    let (first, second) = thread::join(
-        rt,
-        || -> Result<Vec<Vec<u8>>, RunError>
-            requires { IsSync T.row × IsSync F.row × (16 ≤ front.start)
-                × (front.start ≤ front.end) × (front.end < 2 ^ 63) }
-            ensures { IfOk result (λ parts.
-                ArePartsOf (F.known files.entry.now name.entry.now) front.start
-                (front.end - front.start) (map (λ part. part.items) parts.items))
-                × IfErr result IsStretchError }
-        { read_side_by_side(rt, alloc, files, name, head, front, some) },
-        || -> Result<Vec<Vec<u8>>, RunError>
-            requires { IsSync T.row × IsSync F.row × (16 ≤ back.start)
-                × (back.start ≤ back.end) × (back.end < 2 ^ 63) }
-            ensures { IfOk result (λ parts.
-                ArePartsOf (F.known files.entry.now name.entry.now) back.start
-                (back.end - back.start) (map (λ part. part.items) parts.items))
-                × IfErr result IsStretchError }
-        { read_side_by_side(rt, alloc, files, name, head, back, others) },
-    );
-    both_halves(files, name, first, second, front, back)
-}
 
-/// What both halves have read, or the error of one.
-fn both_halves<F: SharedFiles>(
-    files: &F,
-    name: &str,
-    first: Result<Vec<Vec<u8>>, RunError>,
-    second: Result<Vec<Vec<u8>>, RunError>,
-    front: Stretch,
-    back: Stretch,
-) -> Result<Vec<Vec<u8>>, RunError>
-    requires next { (front.start ≤ front.end) × (back.start ≡ front.end)
-        × (back.start ≤ back.end) }
-    requires first { IfOk first (λ parts. ArePartsOf (F.known files.now name.now) front.start
-        (front.end - front.start) (map (λ part. part.items) parts.items)) }
-    requires second { IfOk second (λ parts. ArePartsOf (F.known files.now name.now) back.start
-        (back.end - back.start) (map (λ part. part.items) parts.items)) }
-    requires faults { IfErr first IsStretchError × IfErr second IsStretchError }
-    ensures read { IfOk result (λ parts. ArePartsOf (F.known files.now name.now) front.start
-        (back.end - front.start) (map (λ part. part.items) parts.items)) }
-    ensures faults { IfErr result IsStretchError }
-{
-    let mut all = first?;
-    let mut others = second?;
-    all.append(&mut others).map_err(|_| RunError::Memory)?;
-    Ok(all)
-}
+    /// What both halves have read, or the error of one.
+    fn both_halves(
+        &self,
+        first: Result<Vec<Vec<u8>>, RunError>,
+        second: Result<Vec<Vec<u8>>, RunError>,
+        front: Stretch,
+        back: Stretch,
+    ) -> Result<Vec<Vec<u8>>, RunError>
+        requires next { back.start ≡ front.end }
+        requires first { IfOk first (λ parts.
+            ArePartsOf (F.known self.now.files.now self.now.name.now) front.start
+            (front.end - front.start) (map (λ part. part.items) parts.items)) }
+        requires second { IfOk second (λ parts.
+            ArePartsOf (F.known self.now.files.now self.now.name.now) back.start
+            (back.end - back.start) (map (λ part. part.items) parts.items)) }
+        requires faults { IfErr first IsStretchError × IfErr second IsStretchError }
+        ensures read { IfOk result (λ parts.
+            ArePartsOf (F.known self.now.files.now self.now.name.now) front.start
+            (back.end - front.start) (map (λ part. part.items) parts.items)) }
+        ensures faults { IfErr result IsStretchError }
+    {
+        let mut all = first?;
+        let mut others = second?;
+        all.append(&mut others).map_err(|_| RunError::Memory)?;
+        Ok(all)
+    }
 
-/// A list of one part, which is the whole stretch.
-fn one_part<F: SharedFiles>(
-    alloc: Global,
-    files: &F,
-    name: &str,
-    head: &[u8],
-    stretch: Stretch,
-) -> Result<Vec<Vec<u8>>, RunError>
-    requires after { 16 ≤ stretch.start }
-    requires some { stretch.start ≤ stretch.end }
-    requires fits { stretch.end < 2 ^ 63 }
-    ensures read { IfOk result (λ parts. ArePartsOf (F.known files.now name.now) stretch.start
-        (stretch.end - stretch.start) (map (λ part. part.items) parts.items)) }
-    ensures faults { IfErr result IsStretchError }
-{
-    let part = part_of(alloc, files, name, head, stretch)?;
-    let mut parts = Vec::new(alloc);
-    parts.push(part).map_err(|_| RunError::Memory)?;
-    Ok(parts)
-}
+    /// A list of one part, which is the whole stretch.
+    fn one_part(&self, alloc: Global, stretch: Stretch) -> Result<Vec<Vec<u8>>, RunError>
+        ensures read { IfOk result (λ parts.
+            ArePartsOf (F.known self.now.files.now self.now.name.now) stretch.start
+            (stretch.end - stretch.start) (map (λ part. part.items) parts.items)) }
+        ensures faults { IfErr result IsStretchError }
+    {
+        let part = self.part_of(alloc, stretch)?;
+        let mut parts = Vec::new(alloc);
+        parts.push(part).map_err(|_| RunError::Memory)?;
+        Ok(parts)
+    }
 
-/// A stretch as a part. The bytes before it make room for its file header.
-fn part_of<F: SharedFiles>(
-    alloc: Global,
-    files: &F,
-    name: &str,
-    head: &[u8],
-    stretch: Stretch,
-) -> Result<Vec<u8>, RunError>
-    requires after { 16 ≤ stretch.start }
-    requires some { stretch.start ≤ stretch.end }
-    requires fits { stretch.end < 2 ^ 63 }
-    ensures read { IfOk result (λ part. IsStretch (F.known files.now name.now) stretch.start
-        (stretch.end - stretch.start) (drop 16 part.items)) }
-    ensures faults { IfErr result IsStretchError }
-{
-    let most = (stretch.end - stretch.start) as usize + FILE_HEADER;
-    let part = files.bytes(
-        alloc,
-        name,
-        stretch.found,
-        stretch.start - FILE_HEADER as u64,
-        most,
-    )?;
-    Ok(with_header(part, head)?)
+    /// A stretch as a part. The bytes before it make room for its file header.
+    fn part_of(&self, alloc: Global, stretch: Stretch) -> Result<Vec<u8>, RunError>
+        ensures read { IfOk result (λ part.
+            IsStretch (F.known self.now.files.now self.now.name.now) stretch.start
+            (stretch.end - stretch.start) (drop 16 part.items)) }
+        ensures faults { IfErr result IsStretchError }
+    {
+        let before = stretch.start - FILE_HEADER as u64;
+        let most = (stretch.end - stretch.start) as usize + FILE_HEADER;
+        let part = self
+            .files
+            .bytes(alloc, self.name, self.found, before, most)?;
+        Ok(with_header(part, self.head)?)
+    }
+
+    /// Where a frame seems to begin after the middle of the stretch, if one is found.
+    fn seam_in(&self, alloc: Global, stretch: Stretch) -> Result<Option<u64>, RunError>
+        ensures within { IfOk result (λ found. IfSome found (λ seam.
+            (stretch.start ≤ seam) × (seam ≤ stretch.end))) }
+        ensures faults { IfErr result IsStretchError }
+    {
+        let middle = stretch.start + (stretch.end - stretch.start) / 2;
+        let before = middle - FILE_HEADER as u64;
+        let mut window = self
+            .files
+            .bytes(alloc, self.name, self.found, before, WINDOW)?;
+        let Some(at) = guess(window.as_mut_slice(), self.head) else {
+            return Ok(None);
+        };
+        let seam = before + at as u64;
+        if stretch.end < seam {
+            return Ok(None);
+        }
+        Ok(Some(seam))
+    }
 }
 
 /// The part with this file header in place of its first bytes. If the file has become too short to
@@ -352,34 +384,6 @@ fn with_rest(parts: Vec<Vec<u8>>, rest: Vec<u8>) -> Result<Vec<Vec<u8>>, RunErro
         all.push(rest).map_err(|_| RunError::Memory)?;
     }
     Ok(all)
-}
-
-/// Where a frame seems to begin after the middle of the stretch, if one is found.
-fn seam_in<F: SharedFiles>(
-    alloc: Global,
-    files: &F,
-    name: &str,
-    head: &[u8],
-    stretch: Stretch,
-) -> Result<Option<u64>, RunError>
-    requires after { 16 ≤ stretch.start }
-    requires some { stretch.start ≤ stretch.end }
-    requires fits { stretch.end < 2 ^ 63 }
-    ensures within { IfOk result (λ found. IfSome found (λ seam.
-        (stretch.start ≤ seam) × (seam ≤ stretch.end))) }
-    ensures faults { IfErr result IsStretchError }
-{
-    let middle = stretch.start + (stretch.end - stretch.start) / 2;
-    let before = middle - FILE_HEADER as u64;
-    let mut window = files.bytes(alloc, name, stretch.found, before, WINDOW)?;
-    let Some(at) = guess(window.as_mut_slice(), head) else {
-        return Ok(None);
-    };
-    let seam = before + at as u64;
-    if stretch.end < seam {
-        return Ok(None);
-    }
-    Ok(Some(seam))
 }
 
 /// Where frames seem to begin in these bytes. What is before that place is written over.
