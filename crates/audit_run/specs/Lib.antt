@@ -2,6 +2,7 @@ pub mod PartRuns
 pub mod Question
 pub mod Run
 pub mod Store
+pub mod Stretches
 pub use Rattle.audit_streams.specs.KnownBytes
 pub use Rattle.audit_streams.specs.Parts
 pub use Rattle.audit_streams.specs.RunError

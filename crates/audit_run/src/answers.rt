@@ -1,10 +1,11 @@
 //! Answers a question about a capture whose parts come from readers or from files.
-ghost use Rattle.std.specs.Prelude.{◌<◌, ◌^◌, length, map, vec_len, IfErr, IfOk, IfSome, IsOkUnless};
+ghost use Rattle.std.specs.Prelude.{◌≡◌, ◌<◌, ◌^◌, length, map, vec_len, IfErr, IfOk, IfSome, IsOkUnless};
 ghost use Rattle.std.specs.List.{AllZip};
 ghost use Rattle.transaction_view.specs.Grammar.{frames_of_parts};
 ghost use Rattle.audit_join.specs.declared.limits.TheConstants.{CAPTURE_LIMIT};
 ghost use Rattle.audit_streams.specs.Stretches.{AreStretchesOf, IsStretchError};
 ghost use Rattle.audit_run.specs.PartRuns.{AreOfOneFile, FilesGive, IsOpeningError, ReadersGive};
+ghost use Rattle.audit_run.specs.Stretches.{unless_not_opened};
 ghost use Rattle.audit_run.specs.Question.{answer_to, names_of, reading_status};
 ghost use Rattle.audit_run.specs.Run.{RunEnds};
 ghost use Rattle.audit_run.specs.Store.{HasLeft};
@@ -102,8 +103,18 @@ fn read_file<T: Threads + Sync, S: Store>(
     let Some(found) = files.find(name) else {
         return Ok(None);
     };
-    match read_stretches(rt, alloc, files, name, found, CAPTURE_LIMIT, threads) {
-        // No more files may be open, or the name has become that of another file.
+    let read = read_stretches(rt, alloc, files, name, found, CAPTURE_LIMIT, threads);
+    unless_not_opened(read)
+}
+
+/// What reading a file as parts has given. If it could not be opened again, it is left to its
+/// reader: no more files may be open, or the name has become that of another file.
+fn unless_not_opened(
+    read: Result<Option<Vec<Vec<u8>>>, RunError>,
+) -> Result<Option<Vec<Vec<u8>>>, RunError>
+    ensures { result ≡ unless_not_opened read }
+{
+    match read {
         Err(RunError::Open) => Ok(None),
         read => read,
     }

@@ -1,6 +1,6 @@
 //! Runs on a capture that was read in stretches, as parts.
 
-ghost use Rattle.std.specs.Prelude.{◌≡◌, ◌<◌, ◌≤◌, ◌+◌, ◌^◌, ◌∷◌, [], All, drop, length, map, vec_len, IfOk, IfSome, IsOk, IsOkUnless, string_bytes};
+ghost use Rattle.std.specs.Prelude.{◌≡◌, ◌<◌, ◌≤◌, ◌+◌, ◌^◌, ◌∷◌, [], None, All, drop, length, map, vec_len, IfOk, IfSome, IsErr, IsOk, IsOkUnless, string_bytes};
 ghost use Rattle.capture_frame.specs.declared.version.Version.{Version};
 ghost use Rattle.capture_frame.specs.Parts.{joined_as};
 ghost use Rattle.transaction_view.specs.Grammar.{frames_of_parts};
@@ -10,6 +10,7 @@ ghost use Rattle.audit_streams.specs.Parts.{bytes_of};
 ghost use Rattle.audit_streams.specs.Stretches.{IsPartOf};
 ghost use Rattle.audit_run.specs.Question.{reading_status};
 ghost use Rattle.audit_run.specs.Run.{Writes};
+ghost use Rattle.audit_run.specs.Stretches.{unless_malformed};
 
 use crate::part_runs::{report_on, room_for, slices_of, write_parts};
 use crate::written::PartsWritten;
@@ -70,11 +71,21 @@ fn report_as_parts<T: Threads + Sync>(
         IsOk (frames_of_parts (map (λ part. part.items) parts.now)))) }
     ensures report { IfOk result (λ found. IfSome found (λ text.
         string_bytes text ≡ answer (map (λ part. part.items) parts.now))) }
+    ensures malformed { IfOk result (λ found. found ≡ None →
+        IsErr (frames_of_parts (map (λ part. part.items) parts.now))) }
     ensures memory { IsOkUnless result RunError.Memory }
 {
     let room = room_for(alloc, parts.len())?;
     let slices = slices_of(room, parts);
-    match report_on(rt, alloc, slices.as_slice(), workers, piece, &NoGate) {
+    let reported = report_on(rt, alloc, slices.as_slice(), workers, piece, &NoGate);
+    unless_malformed(reported)
+}
+
+/// What making the report on parts has given; none if they have a fault.
+fn unless_malformed(reported: Result<String, PartsError>) -> Result<Option<String>, RunError>
+    ensures { result ≡ unless_malformed reported }
+{
+    match reported {
         Ok(text) => Ok(Some(text)),
         Err(PartsError::Memory) => Err(RunError::Memory),
         Err(PartsError::Malformed(_)) => Ok(None),

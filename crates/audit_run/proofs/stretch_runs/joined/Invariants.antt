@@ -1,4 +1,4 @@
-use Rattle.std.proofs.Common.{◌≡◌, ◌++◌, drop, flat_map, map}
+use Rattle.std.proofs.Common.{◌≡◌, ◌++◌, drop, flat_map}
 use Rattle.audit_run.proofs.stretch_runs.joined.Given as goal
 
 -- so far it is the first part, and what each of the next parts has after its file header
