@@ -45,7 +45,7 @@ class Build(NamedTuple):
 
     def __str__(self) -> str:
         return (f"{self.name}: {counted(self.captures, 'capture')} of {counted(self.devices, 'device')}, {self.lossy}"
-                f" with lost frames; besides {self.malformed} malformed, {self.failed} failed"
+                f" with lost frames; plus {self.malformed} malformed, {self.failed} failed"
                 + (f"; {counted(self.cut, 'result')} with rows left out" if self.cut else ""))
 
 

@@ -73,7 +73,7 @@ def refuse_other(lab: sqlite3.Connection, path: str) -> None:
     """Refuses a database that is no lab, so that nothing is put into one that is another program's."""
     layout, = lab.execute("PRAGMA user_version").fetchone()
     if layout != LAYOUT or not is_lab(lab):
-        raise Stopped(4, f"{path}: it is no lab of this version")
+        raise Stopped(4, f"{path}: not a lab of this version")
 
 
 def make(lab: sqlite3.Connection) -> None:

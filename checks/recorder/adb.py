@@ -388,7 +388,7 @@ def check_devices(device: Device) -> None:
         device.says([], 1, "record: one: its adbd is too old: .*")
     with device.with_file("machine", "armv7l\n"):
         device.says([], 1, "record: one is a armv7l, and the recorder is for x86_64 and aarch64 alone: .*")
-    device.says([], 1, "record: one lets nobody be root: .*", ADB_USER="2000")
+    device.says([], 1, "record: one does not allow root: .*", ADB_USER="2000")
 
 
 def check_server(device: Device) -> None:

@@ -45,7 +45,7 @@ def become_root(connection: Connection) -> None:
     for connection.by in SU:
         if is_root(connection):
             return
-    raise Stopped(f"{connection.serial} lets nobody be root: adb root is refused, as by builds for users, and no su"
+    raise Stopped(f"{connection.serial} does not allow root: adb root is refused, as by builds for users, and no su"
                   " makes this user root")
 
 

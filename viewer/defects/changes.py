@@ -32,7 +32,7 @@ def refuse_unlike(old: dict, new: dict, name: str) -> None:
     """Keys of two designs are not compared, and none where one side alone has the names of methods, or a side list."""
     if old["prints"] != new["prints"]:
         raise Stopped(1, f"{name}: its keys are of design {old['prints']}, and those of the capture of {new['prints']}:"
-                         " make it anew")
+                         " rebuild it with --database")
     for fact, option in OPTIONS.items():
         if bool(old[fact]) != bool(new[fact]):
             made, viewed = ("with", "without") if old[fact] else ("without", "with")

@@ -73,7 +73,7 @@ def kept_database(path: str) -> sqlite3.Connection:
     except sqlite3.DatabaseError as error:
         raise Stopped(4, f"{path}: {error}") from error
     if layout != LAYOUT:
-        raise Stopped(4, f"{path}: its layout is {layout} and not {LAYOUT}: make it anew, by --database")
+        raise Stopped(4, f"{path}: its layout is {layout} and not {LAYOUT}: rebuild it with --database")
     database.text_factory = lambda text: text.decode("utf-8", "replace")
     return database
 
@@ -98,9 +98,9 @@ def seen_in(path: str) -> Seen:
     try:
         seen = Seen(facts_of(database), defects_of(database))
     except sqlite3.Error as error:
-        raise Stopped(4, f"{path}: {error}: make it anew, by --database") from error
+        raise Stopped(4, f"{path}: {error}: rebuild it with --database") from error
     finally:
         database.close()
     if not are_ours(seen):
-        raise Stopped(4, f"{path}: it has what ./view does not write: make it anew, by --database")
+        raise Stopped(4, f"{path}: it has what ./view does not write: rebuild it with --database")
     return seen

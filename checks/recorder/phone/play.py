@@ -181,7 +181,7 @@ def other_version(stage: Stage) -> None:
 def no_root(stage: Stage) -> None:
     """Where nobody can be root, that is said."""
     stage.connect(stage.serials[1])
-    stage.line(stage.record(stage.serials[1]), 1, r"record: 127\.\S+ lets nobody be root: adb root is refused, as by"
+    stage.line(stage.record(stage.serials[1]), 1, r"record: 127\.\S+ does not allow root: adb root is refused, as by"
                " builds for users, and no su makes this user root")
 
 
