@@ -1,15 +1,17 @@
 #!/usr/bin/env bash
-# Records AOSP's own code: libbinder of Android 10, its servicemanager and tests, and a small system on libbinder with
-# and without faults. It fetches AOSP's sources from Debian's registry, builds them, boots Debian's kernels in QEMU, and
-# plays aosp/plan.txt there. It is run by hand.
+# Records AOSP's own code: libbinder of Android 10 and of 14, servicemanager and tests of each, and a small system on
+# libbinder with and without faults. It fetches AOSP's sources from Debian's registry, builds them, boots Debian's
+# kernels in QEMU, and plays aosp/plan.txt there. It is run by hand.
 #
 #     checks/run aosp [-- OPTION..]    fetches, builds, boots, compares; how long that takes was not measured yet
 #
 #     --room FOLDER      where packages and results are kept; by default a temporary folder that is removed
 #     --recorder FILE    a recorder that is already built; by default `./record` builds it
 #     --kernel SERIES    only 5.10, 6.1, 6.12 or newest, which is Debian sid's; by default 6.1 and newest
+#     --android RELEASE  only what is of Android 10, or of 14
 #     --rust             only a kernel with the driver in Rust, which is built if there is none yet: rust_kernel.sh
 #     --only NAME        only this line of the plan; may be given several times
+#     --how HOW          only recordings made so: unrecorded, recorded, --redact or --stacks
 #     --limit SECONDS    how long a guest may take; by default 1800
 #     --store            also renews samples/aosp from the results of the newest kernel
 #
@@ -21,9 +23,10 @@ set -euo pipefail
 here=$(readlink -f -- "${BASH_SOURCE[0]}")
 root=${here%/*/*/*}
 aosp=$root/checks/recorder/aosp check=aosp
-limit=1800 room='' recorder='' store=''
+limit=1800 room='' recorder='' store='' how_only=''
 acceleration='-accel tcg,thread=single -cpu max'
 series=(6.1 newest)
+releases=(10 14)
 only=()
 # shellcheck source=checks/recorder/guests.sh
 source "$root/checks/recorder/guests.sh"
@@ -35,8 +38,10 @@ while (($#)); do
   --room) room=$2 && shift ;;
   --recorder) recorder=$2 && shift ;;
   --kernel) series=("$2") && shift ;;
+  --android) releases=("$2") && shift ;;
   --rust) series=(rust) ;;
   --only) only+=("$2") && shift ;;
+  --how) how_only=$2 && shift ;;
   --limit) limit=$2 && shift ;;
   --store) store=1 ;;
   *) stop "$1 is not an option; the head of this script lists them" ;;
@@ -47,6 +52,8 @@ done
 needs qemu-system-x86_64 qemu-system-x86
 needs busybox busybox-static
 needs clang++ 'clang libstdc++-12-dev'
+echo '#include <vector>' | clang++ -stdlib=libc++ -fsyntax-only -x c++ - 2>/dev/null ||
+  stop 'clang has no libc++: apt-get install libc++-14-dev libc++abi-14-dev'
 needs make make
 needs cpio cpio
 needs xz xz-utils
@@ -74,46 +81,64 @@ fetch_sources() { # RELEASE PACKAGE FOLDER
     tar xf ./*.orig.tar.* && rm -- ./*.orig.tar.* && touch opened)
 }
 
-build_android() {
+# What each release is made of. Sets `words` to what its Makefile is told.
+fetch_10() {
   local packages=$room/packages-10
-  built=$room/built-10
+  words=("SOURCE=$room/sources-10" "PACKAGES=$packages")
   fetch_sources bookworm android-platform-frameworks-native "$room/sources-10" || return 1
-  if [[ ! -e $packages/opened ]]; then
-    use_lists bookworm && open_packages "$packages" android-lib{utils,cutils,log,base}{,-dev} android-libbacktrace \
-      p7zip-full aidl libgtest-dev || return 1
-  fi
+  [[ -e $packages/opened ]] || { use_lists bookworm && open_packages "$packages" \
+    android-lib{utils,cutils,log,base}{,-dev} android-libbacktrace p7zip-full aidl libgtest-dev; }
+}
+
+fetch_14() {
+  local aidl=$room/packages-14 googletest=$room/packages-googletest
+  words=("SOURCE=$room/sources-14" "AIDL=$aidl" "GOOGLETEST=$googletest/usr/src/googletest")
+  fetch_sources sid android-platform-tools "$room/sources-14" || return 1
+  [[ -e $aidl/opened ]] || { use_lists sid && open_packages "$aidl" aidl android-lib{base,cutils,log} libatomic1 libc6 \
+    libgcc-s1 libstdc++6; } || return 1
+  [[ -e $googletest/opened ]] || { use_lists bookworm && open_packages "$googletest" googletest; }
+}
+
+build_android() { # RELEASE
+  local words built=$room/built-$1
+  "fetch_$1" || return 1
   mkdir -p -- "$built"
-  make -s -j "$(nproc)" -f "$aosp/Makefile.10" "SOURCE=$room/sources-10" "PACKAGES=$packages" "OUT=$built" \
-    >"$room/build.log" 2>&1 || stop "the build failed: see $room/build.log"
-  libraries=("$packages"/usr/lib/x86_64-linux-gnu/android/lib{utils,cutils,log,base,backtrace}.so.0
-    "$packages/usr/lib/p7zip/7z.so")
+  make -s -j "$(nproc)" -f "$aosp/Makefile.$1" "${words[@]}" "OUT=$built" >"$room/build-$1.log" 2>&1 ||
+    stop "the build failed: see $room/build-$1.log"
 }
 
 # ---- the guest
 
 modules=(virtio_ring virtio virtio_pci_legacy_dev virtio_pci_modern_dev virtio_pci virtio_blk binder_linux)
 
-with_libraries() { # COMMAND..
-  LD_LIBRARY_PATH=$built:$(dirname -- "${libraries[@]}" | sort -u | paste -sd :) "$@"
-}
-
-libraries_of() { # FILE..: what the dynamic linker needs of this machine
-  with_libraries ldd "$@" | awk '$3 ~ /^\/(usr\/)?lib/ { print $3 }' | sort -u
+# Puts a release into a folder of the guest: its programs, and the libraries that are not those of this machine. They
+# are stripped of what names functions: with that, `./view --symbols` names them by what was built.
+put_release() { # RELEASE TOP
+  local built=$room/built-$1 to=$2/android-$1 file role
+  mkdir -p -- "$to"
+  for file in "$built"/*; do
+    if [[ -f $file && -x $file ]]; then strip -g -o "$to/${file##*/}" -- "$file"; fi
+  done
+  if [[ $1 == 10 ]]; then
+    cp -L -- "$room"/packages-10/usr/lib/x86_64-linux-gnu/android/lib{utils,cutils,log,base,backtrace}.so.0 \
+      "$room/packages-10/usr/lib/p7zip/7z.so" "$to/"
+  fi
+  for file in $(LD_LIBRARY_PATH=$to ldd "$to"/* | awk '$3 ~ /^\/(usr\/)?lib/ { print $3 }' | sort -u); do
+    cp -nL -- "$file" "$2/lib/"
+  done
+  for role in $(LD_LIBRARY_PATH=$to "$to/system" 2>/dev/null | awk '{ print $1 }'); do ln -s system "$to/$role"; done
 }
 
 make_initramfs() { # KERNEL PLAN TO
-  local top=$room/initramfs file role
-  rm -rf -- "$top" && mkdir -p -- "$top"/{bin,lib,lib64,proc,sys,dev,out,modules,tmp,android}
+  local top=$room/initramfs file release
+  rm -rf -- "$top" && mkdir -p -- "$top"/{bin,lib,lib64,proc,sys,dev,out,modules,tmp}
   cp -- "$aosp/init.sh" "$top/init"
   cp -- "$aosp/with-manager.sh" "$top/with-manager"
   chmod +x -- "$top/init" "$top/with-manager"
   cp -- "$recorder" "$top/record"
   cp -- "$2" "$top/plan"
-  find "$built" -maxdepth 1 -type f -perm -u+x ! -name '*.so' ! -name system -exec cp -- {} "$top/android/" \;
-  cp -- "$built/system" "$top/system"
-  for role in $(role_names); do ln -s /system "$top/android/$role"; done
-  cp -L -- "$built"/*.so "${libraries[@]}" "$top/lib/"
-  for file in $(libraries_of "$built"/{binderLibTest,system,libbinder.so}); do cp -nL -- "$file" "$top/lib/"; done
+  for release in "${releases[@]}"; do put_release "$release" "$top"; done
+  for file in $(ldd "$recorder" | awk '$3 ~ /^\/(usr\/)?lib/ { print $3 }'); do cp -nL -- "$file" "$top/lib/"; done
   cp -L -- "$loader" "$top$loader_in_guest/"
   cp -- "$busybox" "$top/bin/busybox"
   for file in sh env; do ln -s busybox "$top/bin/$file"; done
@@ -125,10 +150,6 @@ make_initramfs() { # KERNEL PLAN TO
   done
   touch -- "$top/modules/order"
   (cd -- "$top" && find . | cpio -o -H newc 2>/dev/null | gzip -1) >"$3"
-}
-
-role_names() {
-  with_libraries "$built/system" | awk '{ print $1 }'
 }
 
 boot() { # KERNEL PLAN OUT
@@ -146,19 +167,27 @@ boot() { # KERNEL PLAN OUT
   grep -q '^init: done' "$3/console" || stop "the guest did not come to its end: see $3/console"
 }
 
-plan() { # prints the lines for the guest: each line of the plan that --only leaves, in each way
-  local what name rest
-  while read -r what name rest; do
+plan() { # prints the lines for the guest: each line of the plan that the options leave, of each release, in each way
+  local what name of rest release how
+  while read -r what name of rest; do
     [[ -z $what || $what == '#'* ]] && continue
     if ((${#only[@]})) && [[ " ${only[*]} " != *" $name "* ]]; then continue; fi
-    case $what in
-    test)
-      printf '%s %s\n' "$name-unrecorded test unrecorded" "/android/$rest" "$name test recorded" "/android/$rest" \
-        "$name-redacted test --redact" "/android/$rest" "$name-stacks test --stacks" "/android/$rest"
-      ;;
-    scene) printf '%s %s\n' "$name" "scene --redact $rest" "$name-stacks" "scene --stacks $rest" ;;
-    esac
+    for release in "${releases[@]}"; do
+      [[ ,$of, == *",$release,"* ]] || continue
+      for how in unrecorded recorded --redact --stacks; do
+        [[ -n $how_only && $how != "$how_only" || $what == scene && $how != --* ]] && continue
+        printf '%s %s %s %s %s\n' "$name-$release$(ending "$what" "$how")" "$what" "$release" "$how" "$rest"
+      done
+    done
   done <"$aosp/plan.txt"
+}
+
+ending() { # WHAT HOW: what a recording is called, after the name of its line
+  case $1$2 in
+  test--redact) echo -redacted ;;
+  testrecorded | scene--redact) ;;
+  *) echo "-${2#--}" ;;
+  esac
 }
 
 as_machine x86_64
@@ -167,7 +196,10 @@ if [[ -z $recorder ]]; then
   "$root/record" --help >/dev/null || stop 'the recorder was not built'
   recorder=$root/recorder/out/record
 fi
-build_android || stop "the registry has no sources of Android, or not what they need: see $room/packages.log"
+for one in "${releases[@]}"; do
+  build_android "$one" ||
+    stop "the registry has no sources of Android $one, or not what they need: see $room/packages.log"
+done
 plan >"$room/plan"
 [[ -s $room/plan ]] || stop 'the plan has no such line'
 status=0

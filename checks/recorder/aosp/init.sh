@@ -1,13 +1,14 @@
 #!/bin/busybox sh
 # The guest's first process: it plays the lines of /plan and leaves the results on the disk, as tar files one after
 # another. A line is one of these:
-#   NAME test HOW COMMAND..       runs a test, with a servicemanager of its own. HOW is `unrecorded`, `recorded`, or the
-#                                 options of the recorder, with commas for spaces
-#   NAME scene HOW SECONDS ROLE.. starts the roles of the small system one after another, and ends the recording after
-#                                 so many seconds, when all of them are alive. ROLE=N works N seconds, and rests
+#   NAME test RELEASE HOW COMMAND..       runs a test of this Android, with a servicemanager of its own. HOW is
+#                                         `unrecorded`, `recorded`, or the recorder's option
+#   NAME scene RELEASE HOW SECONDS ROLE.. starts the roles of the small system one after another, and ends the recording
+#                                         after so many seconds, when all of them are alive. ROLE=N works N seconds, and
+#                                         rests
 # shellcheck shell=dash disable=SC2013,SC2046,SC2086
 /bin/busybox --install -s /bin
-export PATH=/bin:/android LD_LIBRARY_PATH=/lib
+export PATH=/bin LD_LIBRARY_PATH=/lib
 mount -t proc proc /proc
 mount -t sysfs sys /sys
 mount -t devtmpfs dev /dev
@@ -34,24 +35,20 @@ wait_for_begin() { # until the recording has begun, or there is no recorder
 	while ! grep -q ' begin ' $here/capture.side && kill -0 $recorder; do sleep 0.2; done 2>/dev/null
 }
 
-options() { # HOW
-	case $1 in
-	recorded) ;;
-	*) echo "$1" | tr , ' ';;
+# A test runs itself anew, by the path by which it is called.
+play_test() { # HOW COMMAND..
+	how=$1
+	program=$(command -v $2)
+	shift 2
+	case $how in
+	unrecorded) /with-manager $program "$@";;
+	recorded) /record -o $here/capture -- /with-manager $program "$@";;
+	*) /record $how -o $here/capture -- /with-manager $program "$@";;
 	esac
 }
 
-play_test() { # HOW COMMAND..
-	how=$1 && shift
-	if [ $how = unrecorded ]; then
-		/with-manager "$@"
-	else
-		/record $(options $how) -o $here/capture -- /with-manager "$@"
-	fi
-}
-
 play_scene() { # HOW SECONDS ROLE..
-	/record $(options $1) -o $here/capture 2>$here/record.txt & recorder=$!
+	/record $1 -o $here/capture 2>$here/record.txt & recorder=$!
 	seconds=$2
 	shift 2
 	wait_for_begin
@@ -77,7 +74,7 @@ play_scene() { # HOW SECONDS ROLE..
 end_all() {
 	for process in /proc/[0-9]*; do
 		case $(readlink $process/exe) in
-		/android/* | /system) kill -KILL ${process#/proc/};;
+		/android-*) kill -KILL ${process#/proc/};;
 		esac
 	done
 	sleep 0.3
@@ -93,7 +90,8 @@ save() { # FILE..: of /out
 }
 
 save kernel
-while read -r name what how words; do
+while read -r name what release how words; do
+	PATH=/bin:/android-$release LD_LIBRARY_PATH=/android-$release:/lib
 	here=/out/$name
 	mkdir -p $here
 	dmesg -c >/dev/null

@@ -1,9 +1,9 @@
 """Judges what a guest left of the plan: judge.py FOLDER
 
-Each folder in FOLDER is a recording, and is named after its line of plan.txt. A test that was also played unrecorded
-must have the same results each time; no frame may be lost but for those of LOST; the report may not differ from the
-driver's books; and the groups must be those that groups.txt expects. It prints a line for each. If something is not so,
-a line on standard error says what, and the status is 1.
+Each folder in FOLDER is a recording, and is named after its line of plan.txt and its release of Android. A test that
+was also played unrecorded must have the same results each time; no frame may be lost but for those of LOST; the report
+may not differ from the driver's books; and the groups must be those that groups.txt expects. It prints a line for each.
+If something is not so, a line on standard error says what, and the status is 1.
 """
 
 import fnmatch
@@ -60,10 +60,16 @@ class Group(NamedTuple):
     keys: str
 
 
+def line_of(name: str) -> str:
+    """The line of the plan of a recording: without its release."""
+    return re.sub(r"-\d+$", "", name)
+
+
 def groups_due(name: str) -> list[Due]:
+    """What is expected of a recording, by its name with or without the release."""
     lines = (HERE / "groups.txt").read_text("utf-8").splitlines()
     every = [Due(*line.split("\t")) for line in lines if line and not line.startswith("#")]
-    return [due for due in every if due.name == name]
+    return [due for due in every if due.name in (name, line_of(name))]
 
 
 class Recorded(NamedTuple):
@@ -144,7 +150,7 @@ def faults_of(folder: pathlib.Path, told: list[str]) -> Iterator[str]:
     output = (folder / "output").read_text("utf-8", errors="replace")
     lost, frames = lost_of(folder), re.search(r"record: (\d+) frames", output)
     told += [f"{frames[1] if frames else 'no'} frames", f"{len(lost)} lost"]
-    if lost != LOST.get(name, []):
+    if lost != LOST.get(line_of(name), []):
         yield f"lost: {' '.join(lost)}"
     came = viewed(folder)
     if isinstance(came, str):
