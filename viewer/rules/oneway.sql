@@ -82,14 +82,13 @@ FROM (SELECT other, count(*) AS n FROM finding WHERE rule = 'W2' GROUP BY 1) w
 WHERE section = 'buffers' AND w.other = place;
 -- A oneway delivery after which its thread has done nothing: its handler may be at work, and others may wait for that.
 UPDATE finding SET
-  rule = iif(waiting > 0 AND finding.id IN (SELECT id FROM old) AND (n_good >= :ENOUGH OR age > :VERY_LONG),
+  rule = iif(waiting NOTNULL AND finding.id IN (SELECT id FROM old) AND (n_good >= :ENOUGH OR age > :VERY_LONG),
     'W6', 'W5'),
   said = iif(age IS NULL, NULL, 'its handler has been at work for {how_long}'),
   how_long = age,
-  note = iif(waiting > 0, counted(waiting, 'waits', 'wait') || ' for it', NULL)
+  note = iif(waiting NOTNULL, counted(waiting, 'waits', 'wait') || ' for it', NULL)
 FROM raw_record r
-WHERE rule = 'U6' AND section = 'buffers' AND later = 0 AND r.place = finding.place
-  AND r.kind IN (:BR_TRANSACTION, :BR_TRANSACTION_SEC_CTX) AND r.flags & :TF_ONE_WAY;
+WHERE rule = 'U6' AND what <> 'BR_REPLY' AND later = 0 AND r.place = finding.place AND r.flags & :TF_ONE_WAY;
 UPDATE finding SET rule = 'M1' WHERE rule IS NULL AND section = 'oneway' AND finding.upid IN (SELECT upid FROM lossy);
 UPDATE finding SET rule = CASE WHEN finding.id IN (SELECT id FROM old) THEN 'W3'
   WHEN age IS NULL AND later > 0 THEN 'W3'

@@ -90,7 +90,7 @@ FROM given v JOIN dead_way d USING (upid, way) WHERE rule = 'H3' AND v.generatio
 -- Who asks for no death learns of it by a send that is refused, and libbinder sends nothing more to such a handle. So
 -- what is kept of the ended makes no noise: it is told by how long its process worked on after their end.
 CREATE TEMP TABLE outlives AS
-SELECT f.id, f.upid, g.way, g.code, n.upid AS owner, l.last_ts - p.ended AS since
+SELECT f.id, f.upid, g.way, n.upid AS owner, l.last_ts - p.ended AS since
 FROM finding f JOIN given g USING (generation) JOIN node_of n USING (generation) JOIN process_life p ON p.upid = n.upid
   JOIN recorded l ON l.upid = f.upid JOIN raw_generation h ON h.id = f.generation
 WHERE f.section = 'handles' AND f.what = 'held' AND f.rule IS NULL AND n.certain AND l.last_ts - p.ended > :VERY_LONG
@@ -109,7 +109,6 @@ DELETE FROM outlives WHERE since <= :OLD * (SELECT longest FROM let_go_later l
 UPDATE finding SET
   rule = 'H12',
   relation = 'given',
-  code = o.code,
   way = o.way,
   n_all = (SELECT sum(w.n) FROM given_way w WHERE (w.upid, w.way) = (o.upid, o.way)),
   said = 'held for {how_long} after {who} ended',

@@ -167,18 +167,22 @@ def ring_of_locks(s, good=3, took=0, wait=300, active=0, lost=False, others=0, s
 @case("C3:2 A1:4", wait=1100, other=True)
 @case("C4:1 M2:1 A1:4", wait=1100, lost=True)
 @case("C7:4 C10:1 A1:4", "4 wait for it", wait=1100, queue=3)
-def comes_back_and_hangs(s, wait, good=0, took=0, active=False, other=False, lost=False, queue=0):
+@case("C3:2 C7:1 A1:4", wait=1100, main_calls=True)
+def comes_back_and_hangs(s, wait, good=0, took=0, active=False, other=False, lost=False, queue=0, main_calls=False):
     """A call is served by a call back, which the thread that waits gets, and never replies. Earlier ones took so long.
     Or that thread writes something later, or another thread of its process gets the call back. More calls may wait for
-    the service."""
+    the service, also one of the main thread of that process."""
     service, client, back = with_each_other(s)
     for _ in range(good):
         service.main.asks(back, 2, 7, 0x9700, took=took)
     if lost:
         s.loses(client)
-    service.main.gets(client.main.sends(0, 11))
-    hanging = back if other else client.main
+    calls = back if main_calls else client.main
+    service.main.gets(calls.sends(0, 11))
+    hanging = back if other else calls
     hanging.gets(service.main.sends(7, 2), 0x9700)
+    if main_calls:
+        client.main.sends(0, 12)
     if active:
         s.wait(10)
         hanging.writes(ENTER)
@@ -615,9 +619,10 @@ def oneway_after_another(s, freed, wait):
 @case("U4:1 W2:1", wait=500, goes_on=True)
 @case("U6:1 W2:1", wait=50, goes_on=True)
 @case("W2:1 W5:1", "(1 waits for it)", wait=0, has_side=False)
-def oneway_handler(s, wait, sends=1, good=0, goes_on=False):
+@case("U6:1 W2:1 W5:1", wait=500, beside=True)
+def oneway_handler(s, wait, sends=1, good=0, goes_on=False, beside=False):
     """The handler of a oneway transaction is at work for so long, and other sends wait for it; or its thread goes on.
-    Earlier ones were quick."""
+    Earlier ones were quick. Beside it a client keeps its last reply, which says that it is oneway."""
     service, client = s.two()
     client.main.gives(service.main, 1)
     looper = client.looper(1)
@@ -628,6 +633,10 @@ def oneway_handler(s, wait, sends=1, good=0, goes_on=False):
         looper.writes(ENTER)
     for _ in range(sends):
         service.main.sends(1, 7, ONE_WAY)
+    if beside:
+        other = s.process(300, "other")
+        address = service.main.gets(other.main.sends(0, 1))
+        other.main.answered(service.main.replies(address, flags=ONE_WAY), free=False)
     s.wait(wait)
 
 

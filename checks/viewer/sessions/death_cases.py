@@ -202,3 +202,25 @@ def register_at_once(others, manager, server):
     for handle, one in enumerate(sent, 20):
         server.main.frees(server.main.gets(one, 0x9000, of_handle(2, handle)))
         server.main.writes(*each(BC_ACQUIRE, handle))
+
+
+@case("H12:3", "3 of 3 given by calls of code 4 H12", dead=3, others=2)
+@case("", dead=2, others=1)
+@case("H12:3", "3 of 3 given by calls of code 4 H12", dead=3, others=2, elsewhere=True)
+@case("", dead=2, others=2, elsewhere=True)
+def listeners_of_two_ways(s, dead, others, elsewhere=False):
+    """A server keeps the objects of so many that end, and as many came by another code, or to another server."""
+    manager, _, server = with_server(s)
+    second = s.process(310, "second")
+    second.main.gives(manager.main, 5, node=0x9000)
+    clients = [s.process(400 + at, "short-lived") for at in range(dead + others)]
+    for handle, client in enumerate(clients, 20):
+        is_other = handle >= 20 + dead
+        client.main.is_given(manager.main, 1, server_handle=5 if is_other and elsewhere else 3)
+        calls_back(client.main, (second if is_other and elsewhere else server).main, handle,
+                   code=6 if is_other and not elsewhere else 4)
+    for client in clients:
+        client.ends()
+    s.wait(1100)
+    for one in server, second:
+        one.main.asks(manager.main)
