@@ -268,7 +268,7 @@ FIRST = (9569, (200, 201), (100, 101))
 @case("", calls=[FIRST], again=[(9570, *FIRST[1:])])
 @case("B1:1", "thread 300 of of-300 300 waits for thread 301 of of-301 301", "code 3 to of-301 301 node 0x700",
       calls=[(9569, (300, 300), (301, 301))])
-@case("B1:1 C7:1", "(the call from before by thread 301)",
+@case("B1:1 C7:1", "; the call from before by thread 301)",
       calls=[(9569, (300, 300), (301, 301)), (9570, (301, 301), (302, 302))])
 @case("C3:2", "C3 by of-300 300: 1", "C3 by of-301 301: 1",
       calls=[(9569, (300, 300), (301, 0)), (9571, (301, 301), (300, 0))])
@@ -345,7 +345,7 @@ def throughout_beside_a_call(s, wait):
     through(s, [(9569, (100, 100), (200, 205))], wait, does=calls, enters=False)
 
 
-@case("C4:1 C7:1 A1:2", "(the call at ", on=True)
+@case("C4:1 C7:1 A1:2", "; the call at ", on=True)
 @case("B1:1 C4:1 A1:2", on=False)
 def throughout_goes_on(s, on):
     """The thread that serves a call from before, or another one, makes a call that is never answered."""

@@ -18,9 +18,9 @@ BODIES = {"one": ONE, "two": TWO, "none": b"", "base": of_hidl("android.hidl.bas
           "hidl": of_hidl("a.b@1.0::IThing")}
 
 
-@case("C4:1 A1:2", "code 7 to service 100 node 0x0 (service 100 got it", calls="none none none")
-@case("C4:1 A1:2", "IOne code 7 to service 100 node 0x0 (service 100 got it", calls="one none one")
-@case("C4:1 A1:2", "IOne code 7 to service 100 node 0x0 (service 100 got it", calls="one two none")
+@case("C4:1 A1:2", "code 7 to service 100 node 0x0 (open for ≥ 201 ms; service 100 got it", calls="none none none")
+@case("C4:1 A1:2", "IOne code 7 to service 100 node 0x0 (open for ≥ 201 ms; service 100 got it", calls="one none one")
+@case("C4:1 A1:2", "IOne code 7 to service 100 node 0x0 (open for ≥ 201 ms; service 100 got it", calls="one two none")
 @case("C4:1 A1:2", "IOne or others code 7 to service 100 node 0x0 (", calls="one none two")
 @case("C4:1 A1:2", "ITwo or others code 7 to service 100 node 0x0 (", calls="one none two two")
 @case("C4:1 A1:2", "IBase.ping (code HIDL_PNG) to service 100 node 0x0 (", calls="base none base", code=PING)
@@ -169,7 +169,7 @@ def goes_by(s, names):
         client.main.is_given(manager.main, 1, 2, not at, server_handle=3, body=marked(MANAGER) + string16(name))
 
 
-@case("C4:1 A1:2", "IOne code 7 to server 300 node 0x9000 hello (server 300 got it",
+@case("C4:1 A1:2", "IOne code 7 to server 300 node 0x9000 hello (open for ≥ 201 ms; server 300 got it",
       "IOne code 7 at server 300 node 0x9000 hello (")
 def hangs_in_service(s):
     """A call to a service that hangs."""
