@@ -207,7 +207,8 @@ def answered_wrongly(room: pathlib.Path) -> Iterator[str]:
     stored = (SOURCES / "table.txt").read_text("utf-8")
     outside = "".join(line for line in stored.splitlines(True) if "cpp/outside.cpp" in line)
     for folder, texts in {
-            "disagree": {"a.aidl": IN + "void a(); }", "b.aidl": IN + "\nvoid b(); }"},
+            "disagree": {"a.aidl": IN + "void a(); }", "b.aidl": IN + "\nvoid b(); }",
+                         "c.aidl": "package q; interface J { void c(); }"},
             "ends": {"a.aidl": IN + "// a\r void wrong();\rvoid wrong();\nvoid b(); }"},
             "parents": {"I.hal": "package p@1.0; interface I { wrong(); };",
                         "K.hal": "package q@1.0; interface I { a(); };",
@@ -227,7 +228,9 @@ def answered_wrongly(room: pathlib.Path) -> Iterator[str]:
         (SOURCES, ("aidl", "cpp", "hal"),
          (0, stored, "".join(f"cpp/forms.cpp:{what}: left out\n" for what in LEFT_OUT))),
         (SOURCES, ("cpp/forms.h", "cpp/outside.cpp"), (0, outside, "")),
-        (room, ("disagree",), (1, "", "disagree/b.aidl:4: code 1 of p.I is b here, and a at disagree/a.aidl:3\n")),
+        (room, ("disagree",), (0, "q.J\t1\tc\tdisagree/c.aidl:1\n" + added.replace("p.I", "q.J"),
+                               "disagree/b.aidl:4: p.I: left out, as its code 1 is b here, and a at"
+                               " disagree/a.aidl:3\n")),
         (room, ("agree",), (0, "p.I\t1\ta\tagree/a.aidl:3\np.I\t2\tb\tagree/b.aidl:4\n" + added,
                             "agree/d.aidl: left out, as it is no file\n"
                             "agree/c.aidl:1: q.J has no body here: left out\n")),

@@ -9,12 +9,12 @@ but of C++ only what declares an interface. It writes to standard output a line 
 interfaces and codes, with four fields separated by tabs: interface (as calls name it), code, method, and source (file
 and line, or `-` if it is in no source).
 
-docs/VIEW.md explains the codes. What is left out is told on standard error. --version writes of which commit the
-programs are.
+docs/VIEW.md explains the codes. What is left out is told on standard error, for example an interface of which two
+sources give one code to two methods. --version writes of which commit the programs are.
 
-Status 0: the table is written. 1: a source is wrong, and the line on standard error names its file and line; or two
-sources give one code of an interface to two methods; or no source is there. Then nothing is written to standard output.
-4: a file can't be read, or the table can't be written. 64: the command line is not valid.
+Status 0: the table is written. 1: a source is wrong, and the line on standard error names its file and line; or no
+source is there. Then nothing is written to standard output. 4: a file can't be read, or the table can't be written. 64:
+the command line is not valid.
 """
 
 import os
@@ -114,20 +114,18 @@ def interfaces_of(files: Iterable[str]) -> Iterator[Interface]:
 
 def table_of(interfaces: Iterable[Interface]) -> dict[tuple[str, int], Method]:
     """The methods by interface and code. An interface may come several times, as in the stored versions of a source,
-    as long as each code means one method."""
+    as long as each code means one method: else it is left out, as tests of a system may use one name for several."""
     table: dict[tuple[str, int], Method] = {}
+    unclear: dict[str, str] = {}
     for interface in interfaces:
         for method in interface.methods:
             before = table.setdefault((interface.name, method.code), method)
             if before.name != method.name:
-                raise Wrong(*place_of(method.source), f"code {method.code} of {interface.name} is {method.name} here,"
-                            f" and {before.name} at {before.source}")
-    return table
-
-
-def place_of(source: str) -> tuple[str, int]:
-    file, _, line = source.rpartition(":")
-    return file, int(line)
+                unclear.setdefault(interface.name, f"{method.source}: {interface.name}: left out, as its code"
+                                   f" {method.code} is {method.name} here, and {before.name} at {before.source}")
+    for what in unclear.values():
+        tell(what)
+    return {key: method for key, method in table.items() if key[0] not in unclear}
 
 
 def main() -> int:
