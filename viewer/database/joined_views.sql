@@ -4,7 +4,7 @@
 -- needs: schema.sql: book_handle, capture, method, object_interface, object_service, raw_call, raw_capture,
 --   raw_delivery, raw_generation, raw_interface, raw_object, raw_process, raw_record, raw_send, raw_service,
 --   raw_thread, side_process, side_thread, side_time; numbers.sql: kind, verdict; views.sql: sent_to; rules/nodes.sql:
---   node_of; rules/groups.sql: traffic; rules/defects.sql: call_text
+--   node_of, who; rules/groups.sql: traffic; rules/defects.sql: call_text
 -- makes: views: txn, holder, death_request, fd_sent, looper, sender
 
 -- The outcome of a call is how its thread saw it end; that of a oneway transaction is what became of it at the driver.
@@ -16,15 +16,19 @@ SELECT
   (r.flags & :TF_ONE_WAY) <> 0 AS oneway,
   t.upid AS client_upid,
   s.utid AS client_utid,
+  wc.who AS client,
   coalesce(u.tid, t.thread) = coalesce(q.pid, p.process) AS main_thread,
   r.handle,
   s.generation,
   coalesce(g.upid, n.upid) AS server_upid,
   d.utid AS server_utid,
+  ws.who AS server,
   coalesce(e.ptr, n.ptr) AS ptr,
   coalesce(i.name, k.interface) AS interface,
   r.code,
   coalesce(m.method, k.method) AS method,
+  coalesce(coalesce(i.name, k.interface) || coalesce('.' || coalesce(m.method, k.method), ' code ' || r.code),
+    'code ' || r.code) AS call,
   r.data_size,
   r.offsets_size,
   a.data_size AS reply_size,
@@ -42,6 +46,7 @@ FROM raw_send s JOIN raw_record r USING (place) JOIN raw_thread t USING (utid) J
   LEFT JOIN raw_call c USING (place) LEFT JOIN verdict v ON v.number = c.verdict
   LEFT JOIN raw_delivery d ON d.place = s.delivery LEFT JOIN raw_record e ON e.place = d.place
   LEFT JOIN raw_thread g ON g.utid = d.utid LEFT JOIN node_of n ON n.generation = s.generation
+  LEFT JOIN who wc ON wc.upid = t.upid LEFT JOIN who ws ON ws.upid = coalesce(g.upid, n.upid)
   LEFT JOIN call_text k ON (k.code, k.upid, k.ptr) = (r.code, coalesce(n.upid, -t.upid), coalesce(n.ptr, r.handle))
   LEFT JOIN raw_interface i ON i.id = r.interface LEFT JOIN method m ON (m.interface, m.code) = (i.name, r.code)
   LEFT JOIN raw_record x ON x.place = coalesce(s.refused, iif(c.verdict = 3, c.closer, NULL))
@@ -56,6 +61,7 @@ WHERE r.kind IN (:BC_TRANSACTION, :BC_TRANSACTION_SG);
 CREATE VIEW holder AS
 SELECT
   h.upid,
+  wh.who,
   h.handle,
   h.generation,
   h.strong,
@@ -65,6 +71,7 @@ SELECT
   h.held_since,
   x.ts AS since,
   coalesce(n.upid, h.node_upid) AS owner_upid,
+  wo.who AS owner,
   coalesce(n.ptr, h.ptr) AS ptr,
   i.name AS interface,
   v.name AS service
@@ -79,10 +86,11 @@ FROM (
     UNION ALL
     SELECT b.upid, b.handle, NULL, b.strong, b.weak, 0, NULL, NULL, b.node_upid, b.ptr
     FROM book_handle b
-    WHERE b.moment = 'begin' AND NOT EXISTS (SELECT 1 FROM raw_generation g WHERE (g.upid, g.handle) = (b.upid, b.handle)
-    )) h
+    WHERE b.moment = 'begin'
+      AND NOT EXISTS (SELECT 1 FROM raw_generation g WHERE (g.upid, g.handle) = (b.upid, b.handle))) h
   LEFT JOIN raw_record r ON r.place = h.held_since LEFT JOIN side_time x USING (seq)
   LEFT JOIN node_of n USING (generation)
+  LEFT JOIN who wh ON wh.upid = h.upid LEFT JOIN who wo ON wo.upid = coalesce(n.upid, h.node_upid)
   LEFT JOIN object_interface j ON (j.upid, j.ptr) = (coalesce(n.upid, h.node_upid), coalesce(n.ptr, h.ptr))
   LEFT JOIN raw_interface i ON i.id = j.interface
   LEFT JOIN object_service o ON (o.upid, o.ptr) = (coalesce(n.upid, h.node_upid), coalesce(n.ptr, h.ptr))
@@ -91,22 +99,25 @@ WHERE (h.strong > 0 OR h.weak > 0 OR h.buffers > 0) AND h.upid NOT IN (
   SELECT p.upid FROM raw_process p JOIN side_process s USING (device, process), raw_capture c
   WHERE s.ended_after < c.last_seq);
 
--- The next record of a process with the cookie of a request ends it: a clear, or the news of the death. A second request
--- does not.
+-- The next record of a process with the cookie of a request ends it: a clear, or the news of the death. A second
+-- request does not.
 CREATE VIEW death_request AS
 SELECT
   q.place,
   q.seq,
   x.ts,
   q.upid,
+  wq.who,
   q.handle,
   q.cookie,
   q.generation,
   n.upid AS owner_upid,
+  wo.who AS owner,
   n.ptr,
   i.name AS interface,
   v.name AS service,
-  CASE WHEN q.ended_by IS NULL THEN 'waiting' WHEN e.kind = :BR_DEAD_BINDER THEN 'notified' ELSE 'cleared' END AS outcome,
+  CASE WHEN q.ended_by IS NULL THEN 'waiting' WHEN e.kind = :BR_DEAD_BINDER THEN 'notified' ELSE 'cleared' END
+    AS outcome,
   q.ended_by,
   y.ts AS ended
 FROM (
@@ -122,13 +133,14 @@ FROM (
     WHERE r.kind = :BC_REQUEST_DEATH_NOTIFICATION) q
   LEFT JOIN raw_record e ON e.place = q.ended_by
   LEFT JOIN node_of n USING (generation)
+  LEFT JOIN who wq ON wq.upid = q.upid LEFT JOIN who wo ON wo.upid = n.upid
   LEFT JOIN object_interface j ON (j.upid, j.ptr) = (n.upid, n.ptr) LEFT JOIN raw_interface i ON i.id = j.interface
   LEFT JOIN object_service o ON (o.upid, o.ptr) = (n.upid, n.ptr)
   LEFT JOIN raw_service v ON v.id = o.service
   LEFT JOIN side_time x ON x.seq = q.seq LEFT JOIN side_time y ON y.seq = e.seq;
 
--- A row for each FD object, and for each FDA object, which has `count` descriptors. First those that came, then those of
--- sends without a delivery. The call is that by which they went, or that which the reply answers.
+-- A row for each FD object, and for each FDA object, which has `count` descriptors. First those that came, then those
+-- of sends without a delivery. The call is that by which they went, or that which the reply answers.
 CREATE VIEW fd_sent AS
 SELECT
   f.sent,
@@ -136,11 +148,14 @@ SELECT
   f.idx,
   x.ts,
   f.sender_upid,
+  ws.who AS sender,
   f.receiver_upid,
+  wr.who AS receiver,
   f.reply,
   k.interface,
   f.code,
   k.method,
+  coalesce(k.call, 'code ' || f.code) AS call,
   f.count,
   f.fd,
   f.received_fd
@@ -160,6 +175,7 @@ FROM (
     FROM raw_object o JOIN raw_send s USING (place) JOIN raw_record r USING (place)
       JOIN raw_thread t ON t.utid = s.utid LEFT JOIN sent_to q ON q.place = s.place
     WHERE o.sort IN (:FD, :FDA) AND s.delivery IS NULL) f
+  LEFT JOIN who ws ON ws.upid = f.sender_upid LEFT JOIN who wr ON wr.upid = f.receiver_upid
   LEFT JOIN call_text k ON (k.code, k.upid, k.ptr) = (f.code, f.upid, f.ptr)
   LEFT JOIN side_time x ON x.seq = f.seq;
 
@@ -171,6 +187,8 @@ CREATE VIEW looper AS
 SELECT
   l.utid,
   t.upid,
+  wt.who,
+  u.name AS thread,
   l.entered,
   l.spawned,
   l.serving,
@@ -182,13 +200,18 @@ SELECT
   r.ptr,
   r.code,
   coalesce(m.method, k.method) AS method,
+  coalesce(coalesce(i.name, k.interface) || coalesce('.' || coalesce(m.method, k.method), ' code ' || r.code),
+    'code ' || r.code) AS call,
   s.upid AS client_upid,
+  ws.who AS client,
   d.send,
   l.calling,
   q.upid AS called_upid,
+  wq.who AS called,
   y.interface AS called_interface,
   q.code AS called_code,
-  y.method AS called_method
+  y.method AS called_method,
+  coalesce(y.call, 'code ' || q.code) AS called_call
 FROM (
     SELECT utid, entered, spawned, serving, CASE WHEN calling > coalesce(serving, 0) THEN calling END AS calling
     FROM (
@@ -220,6 +243,7 @@ FROM (
   LEFT JOIN raw_delivery d ON d.place = l.serving
   LEFT JOIN raw_send w ON w.place = d.send LEFT JOIN raw_thread s ON s.utid = w.utid
   LEFT JOIN sent_to q ON q.place = l.calling LEFT JOIN call_text y ON (y.code, y.upid, y.ptr) = (q.code, q.upid, q.ptr)
+  LEFT JOIN who wt ON wt.upid = t.upid LEFT JOIN who ws ON ws.upid = s.upid LEFT JOIN who wq ON wq.upid = q.upid
   LEFT JOIN side_time x ON x.seq = r.seq
 WHERE u.ended_after IS NULL OR u.ended_after >= z.last_seq;
 
@@ -227,6 +251,7 @@ WHERE u.ended_after IS NULL OR u.ended_after >= z.last_seq;
 CREATE VIEW sender AS
 SELECT
   a.upid,
+  w.who,
   s.uid,
   a.calls,
   a.oneway,
@@ -235,9 +260,9 @@ SELECT
   (a.calls + a.oneway) / b.seconds AS sends_per_s,
   a.bytes / b.seconds AS bytes_per_s
 FROM (
-    SELECT upid, sum(CASE WHEN oneway THEN 0 ELSE sends END) AS calls, sum(CASE WHEN oneway THEN sends ELSE 0 END) AS oneway,
-      sum(failed) AS failed, sum(bytes) AS bytes
+    SELECT upid, sum(CASE WHEN oneway THEN 0 ELSE sends END) AS calls,
+      sum(CASE WHEN oneway THEN sends ELSE 0 END) AS oneway, sum(failed) AS failed, sum(bytes) AS bytes
     FROM traffic GROUP BY upid) a
-  JOIN raw_process p USING (upid) LEFT JOIN side_process s USING (device, process),
+  JOIN raw_process p USING (upid) LEFT JOIN side_process s USING (device, process) LEFT JOIN who w USING (upid),
   (SELECT nullif((SELECT value FROM capture WHERE key = 'until_ts')
     - (SELECT value FROM capture WHERE key = 'first_ts'), 0) / 1e9 AS seconds) b;
