@@ -7,10 +7,11 @@ counted, on made-up waits; and that wrong rules are told from the right ones.
     checks/run rules -- CASE..          plays these alone: `heads`, `page`, `waits`, or sessions, as `never_answered` in
                                         all its forms, or "never_answered wait=200"
     checks/run rules -- --show CASE..   also prints the findings of these sessions
-    checks/run rules -- --wrong [WORD..]
+    checks/run rules -- --wrong [WORD..] [--kept FOLDER]
                                         plays all wrong forms of the rules, or those of these subjects, as `W2`: each
                                         must change what a session or a scenario of samples/driver gets, or
-                                        wrong_rules/untold.txt must say why it changes nothing
+                                        wrong_rules/untold.txt must say why it changes nothing. What it finds is kept in
+                                        FOLDER: if it is ended, the same command goes on from there
 
 Wrong forms are made of the statements of the rules (wrong_rules/forms.py). Without a CASE those are played too that a
 change brings, by git: what is not committed, or else the last commit.
@@ -169,7 +170,7 @@ def play_sessions(room: pathlib.Path, fail: Fail) -> None:
     """Plays all sessions, and the wrong forms that a change brings."""
     base, cases = all_sessions(room)
     forms, said = forms_of_change(list(Judged(base).statements), THRESHOLDS)
-    which = tried(forms)
+    which = tried(forms, cases)
     for fault in play_all(base, cases, which):
         fail(fault)
     if said:
@@ -193,19 +194,23 @@ def is_about(form: Wrong, words: list[str]) -> bool:
     return not words or any(form.subject == word or form.subject.startswith(f"{word} (") for word in words)
 
 
-def play_wrong(words: list[str], room: pathlib.Path, fail: Fail) -> None:
+def play_wrong(given: argparse.Namespace, room: pathlib.Path, fail: Fail) -> None:
     """Plays all wrong forms, or those of some subjects: on the sessions, and what no session tells on the scenarios."""
     base, cases = all_sessions(room)
-    forms = [form for form in all_forms(list(Judged(base).statements), THRESHOLDS) if is_about(form, words)]
+    forms = [form for form in all_forms(list(Judged(base).statements), THRESHOLDS) if is_about(form, given.wrong)]
     if not forms:
-        fail(f"no rule, and no table of the rules, {' '.join(words)}")
-    by_sessions = tried(forms)
+        fail(f"no rule, and no table of the rules, {' '.join(given.wrong)}")
+    if given.kept:
+        given.kept.mkdir(parents=True, exist_ok=True)
+    by_sessions = tried(forms, cases, given.kept and given.kept / "sessions")
     for fault in play_all(base, cases, by_sessions):
         fail(fault)
-    by_scenarios, of_driver = tried([forms[number] for number in by_sessions.untold()]), scenarios(room)
+    of_driver = scenarios(room)
+    by_scenarios = tried([forms[number] for number in by_sessions.untold()], of_driver,
+                         given.kept and given.kept / "scenarios")
     for fault in play_all(base, of_driver, by_scenarios):
         fail(fault)
-    for line in said_of(forms, by_sessions, by_scenarios, of_driver, whole=not words):
+    for line in said_of(forms, by_sessions, by_scenarios, of_driver, whole=not given.wrong):
         fail(line)
 
 
@@ -213,7 +218,7 @@ def judge(given: argparse.Namespace, room: pathlib.Path, fail: Fail) -> None:
     build_programs(ROOT)
     raw_tables.loader()
     if given.wrong is not None:
-        play_wrong(given.wrong, room, fail)
+        play_wrong(given, room, fail)
         return
     for name, faults in BESIDE.items():
         if name in given.cases:
@@ -226,4 +231,5 @@ def judge(given: argparse.Namespace, room: pathlib.Path, fail: Fail) -> None:
 
 
 if __name__ == "__main__":
-    check(judge, lambda: [*BESIDE, *(one.name for one in CASES)], show=FLAG, wrong={"nargs": "*"})
+    check(judge, lambda: [*BESIDE, *(one.name for one in CASES)], show=FLAG, wrong={"nargs": "*"},
+          kept={"type": pathlib.Path, "metavar": "FOLDER"})

@@ -99,18 +99,18 @@ def by_statement(forms: Sequence[Wrong]) -> dict[str, Forms]:
 
 
 class Told:
-    """What came of each form, which copies of the process write too: nothing yet, that it is no statement, or the
-    number of the case that tells it."""
-    FORM = struct.Struct("i")
+    """Numbers that copies of the process write too, from some place of what they share. Of a form: nothing yet, that it
+    is no statement, or the number of the case that tells it. Of a case: whether it was played."""
+    CELL = struct.Struct("i")
 
-    def __init__(self, forms: int) -> None:
-        self.cells = mmap.mmap(-1, max(1, forms * self.FORM.size))
+    def __init__(self, shared: mmap.mmap, start: int = 0) -> None:
+        self.shared, self.start = shared, start
 
-    def __getitem__(self, form: int) -> int:
-        return self.FORM.unpack_from(self.cells, form * self.FORM.size)[0]
+    def __getitem__(self, number: int) -> int:
+        return self.CELL.unpack_from(self.shared, self.start + number * self.CELL.size)[0]
 
-    def __setitem__(self, form: int, what: int) -> None:
-        self.FORM.pack_into(self.cells, form * self.FORM.size, what)
+    def __setitem__(self, number: int, what: int) -> None:
+        self.CELL.pack_into(self.shared, self.start + number * self.CELL.size, what)
 
 
 NOT_TOLD, NO_STATEMENT = 0, -1

@@ -1,7 +1,10 @@
 """Wrong forms of the rules on many cases, side by side, and what is to be said of those that nothing tells."""
 
 import functools
+import hashlib
+import mmap
 import os
+import pathlib
 import subprocess
 from concurrent.futures import ProcessPoolExecutor
 from typing import Callable, Iterator, Mapping, NamedTuple, Sequence
@@ -22,9 +25,10 @@ class Cases(NamedTuple):
 
 
 class Tried(NamedTuple):
-    """Wrong forms, and what came of each."""
+    """Wrong forms, what came of each, and which cases were played."""
     forms: Sequence[Wrong]
     told: Told
+    played: Told
 
     def untold(self) -> list[int]:
         return [number for number in range(len(self.forms)) if self.told[number] == NOT_TOLD]
@@ -33,8 +37,26 @@ class Tried(NamedTuple):
         return sum(self.told[number] != NO_STATEMENT for number in range(len(self.forms)))
 
 
-def tried(forms: Sequence[Wrong]) -> Tried:
-    return Tried(forms, Told(len(forms)))
+def tried(forms: Sequence[Wrong], cases: Cases, file: pathlib.Path | None = None) -> Tried:
+    """Forms of which nothing was found yet; or with a file, what an earlier run wrote there of the same forms and
+    cases."""
+    about = digest_of(forms, cases)
+    empty = about + bytes((len(forms) + len(cases.names)) * Told.CELL.size)
+    if file is None:
+        shared = mmap.mmap(-1, len(empty))
+    else:
+        if not file.exists() or not file.read_bytes().startswith(about):
+            file.write_bytes(empty)
+        with file.open("r+b") as opened:
+            shared = mmap.mmap(opened.fileno(), 0)
+    return Tried(forms, Told(shared, len(about)), Told(shared, len(about) + len(forms) * Told.CELL.size))
+
+
+def digest_of(forms: Sequence[Wrong], cases: Cases) -> bytes:
+    digest = hashlib.blake2s()
+    for part in (*(form.name for form in forms), *(form.wrong for form in forms), *cases.names, *cases.rows):
+        digest.update(part if isinstance(part, bytes) else part.encode())
+    return digest.digest()
 
 
 class Work(NamedTuple):
@@ -58,15 +80,18 @@ def play_at(number: int) -> list[str]:
     """Plays a case, and returns what is wrong with it by the right rules."""
     work, database = AT_WORK[-1], at_work()
     database.play(number + 1, work.cases.rows[number], lambda judged: bool(work.cases.faults(number, judged)))
-    return work.cases.faults(number, database)
+    faults = work.cases.faults(number, database)
+    work.which.played[number] = not faults
+    return faults
 
 
 def play_all(base: bytes, cases: Cases, which: Tried) -> Iterator[str]:
-    """Plays forms on all cases. Returns what is wrong with these by the right rules."""
+    """Plays forms on all cases that were not played yet. Returns what is wrong with these by the right rules."""
     AT_WORK.append(Work(base, cases, which, by_statement(which.forms)))
+    left = [number for number in range(len(cases.rows)) if not which.played[number]]
     with ProcessPoolExecutor(os.cpu_count()) as pool:
-        for name, faults in zip(cases.names, pool.map(play_at, range(len(cases.rows)), chunksize=4)):
-            yield from (f"{name}: {fault}" for fault in faults)
+        for number, faults in zip(left, pool.map(play_at, left, chunksize=4)):
+            yield from (f"{cases.names[number]}: {fault}" for fault in faults)
 
 
 # ---- of a change
