@@ -73,6 +73,9 @@ class Watched:
             answer = self.database.execute(statement, *values)
         except sqlite3.OperationalError as error:
             raise SystemExit(f"checks/rules: {path}: {error}; or does it run too early, by JUDGING?") from error
+        except sqlite3.ProgrammingError as error:  # a parameter without a value
+            raise SystemExit(f"checks/rules: {path}: {error} Parameters are thresholds, and numbers of numbers.sql"
+                             ) from error
         if path is not None:
             self.take(path)
             if path.parent == QUERIES:
