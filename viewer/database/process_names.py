@@ -1,7 +1,13 @@
-"""What processes are called: the system's name has at most 15 bytes, and a command line may have more."""
+"""What processes are called: the system's name has at most 15 bytes, and a command line may have more. And which ones
+Android's zygote forked, by what they are called."""
+
+import re
 
 # What an app of Android is called until it has got its own name.
 NOT_YET = "<pre-initialized>"
+
+# What the zygote is called, and what it forks before that has its own name; and system_server, which it forks, too.
+OF_ZYGOTE = {"zygote", "zygote64", "webview_zygote", "app_zygote", "usap32", "usap64", NOT_YET, "system_server"}
 
 # The most bytes of a name that the system keeps.
 SHORT = 15
@@ -26,3 +32,14 @@ def long_name(name: str | None, command: str | None) -> str | None:
     is_cut = len(name.encode()) >= SHORT and (word.startswith(name) or word.endswith(name))
     is_path = (command or "").startswith(("/", "./", "../"))
     return word if is_cut or not is_path else name
+
+
+def is_not_yet_named(command: str) -> bool:
+    """Whether a process with this command line is the zygote, or has come of it just now; or is system_server."""
+    return first_word(command) in OF_ZYGOTE
+
+
+def is_app(name: str | None, command: str) -> bool:
+    """Whether a process is an app that has its name: the zygote writes that over the whole command line, and gives the
+    system the last bytes of it."""
+    return bool(name) and "." in command and not re.search("[\\0 /]", command) and command[-SHORT:] == name

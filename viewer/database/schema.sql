@@ -279,7 +279,9 @@ CREATE TABLE raw_level(upid INTEGER NOT NULL, slice INTEGER NOT NULL, buffers IN
 
 CREATE TABLE side_device(device INTEGER PRIMARY KEY, name TEXT NOT NULL, driver TEXT) STRICT;
 CREATE TABLE side_process(device INTEGER, process INTEGER, pid INTEGER, opening INTEGER, met TEXT, name TEXT,
-  opened INTEGER, ended_after INTEGER, ended INTEGER, command TEXT, uid INTEGER, PRIMARY KEY(device, process)) STRICT;
+  opened INTEGER, ended_after INTEGER, ended INTEGER, command TEXT, uid INTEGER,
+  of_zygote INTEGER NOT NULL DEFAULT 0, -- 1 if it collects garbage: a process that Android's zygote forked
+  PRIMARY KEY(device, process)) STRICT;
 CREATE TABLE side_thread(device INTEGER, process INTEGER, thread INTEGER, tid INTEGER, name TEXT, ended_after INTEGER,
   ended INTEGER, why TEXT, from_seq INTEGER, bits INTEGER, PRIMARY KEY(device, process, thread)) STRICT;
 -- A line `name` or `end pid` names a thread or a process by the system's number.

@@ -8,7 +8,7 @@ from typing import Iterable, NamedTuple
 
 from viewer.database import side_belongs
 from viewer.database.last_names import LastNames
-from viewer.database.process_names import long_name
+from viewer.database.process_names import is_app, is_not_yet_named, long_name
 from viewer.files import Stopped, for_owner
 from viewer.units import signed
 
@@ -184,8 +184,9 @@ class SideList:
         told = self.database.execute(
             "SELECT rowid, name, command FROM side_process WHERE command NOTNULL").fetchall()
         self.database.executemany(
-            "UPDATE side_process SET name = ?, command = ? WHERE rowid = ?",
-            [(long_name(name, command), command.replace("\0", " "), row) for row, name, command in told])
+            "UPDATE side_process SET name = ?, command = ?, of_zygote = max(of_zygote, ?) WHERE rowid = ?",
+            [(long_name(name, command), command.replace("\0", " "), is_app(name, command), row)
+             for row, name, command in told])
 
     def judge(self) -> None:
         """Refuses a list that certainly belongs to another capture, and keeps the doubt if it may belong to another."""
@@ -264,9 +265,11 @@ class SideList:
         self.openings_of.setdefault(pid, []).append((device, process))
 
     def take_command(self, _: int, positional: list[str], keyed: dict[str, str]) -> None:
-        """The last command line counts."""
-        self.database.execute("UPDATE side_process SET command = ?, uid = ? WHERE (device, process) = (?, ?)",
-                              (keyed["name"], number(keyed["uid"]), *numbers(positional, 2)))
+        """The last command line counts. An earlier one may show that the zygote forked the process."""
+        self.database.execute("UPDATE side_process SET command = ?, uid = ?, of_zygote = max(of_zygote, ?)"
+                              " WHERE (device, process) = (?, ?)",
+                              (keyed["name"], number(keyed["uid"]), is_not_yet_named(keyed["name"]),
+                               *numbers(positional, 2)))
 
     def take_met(self, _: int, __: list[str], keyed: dict[str, str]) -> None:
         """A process that was there before the recording, by its pid: it may have no line of its own."""

@@ -45,7 +45,7 @@ CREATE TEMP TABLE forgotten AS
 SELECT y.way
 FROM of_way y JOIN let_go_of_other o ON o.way = y.way AND o.came > y.came JOIN finding f USING (generation)
   JOIN raw_generation g ON g.id = y.generation
-WHERE f.rule IN ('H5', 'H10') AND y.way IN (SELECT way FROM nearly_all) AND y.way IN (SELECT way FROM growing)
+WHERE f.rule IN ('H5', 'H10', 'H14') AND y.way IN (SELECT way FROM nearly_all) AND y.way IN (SELECT way FROM growing)
   AND g.strong > 0
 GROUP BY 1
 HAVING count(*) >= :TOO_MANY;
@@ -54,7 +54,7 @@ UPDATE finding SET
   said = 'held by {who}',
   other_upid = upid
 FROM kept_handle k
-WHERE rule IN ('H5', 'H10') AND k.generation = finding.generation AND k.way IN (SELECT way FROM forgotten);
+WHERE rule IN ('H5', 'H10', 'H14') AND k.generation = finding.generation AND k.way IN (SELECT way FROM forgotten);
 -- Whether the process or the giver forgets them, the number of those from others says.
 UPDATE finding SET note = coalesce(note || '; ', '') || o.told
 FROM kept_handle k JOIN (
@@ -69,4 +69,4 @@ FROM kept_handle k JOIN (
     FROM from_other f JOIN who x ON x.upid = f.sender ORDER BY 1, nth)
   WHERE nth <= :NAMED
   GROUP BY 1) o USING (way)
-WHERE rule IN ('H5', 'H8', 'H9', 'H10', 'H13') AND k.generation = finding.generation;
+WHERE rule IN ('H5', 'H8', 'H9', 'H10', 'H13', 'H14') AND k.generation = finding.generation;

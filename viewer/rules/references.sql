@@ -1,11 +1,11 @@
--- H3 to H12, T, U: references to handles and nodes that are held, and those that are balanced.
+-- H3 to H12, H14, T, U: references to handles and nodes that are held, and those that are balanced.
 -- needs: database/schema.sql: finding, raw_generation, raw_record, raw_thread, side_time; nodes.sql: manager, node_of,
 --   who; records.sql: dead_record, told_death; paths.sql: given, given_way, thing_path; ages.sql: ended, last, leaving,
---   process_life; handles.sql: handle_row; rule.sql: lossy; waits.sql: waits; ways.sql: earlier, kept_handle, kept_way,
---   let_go, of_way, recorded
+--   process_life; handles.sql: handle_row; rule.sql: lossy; waits.sql: waits; ways.sql: collector, earlier,
+--   kept_handle, kept_way, let_go, of_way, outlived, recorded
 -- makes: temporary tables: mourned, dead_way, outlives, let_go_later, taken_again, reference_change, most_held,
---   more_references, nearly_all, growing, cache, overdue, kept_elsewhere, weakly_kept; indexes: taken_again_of,
---   most_held_of, more_references_of, cache_of
+--   more_references, nearly_all, growing, by_design, overdue, unused, outliving, not_collected, kept_elsewhere,
+--   weakly_kept; indexes: taken_again_of, most_held_of, more_references_of, by_design_of
 
 -- ---- what findings are called
 
@@ -27,7 +27,7 @@
 --   fault: references taken more than once
 -- H5 maybe: Nearly all handles that came this way from one process are kept.
 --   next: what the process does with what it gets this way: nothing lets go of it
---   rests on: MANY, NEARLY_ALL, MOST
+--   rests on: MANY, NEARLY_ALL, MOST, SETTLED
 --   met by: `hello-sessions`: a client keeps six sessions
 --   fault: references kept
 -- H6 normal: Still held, and nothing says that this is too long.
@@ -48,7 +48,7 @@
 --   where frames are missing: M1
 -- H10 real: {TOO_MANY} or more that came this way are kept and not used, and they become more up to the end.
 --   next: what the process does with what it gets this way: nothing lets go of it
---   rests on: TOO_MANY, MANY, NEARLY_ALL, GROWTH, LATELY
+--   rests on: TOO_MANY, MANY, NEARLY_ALL, GROWTH, LATELY, MOST
 --   met by: `more_and_more()`: a client keeps three more in each quarter
 --   fault: references kept
 --   where frames are missing: M2
@@ -63,6 +63,12 @@
 --   rests on: VERY_LONG, OFTEN, OLD
 --   met by: `listeners_of_the_dead()`: a service keeps an object of each of three processes that ended
 --   fault: references to ended processes
+--   where frames are missing: M2
+-- H14 real: {TOO_MANY} or more that came this way are kept and not used, and {MANY} that came later were let go of.
+--   next: what is different for those that are kept: what refers to each of them still
+--   rests on: TOO_MANY, MANY, LATELY
+--   met by: `beside_a_collector()`: an app keeps one of four
+--   fault: references kept
 --   where frames are missing: M2
 
 -- ---- what they say of which finding
@@ -93,8 +99,9 @@ CREATE TEMP TABLE outlives AS
 SELECT f.id, f.upid, g.way, n.upid AS owner, l.last_ts - p.ended AS since
 FROM finding f JOIN given g USING (generation) JOIN node_of n USING (generation) JOIN process_life p ON p.upid = n.upid
   JOIN recorded l ON l.upid = f.upid JOIN raw_generation h ON h.id = f.generation
+  LEFT JOIN collector c ON c.upid = f.upid
 WHERE f.section = 'handles' AND f.what = 'held' AND f.rule IS NULL AND n.certain AND l.last_ts - p.ended > :VERY_LONG
-  AND g.asked IS NOT 0 AND f.upid NOT IN (SELECT upid FROM manager)
+  AND g.asked IS NOT 0 AND f.upid NOT IN (SELECT upid FROM manager) AND (c.upid IS NULL OR c.collected > p.ended_after)
   AND NOT EXISTS (SELECT 1 FROM dead_record d WHERE (d.upid, d.handle) = (f.upid, f.handle)
     AND d.kind = :BC_REQUEST_DEATH_NOTIFICATION AND d.place > h.begin);
 -- The longest that one of their ways was held after the end of its owner, of those that were let go of after that.
@@ -181,15 +188,24 @@ FROM (SELECT o.way, coalesce(b.kept, 0) AS early,
 WHERE kept - half >= max(:MANY, :GROWTH * kept) AND half < later AND later < kept;
 -- But what is in use and does not grow is a cache, also one that goes on changing what it has: so the ways of it, with
 -- how many have no rule yet, and how many of these are in use.
-CREATE TEMP TABLE cache AS
-SELECT k.way, count(*) AS n, sum(k.in_use) AS used FROM kept_handle k JOIN finding f USING (generation)
+CREATE TEMP TABLE by_design AS
+SELECT k.way, sum(k.in_use) || ' of ' || count(*) || ' that are kept are in use, and their number does not grow' AS told
+FROM kept_handle k JOIN finding f USING (generation)
 WHERE f.rule IS NULL AND f.section = 'handles' AND k.way IN (SELECT way FROM nearly_all)
   AND k.way NOT IN (SELECT way FROM growing)
 GROUP BY 1 HAVING avg(k.in_use) > :MOST;
-CREATE UNIQUE INDEX temp.cache_of ON cache(way);
+-- And what a process takes as it starts, from one that starts too, it mostly keeps by design. Only if the process was
+-- recorded for long is that quarter of its time its start.
+INSERT INTO by_design
+SELECT o.way, 'all came when its process started, and none since'
+FROM of_way o JOIN kept_way w ON w.id = o.way JOIN recorded l USING (upid) JOIN process_life h ON h.upid = w.upid
+  JOIN process_life g ON g.upid = w.sender
+WHERE h.known AND g.known AND o.way NOT IN (SELECT way FROM by_design) AND o.way NOT IN (SELECT way FROM growing)
+GROUP BY 1 HAVING min(o.came_left) >= 1 - :LATELY / 2 AND l.end_ts - max(o.came_ts) > :SETTLED;
+CREATE UNIQUE INDEX temp.by_design_of ON by_design(way);
 UPDATE finding SET rule = 'H5' FROM kept_handle k
 WHERE rule IS NULL AND section = 'handles' AND what = 'held' AND k.generation = finding.generation
-  AND k.way IN (SELECT way FROM nearly_all) AND k.way NOT IN (SELECT way FROM cache);
+  AND k.way IN (SELECT way FROM nearly_all) AND k.way NOT IN (SELECT way FROM by_design);
 -- H8. If others of the way were let go of, the longest of them says how long one is needed.
 CREATE TEMP TABLE overdue AS
 SELECT f.id, k.way, count(*) OVER (PARTITION BY k.way) AS of, l.n, l.longest, l.longest_seq
@@ -207,11 +223,41 @@ FROM overdue o WHERE o.id = finding.id AND o.of >= :OFTEN;
 UPDATE finding SET rule = 'H9' FROM kept_handle k
 WHERE rule IS NULL AND section = 'handles' AND what = 'held' AND k.generation = finding.generation
   AND k.way IN (SELECT way FROM growing);
--- H10. Many that are not used, and become more: no cache, and no design.
+-- H10. Many that are not used, and become more: no cache, and no design. What may be garbage does not count, and what
+-- is mostly used is a cache that fills.
+CREATE TEMP TABLE unused AS
+SELECT
+  k.way,
+  count(*) AS n,
+  sum(c.upid IS NULL OR coalesce(o.came < c.collected, 0)) AS sure
+FROM kept_handle k JOIN finding f USING (generation) JOIN growing USING (way) JOIN of_way o USING (generation)
+  LEFT JOIN collector c ON c.upid = f.upid
+WHERE f.rule IN ('H5', 'H8') AND NOT k.in_use
+GROUP BY 1;
 UPDATE finding SET rule = 'H10' FROM kept_handle k
 WHERE rule IN ('H5', 'H8') AND k.generation = finding.generation AND NOT k.in_use
-  AND k.way IN (SELECT o.way FROM kept_handle o JOIN finding f USING (generation) JOIN growing USING (way)
-    WHERE f.rule IN ('H5', 'H8') AND NOT o.in_use GROUP BY 1 HAVING count(*) >= :TOO_MANY);
+  AND k.way IN (SELECT way FROM unused u
+    WHERE u.sure >= :TOO_MANY AND u.sure > (1 - :MOST) * (SELECT count(*) FROM kept_handle a WHERE a.way = u.way));
+-- H14. What outlived others of its way. Where garbage is collected, what is held at the half does not tell what grows,
+-- as there is garbage in it.
+CREATE TEMP TABLE outliving AS
+SELECT
+  f.id,
+  k.way,
+  count(*) OVER one AS n,
+  sum(o.came_left < :LATELY) OVER one AS lately
+FROM outlived u JOIN of_way o ON o.way = u.way AND o.came < u.came JOIN kept_handle k USING (generation)
+  JOIN finding f USING (generation)
+WHERE NOT k.in_use AND f.section = 'handles'
+  AND (f.rule IN ('H5', 'H8', 'H9') OR f.rule IS NULL AND f.upid IN (SELECT upid FROM collector))
+WINDOW one AS (PARTITION BY k.way);
+UPDATE finding SET rule = 'H14' FROM outliving o WHERE o.id = finding.id AND o.n >= :TOO_MANY AND o.lately >= :MANY;
+-- What is no leak yet, as it may be garbage.
+CREATE TEMP TABLE not_collected AS
+SELECT
+  way,
+  (n - sure) || ' of ' || n || ' that are not used may be garbage: they came after the last collection' AS told
+FROM unused WHERE n > sure AND n >= :TOO_MANY AND sure < :TOO_MANY;
 -- What others keep that get replies to the same code says more.
 CREATE TEMP TABLE kept_elsewhere AS
 SELECT w.id AS way, (SELECT group_concat(who || ' keeps ' || kept || ' of ' || n, ', ')
@@ -224,14 +270,15 @@ UPDATE finding SET
   relation = 'given',
   way = g.way,
   giver = iif(g.reply, NULL, g.sender),
-  note = nullif(ltrim(coalesce(note, '') || coalesce('; ' || w.told, '') || coalesce('; ' || e.told, ''), '; '), '')
+  note = nullif(ltrim(coalesce(note, '') || coalesce('; ' || w.told, '') || coalesce('; ' || e.told, '')
+    || coalesce('; ' || c.told, ''), '; '), '')
 FROM kept_handle k JOIN given g USING (generation) LEFT JOIN growing w ON w.way = k.way
-  LEFT JOIN kept_elsewhere e ON g.reply AND e.way = k.way
-WHERE rule IN ('H5', 'H8', 'H9', 'H10') AND k.generation = finding.generation;
+  LEFT JOIN kept_elsewhere e ON g.reply AND e.way = k.way LEFT JOIN not_collected c ON c.way = k.way
+WHERE rule IN ('H5', 'H8', 'H9', 'H10', 'H14') AND k.generation = finding.generation;
 -- A death recipient of libbinder keeps its object weakly, until it is unlinked.
 CREATE TEMP TABLE weakly_kept AS
 SELECT f.id FROM finding f JOIN raw_generation g ON g.id = f.generation
-WHERE f.rule IN ('H4', 'H5', 'H8', 'H9', 'H10', 'H11') AND g.strong = 0 AND g.weak > 0
+WHERE f.rule IN ('H4', 'H5', 'H8', 'H9', 'H10', 'H11', 'H14') AND g.strong = 0 AND g.weak > 0
   AND EXISTS (SELECT 1 FROM finding q WHERE q.section = 'requests' AND q.generation = g.id);
 UPDATE finding SET note = coalesce(note || '; ', '') || 'held weakly, with a request for its death'
 WHERE id IN (SELECT id FROM weakly_kept);
@@ -245,9 +292,9 @@ WHERE rule IS NULL AND section = 'nodes' AND h.id = finding.id AND h.more;
 UPDATE finding SET rule = 'H7' FROM handle_row h
 WHERE rule IS NULL AND h.id = finding.id AND h.what = 'balanced' AND NOT h.more;
 UPDATE finding SET rule = 'H6', relation = 'given', way = g.way,
-  note = (SELECT path FROM thing_path t WHERE t.id = finding.id) || coalesce((SELECT '; ' || c.used || ' of ' || c.n
-    || ' that are kept are in use, and their number does not grow' FROM kept_handle k JOIN cache c USING (way)
-  WHERE k.generation = finding.generation), '')
+  note = (SELECT path FROM thing_path t WHERE t.id = finding.id)
+    || coalesce('; ' || (SELECT d.told FROM kept_handle k JOIN by_design d USING (way)
+      WHERE k.generation = finding.generation), '')
 FROM given g
 WHERE rule IS NULL AND section = 'handles' AND what = 'held' AND g.generation = finding.generation AND g.way NOTNULL;
 UPDATE finding SET rule = 'H6' WHERE rule IS NULL AND section IN ('handles', 'nodes');

@@ -39,19 +39,24 @@ TABLE = {
     # rest of it is enough for a method to be named (Q1, Q2).
     "NEARLY_ALL": Threshold(0.8, "this share of a path, or of a time, is nearly all of it"),
     # So many handles that one process handed over may be a leak (H5, H9), and so many that were let go of tell how long
-    # one is needed (H8).
+    # one is needed (H8), or that the way is let go of still (H13, H14).
     "MANY": Threshold(4, "so many kept handles of one way may be a leak; so many released ones show how long a handle"
-                      " is needed"),
+                      " is needed, or that others are let go of"),
     # What was used in this last part of a time was used lately, and what grows does so in this last part (H5, H6, H8,
     # H9), by this share of what is held at its end.
     "LATELY": Threshold(0.5, "this last share of a time is lately"),
     "GROWTH": Threshold(0.1, "at least this share of what a growing process holds at the end came lately"),
     # So many are no design: sends of one thread to what has ended or is frozen (E11, E12), unused handles of one way
-    # (H10) and references to one object (H11) that become more to the end.
+    # (H10, H14) and references to one object (H11) that become more to the end, and handles that their giver forgets
+    # (H13).
     "TOO_MANY": Threshold(10, "so many are no design: sends to what has ended or is frozen, unused handles of a growing"
                           " way, references to one object"),
-    # If more than this share of what is kept of a way is in use, it is a cache (H5, H6).
+    # If more than this share of what is kept of a way is in use, it is a cache (H5, H6); and it is no leak if no more
+    # than the rest of it is not in use (H10).
     "MOST": Threshold(0.5, "the kept handles of a way are a cache if more than this share is in use"),
+    # What a process took in the first quarter of its time is kept by design if nothing came for so long since (H5, H6).
+    "SETTLED": Threshold(10_000_000_000, "what a process took when it started is kept by design if for so long nothing"
+                         " more came", is_time=True),
 
     # -- How far statements look.
     # `later` of a finding rises up to here, and so many calls, or frames, after it are looked at.

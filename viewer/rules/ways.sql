@@ -1,9 +1,10 @@
 -- The ways by which handles came of which a process keeps several: how long it held those that it let go of, and
 -- whether it uses those that it keeps.
--- needs: database/schema.sql: raw_generation, raw_process, raw_record, raw_send, side_time; nodes.sql: manager,
---   node_of; paths.sql: given, given_way; ages.sql: last, process_life
--- makes: temporary tables: kept_way, recorded, of_way, had_before, earlier, let_go, kept_handle; indexes: recorded_of,
---   of_way_generation, had_before_of, earlier_of, let_go_of, kept_handle_of
+-- needs: database/schema.sql: raw_generation, raw_process, raw_record, raw_send, side_process, side_time; nodes.sql:
+--   manager, node_of; paths.sql: given, given_way; ages.sql: last, process_life
+-- makes: temporary tables: kept_way, recorded, of_way, had_before, earlier, let_go, outlived, collector, kept_handle;
+--   indexes: recorded_of, of_way_generation, had_before_of, earlier_of, let_go_of, outlived_of, collector_of,
+--   kept_handle_of
 
 -- What the context manager gives, or gets, are services, which are meant to be kept.
 CREATE TEMP TABLE kept_way AS
@@ -81,6 +82,22 @@ CREATE TEMP TABLE let_go AS
 SELECT way, count(*) AS n, max(went - came) AS longest_seq, max(went_ts - came_ts) AS longest
 FROM of_way WHERE NOT kept GROUP BY 1;
 CREATE UNIQUE INDEX temp.let_go_of ON let_go(way);
+-- When the last :MANY of these began to come. What is kept and came before is no cache that lets go of its oldest, nor
+-- garbage that waits for its collection.
+CREATE TEMP TABLE outlived AS
+SELECT way, came
+FROM (SELECT way, came, row_number() OVER (PARTITION BY way ORDER BY came DESC) AS nth FROM of_way WHERE NOT kept)
+WHERE nth = :MANY;
+CREATE UNIQUE INDEX temp.outlived_of ON outlived(way);
+-- The processes that let go of handles only when they collect garbage, and when each did so last: what came since may
+-- be garbage. NULL if it has not let go of any.
+CREATE TEMP TABLE collector AS
+SELECT q.upid, max(e.seq) AS collected
+FROM side_process p JOIN raw_process q USING (device, process)
+  LEFT JOIN raw_generation g ON g.upid = q.upid AND g.acquired + g.increfs > 0 LEFT JOIN raw_record e ON e.place = g.end
+WHERE p.of_zygote
+GROUP BY 1;
+CREATE UNIQUE INDEX temp.collector_of ON collector(upid);
 -- Each that is kept. `idle` goes from the last send to it, or else from when it came, to the end of its process or of
 -- the capture. It is in use if something was sent to it in the last half of the time from when it came to the last
 -- frame of its process.

@@ -149,12 +149,19 @@ def death(s, done=False, clears=False, calls=0, lets_go=False, objects=1, lets_g
 @case("M2:3", lost=True)
 @case("", to_manager=True)
 @case("", at_once=True)
+@case("", collects=0)
+@case("H12:3", collects=1)
+@case("", collects=-1)
 def listeners_of_the_dead(s, dead=3, alive=0, wait=1100, of_one=False, rests=False, asks=False, reused=False, let_go=0,
-                          lost=False, to_manager=False, at_once=False):
+                          lost=False, to_manager=False, at_once=False, collects=None):
     """A server, or the manager, keeps an object of each of some clients, of which some end, or of one that ends. It
     asks for their deaths, or did so for what had these handles before. It goes on, or rests. `let_go`: it let go of one
-    100 ms after its process ended, or before. Or all came at once, and it is not known which is of whom."""
+    100 ms after its process ended, or before. Or all came at once, and it is not known which is of whom. `collects`: it
+    lets go of handles only by collecting garbage, and did so before they ended, or after that, or never."""
     manager, _, server = with_server(s)
+    if collects is not None:
+        server.is_called("system_server")
+        server.main.is_given(manager.main, 90)
     holder = manager.main if to_manager else server.main
 
     def registers(other, *handles, asking=asks):
@@ -187,8 +194,12 @@ def listeners_of_the_dead(s, dead=3, alive=0, wait=1100, of_one=False, rests=Fal
     else:
         for handle, other in enumerate(others, 20):
             registers(other, handle)
+    if collects == -1:
+        server.main.writes(*each(BC_RELEASE, 90))
     for other in others[:dead]:
         other.ends()
+    if collects == 1:
+        server.main.writes(*each(BC_RELEASE, 90))
     s.wait(wait)
     if not rests:
         holder.asks(manager.main) if holder is not manager.main else holder.writes(ENTER)

@@ -137,6 +137,10 @@ class Process:
         self.next += 0x1000
         return self.next
 
+    def is_called(self, command):
+        """It has this command line from now on."""
+        self.session.tell(f"command 0 {self.number} after={self.session.sequence} uid=10001 name={command}")
+
     def ends(self):
         """Its main thread ends, and the process with it."""
         self.session.tell(f"end pid {self.number} after={self.session.sequence}")
