@@ -2,7 +2,7 @@
 -- needs: database/schema.sql: book_handle, book_opening, finding, raw_generation; database/views.sql: process;
 --   records.sql: dead_record; paths.sql: given; ages.sql: begun, ended, leaving, old, process_life; rule.sql: lossy
 -- after: requests.sql
--- makes: temporary tables: dropped_death, balance, begun_death; indexes: balance_at
+-- makes: temporary tables: dropped_death, other_cookie, balance, begun_death; indexes: balance_at
 
 -- ---- what findings are called
 
@@ -27,6 +27,11 @@
 --   where frames are missing: M1
 -- D9 explained: The process let go of the handle after it was told: the driver drops the death with the last reference.
 --   met by: `deaths_not_acknowledged()`: the handles of the dead are released
+-- D10 real: The request for this death has another cookie and stays: the driver takes no such clear.
+--   next: where the process keeps the cookie of the request: the clear needs the same one
+--   met by: `clear_with_another_cookie()`: a request with cookie 0xd, and a clear with 0xe
+--   fault: clears with another cookie
+--   where frames are missing: M1
 
 -- ---- what they say of which finding
 
@@ -55,6 +60,28 @@ UPDATE finding SET rule = 'D9' WHERE rule IS NULL AND id IN (SELECT id FROM drop
 UPDATE finding SET rule = 'D3', said = 'the one at {other}', other = d.place FROM finding d
 WHERE finding.rule IS NULL AND finding.section = 'clears' AND finding.what = 'unconfirmed' AND +d.section = 'deaths'
   AND d.what = 'unacknowledged' AND d.upid = finding.upid AND d.cookie = finding.cookie;
+-- A clear whose cookie no request of this object has, while one with another cookie holds. What a process that was met
+-- in mid-life asked for before is not known.
+CREATE TEMP TABLE other_cookie AS
+SELECT f.id, max(q.place) AS request
+FROM finding f JOIN raw_generation g ON g.id = f.generation JOIN process_life p ON p.upid = f.upid
+  JOIN dead_record q ON (q.upid, q.handle) = (f.upid, f.handle) AND q.place BETWEEN g.begin AND f.place
+WHERE f.section = 'clears' AND f.what = 'unconfirmed' AND (p.known OR g.n > 1)
+  AND q.kind = :BC_REQUEST_DEATH_NOTIFICATION
+GROUP BY 1
+HAVING sum(q.cookie = f.cookie) = 0;
+DELETE FROM other_cookie WHERE EXISTS (SELECT 1 FROM dead_record q JOIN dead_record c USING (upid, handle, cookie)
+  WHERE q.place = other_cookie.request AND c.kind = :BC_CLEAR_DEATH_NOTIFICATION AND c.place > q.place
+    AND c.place < (SELECT place FROM finding f WHERE f.id = other_cookie.id));
+UPDATE finding SET rule = 'D10', said = 'the request is at {other}', other = o.request FROM other_cookie o
+WHERE rule IS NULL AND o.id = finding.id;
+UPDATE finding SET
+  relation = 'given',
+  code = g.code,
+  way = g.way,
+  giver = iif(g.reply, NULL, g.sender)
+FROM given g
+WHERE rule = 'D10' AND g.generation = finding.generation AND g.way NOTNULL;
 UPDATE finding SET rule = CASE WHEN later = 0 AND finding.id IN (SELECT id FROM ended)
     OR finding.id IN (SELECT id FROM leaving) THEN 'T1'
   WHEN finding.upid IN (SELECT upid FROM lossy) THEN 'M1' WHEN later > 1 THEN 'U4'

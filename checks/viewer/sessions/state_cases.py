@@ -207,6 +207,39 @@ def clear_not_confirmed(s, then, wait, ends=False, lost=False, thread=False):
         s.wait(300)
 
 
+@case("D10:1", "given by replies to code 5 of service 100 node 0x0 (the request is at ", "real clears with another cookie: 1 of - given by replies to code 5 of service 100 node 0x0 D10")
+@case("U6:1", cookie=0xD)
+@case("U6:1", asks=False)
+@case("U6:1", clears=True)
+@case("D2:1", again=0xE)
+@case("D10:1 D2:1", again=0xF)
+@case("U6:1", met="in-mid-life")
+@case("M1:1", lost=True)
+@case("D10:1", reused=True)
+@case("D10:1", ends=True)
+def clear_with_another_cookie(s, cookie=0xE, asks=True, clears=False, again=None, met="from-start", lost=False,
+                              reused=False, ends=False):
+    """A client asks for the death of an object, or does so only for what had this handle before, and clears with a
+    cookie. Before that it may clear with the right one, or ask again with another one."""
+    service, client = s.two(met)
+    for round in (1, 2) if reused else (2,):
+        client.main.is_given(service.main, 1, node=0x100 * round)
+        if asks:
+            client.main.writes(watch(BC_REQUEST_DEATH_NOTIFICATION, 1, 0xE if round == 1 else 0xD))
+        if round == 1:
+            client.main.writes(*each(BC_RELEASE, 1))
+    if lost:
+        s.loses(client)
+    if clears:
+        client.main.writes(watch(BC_CLEAR_DEATH_NOTIFICATION, 1, 0xD))
+        client.main.reads(*each_long(BR_CLEAR_DEATH_NOTIFICATION_DONE, 0xD))
+    if again:
+        client.main.writes(watch(BC_REQUEST_DEATH_NOTIFICATION, 1, again))
+    client.main.writes(watch(BC_CLEAR_DEATH_NOTIFICATION, 1, cookie))
+    if ends:
+        client.ends()
+
+
 @case("T1:1", wait=60, ends=True)
 @case("U4:1", wait=150, ends=True)
 @case("D3:1 U4:1", wait=200, clears=True)
