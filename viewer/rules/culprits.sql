@@ -1,5 +1,6 @@
 -- Which process causes a finding, where the capture shows that it is another one than the one that has the finding.
--- needs: database/schema.sql: finding, raw_record; failures.sql: failure, in_freeze, in_the_way; waits.sql: waits
+-- needs: database/schema.sql: finding, raw_record; failures.sql: failure, in_freeze, in_the_way, takes_no_fds;
+--   waits.sql: waits
 -- after: missing.sql
 -- makes: nothing
 
@@ -9,9 +10,9 @@ UPDATE finding SET culprit = w.server_upid FROM waits w
 WHERE w.id = finding.id AND rule IN ('B1', 'C3', 'C4', 'C5', 'C6', 'C7', 'C8', 'C9', 'C10', 'M2', 'U1', 'U2', 'U6')
   AND (rule <> 'C3' OR w.delivery NOTNULL);
 -- What failed, or never came, because of its receiver: it ended, was frozen, gave a bad reply, or reads nothing.
--- Who goes on calling what is frozen, causes that.
+-- Who goes on calling what is frozen, or takes no file descriptors, causes that.
 UPDATE finding SET culprit = target WHERE rule IN ('E3', 'E4', 'E6', 'E8', 'E9', 'E10', 'W2', 'W3')
-  AND id NOT IN (SELECT id FROM in_freeze WHERE n >= :OFTEN);
+  AND id NOT IN (SELECT id FROM in_freeze WHERE n >= :OFTEN) AND id NOT IN (SELECT id FROM takes_no_fds);
 -- If there is no space for oneway sends: the receiver, if it got most of what is in the way and frees nothing of that,
 -- and else the process that sent most of it.
 UPDATE finding SET culprit = c.upid

@@ -1,9 +1,9 @@
 -- E: calls and sends that failed, and oneway sends that may be spam.
--- needs: database/schema.sql: finding, raw_call, raw_delivery, raw_record, raw_send, raw_thread, side_time; nodes.sql:
---   node_of, who; records.sql: told_death; judging.py: counted
+-- needs: database/schema.sql: finding, raw_call, raw_delivery, raw_object, raw_record, raw_send, raw_thread, side_time;
+--   nodes.sql: node_of, who; records.sql: told_death; judging.py: counted
 -- after: late.sql
--- makes: temporary tables: failure, too_late, got_call, in_freeze, refused_first, in_the_way; indexes: failure_of,
---   got_call_by, in_freeze_of
+-- makes: temporary tables: failure, too_late, got_call, in_freeze, takes_no_fds, refused_first, in_the_way; indexes:
+--   failure_of, got_call_by, in_freeze_of
 
 -- ---- what findings are called
 
@@ -112,6 +112,14 @@ UPDATE finding SET rule = CASE e.kind WHEN :BR_DEAD_REPLY THEN 'E3' WHEN :BR_FRO
   ELSE iif(e.refused, 'E5', 'E6') END
 FROM failure e WHERE rule IS NULL AND e.id = finding.id;
 
+-- A caller that takes no file descriptors, and a reply that has some.
+CREATE TEMP TABLE takes_no_fds AS
+SELECT f.id
+FROM finding f JOIN raw_record r USING (place) JOIN raw_send s USING (place) JOIN raw_call c ON c.place = s.delivery
+WHERE f.rule = 'E6' AND NOT r.flags & :TF_ACCEPT_FDS
+  AND EXISTS (SELECT 1 FROM raw_object o WHERE o.place = c.closer AND o.sort IN (:FD, :FDA));
+UPDATE finding SET note = 'the call takes no file descriptors (TF_ACCEPT_FDS), and its reply has some'
+WHERE id IN (SELECT id FROM takes_no_fds);
 -- What waits or is held at the receiver when its first oneway send is refused, and from whom. The driver rounds sizes
 -- up to 8 bytes, and takes half of the buffer space of a process for oneway transactions.
 CREATE TEMP TABLE refused_first AS

@@ -1,6 +1,7 @@
 -- W, E3, U1: oneway sends that never came, and the buffers that they wait for.
 -- needs: database/schema.sql: finding, raw_delivery, raw_record, raw_thread, side_time; records.sql: to_frozen;
---   ages.sql: ended, old, process_life; rule.sql: lossy; limits.sql: no_looper; judging.py: counted
+--   ages.sql: ended, old, process_life; failures.sql: failure; rule.sql: lossy; limits.sql: no_looper; judging.py:
+--   counted
 -- after: buffers.sql
 -- makes: temporary tables: last_oneway
 
@@ -37,6 +38,19 @@
 --   rests on: TOO_MANY, VERY_LONG
 --   met by: `sends_to_the_frozen()`: ten sends in 1.1 s
 --   fault: oneway sends to what is frozen
+-- W9 real: {OFTEN} or more sends have waited over {VERY_LONG} for it, and its thread went on with other work.
+--   next: what the thread did after it: nothing frees the buffer, and nothing else comes to the object until then
+--   rests on: OFTEN, VERY_LONG, OLD, LONG
+--   met by: `blocked_object()`: a thread goes on, and three sends wait for its buffer
+--   where frames are missing: M2
+-- W10 real: {OFTEN} or more sends have waited over {VERY_LONG} for its handler, at work {OLD} times as long as others.
+--   next: what the thread of the handler has done since it got it
+--   rests on: OFTEN, VERY_LONG, OLD, LONG, ENOUGH
+--   met by: `blocked_object()`: the fourth handler does not return
+--   fault: oneway handlers at work
+--   where frames are missing: M2
+-- W11 explained: It waits at a receiver whose space for oneway sends became full later: the refused sends tell of that.
+--   met by: `full_at_a_frozen()`: a frozen client takes nothing, and a send to it is refused
 
 -- ---- what they say of which finding
 
@@ -89,9 +103,22 @@ UPDATE finding SET
   note = iif(waiting NOTNULL, counted(waiting, 'waits', 'wait') || ' for it', NULL)
 FROM raw_record r
 WHERE rule = 'U6' AND what <> 'BR_REPLY' AND later = 0 AND r.place = finding.place AND r.flags & :TF_ONE_WAY;
+-- One that blocks its object, as many sends have waited for it for very long.
+UPDATE finding SET rule = iif(rule = 'W6', 'W10', 'W9')
+FROM (SELECT other, count(*) AS n FROM finding WHERE rule = 'W2' AND age > :VERY_LONG GROUP BY 1) w
+WHERE section = 'buffers' AND w.other = place AND w.n >= :OFTEN AND finding.id IN (SELECT id FROM old)
+  AND (rule IN ('U4', 'U5') AND later > 0 OR rule = 'W6' AND n_good >= :ENOUGH);
 UPDATE finding SET rule = 'M1' WHERE rule IS NULL AND section = 'oneway' AND finding.upid IN (SELECT upid FROM lossy);
 UPDATE finding SET rule = CASE WHEN finding.id IN (SELECT id FROM old) THEN 'W3'
   WHEN age IS NULL AND later > 0 THEN 'W3'
   ELSE 'U6' END WHERE rule IS NULL AND section = 'oneway';
+-- What fills the space of its receiver is told by the sends that find no space there.
+UPDATE finding SET rule = 'W11', said = 'the driver refused the one at {other}', other = e.place
+FROM (
+  SELECT f.target, max(e.place) AS place
+  FROM finding f JOIN failure e USING (id) JOIN raw_record r ON r.place = e.place
+  WHERE f.rule = 'E5' AND r.flags & :TF_ONE_WAY
+  GROUP BY 1) e
+WHERE rule = 'W3' AND e.target = finding.target AND e.place > finding.place;
 UPDATE finding SET note = coalesce(note, 'not got') || n.why FROM no_looper n
 WHERE finding.rule = 'W3' AND n.upid = finding.target;

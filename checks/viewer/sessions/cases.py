@@ -10,8 +10,8 @@ from typing import Callable, NamedTuple
 from checks.kit.captures import (BC_DEAD_BINDER_DONE, BC_EXIT_LOOPER, BC_RELEASE, BC_REPLY,
                                  BC_REQUEST_DEATH_NOTIFICATION, BC_TRANSACTION, BR_DEAD_BINDER, BR_DEAD_REPLY,
                                  BR_FAILED_REPLY, BR_FROZEN_REPLY, BR_ONEWAY_SPAM_SUSPECT, BR_REPLY, ENTER, MAX_32,
-                                 each, each_long, record, u32, watch)
-from checks.viewer.sessions.session import DONE, ONE_WAY, STATUS_CODE, Sent, Session
+                                 SORTS, each, each_long, offsets, record, u32, watch)
+from checks.viewer.sessions.session import ACCEPT_FDS, DONE, ONE_WAY, STATUS_CODE, Sent, Session
 
 
 class Case(NamedTuple):
@@ -555,6 +555,25 @@ def oneway_space_full(s, others=0, got=0, call=False):
         client.main.reads(record(BR_FAILED_REPLY))
 
 
+@case("E5:1 W11:3 W3:1", "(the driver refused the one at ")
+@case("E5:1 W3:4", call=True)
+@case("E5:1 W3:4", other_receiver=True)
+def full_at_a_frozen(s, call=False, other_receiver=False):
+    """A client takes none of three oneway sends, and the driver refuses another one to it, or a call, or one to another
+    client. Then one more is taken."""
+    service, client = s.two()
+    other = s.process(300, "other")
+    client.main.gives(service.main, 1)
+    other.main.gives(service.main, 2)
+    for _ in range(3):
+        service.main.sends(1, 7, ONE_WAY, bytes(1020), seen=False)
+    refused = Sent(None, 7, 0 if call else ONE_WAY, bytes(1020), b"")
+    service.main.writes(refused.record(BC_TRANSACTION, 2 if other_receiver else 1))
+    service.main.reads(record(BR_FAILED_REPLY))
+    service.main.sends(1, 7, ONE_WAY, bytes(4), seen=False)
+    s.wait(300)
+
+
 @case("E7:1", "code 7 to service 100 node 0x0")
 def spam(s):
     service, client = s.two()
@@ -638,6 +657,43 @@ def oneway_handler(s, wait, sends=1, good=0, goes_on=False, beside=False):
         address = service.main.gets(other.main.sends(0, 1))
         other.main.answered(service.main.replies(address, flags=ONE_WAY), free=False)
     s.wait(wait)
+
+
+@case("W2:3 W9:1", "real received transactions never freed: 1 of 1 oneway code 7 at client 200 node 0x9100 W9",
+      "W9 by client 200: 1")
+@case("U4:1 W2:2", sends=2)
+@case("U4:1 W2:3", wait=950)
+@case("U4:1 W2:4", sends=2, late=2)
+@case("U4:1 W2:3", good=3, took=120)
+@case("W2:3 W10:1", "real oneway handlers at work: 1 of 4 oneway code 7 at client 200 node 0x9100 W10 (its handler has"
+      " been at work for 1.11 s; 3 wait for it)", good=3, goes_on=False)
+@case("W2:3 W6:1", good=2, goes_on=False)
+@case("W2:2 W6:1", good=3, goes_on=False, sends=2)
+@case("W2:3 W5:1", good=3, took=120, goes_on=False)
+@case("W2:3 W6:1", good=3, goes_on=False, wait=950)
+@case("M2:1 W2:3", lost=True)
+@case("U4:1 W2:3", has_side=False)
+def blocked_object(s, wait=1100, sends=3, late=0, good=0, took=0, goes_on=True, lost=False):
+    """A oneway transaction is not freed, sends wait for it, some of them only lately, and its thread goes on or not.
+    Earlier ones took so long."""
+    service, client = s.two()
+    client.main.gives(service.main, 1)
+    looper = client.looper(1)
+    if lost:
+        s.loses(client)
+    for _ in range(good):
+        address = looper.gets(service.main.sends(1, 7, ONE_WAY), 0x9100)
+        s.wait(took)
+        looper.frees(address)
+    looper.gets(service.main.sends(1, 7, ONE_WAY), 0x9100)
+    for _ in range(sends):
+        service.main.sends(1, 7, ONE_WAY)
+    if goes_on:
+        looper.writes(ENTER)
+    s.wait(wait / 2)
+    for _ in range(late):
+        service.main.sends(1, 7, ONE_WAY)
+    s.wait(wait / 2)
 
 
 @case("W5:1 W3:1", kept="node")
@@ -887,6 +943,19 @@ def failed_call(s, kind, confirmed=False, lost=False):
         s.loses(client)
     client.main.sends(0, 1)
     client.main.reads(*([DONE] if confirmed else []), record(kind))
+
+
+@case("E6:1", "E6 by client 200: 1", "the call takes no file descriptors (TF_ACCEPT_FDS), and its reply has some")
+@case("E6:1", "E6 by client 200: 1", sort=5)
+@case("E6:1", "E6 by service 100: 1", sort=0)
+@case("E6:1", "E6 by service 100: 1", flags=ACCEPT_FDS)
+def reply_with_a_descriptor(s, flags=0, sort=4):
+    """The driver can't deliver a reply with a file descriptor, or with several or another object, and its caller takes
+    some, or none."""
+    service, client = s.two()
+    address = service.main.gets(client.main.sends(0, 1, flags=flags))
+    service.main.replies(address, SORTS[sort], offsets(0))
+    client.main.reads(DONE, record(BR_FAILED_REPLY))
 
 
 @case("S1:1", "the send at", known=True)
