@@ -1,6 +1,6 @@
 """More sessions as in cases.py: handles that a process keeps because the one that gave them does not take them back."""
 
-from checks.kit.captures import BC_INCREFS, BC_RELEASE, each
+from checks.kit.captures import BC_ACQUIRE, BC_INCREFS, BC_RELEASE, each
 from checks.viewer.sessions.cases import case, with_server
 from checks.viewer.sessions.kept_cases import Quarters, calls_back
 
@@ -17,6 +17,8 @@ def takes_back(giver, holder, handles):
 @case("H13:10", gains=(3, 3, 2, 2))
 @case("H5:9", "of those from others it keeps 0 of 4 from other 400", gains=(3, 2, 2, 2))
 @case("H13:12", gains=(3, 3, 3, 3), back=3)
+@case("H13:20", gains=(5, 5, 5, 5), back=5, back_in=3, uses=False)
+@case("H13:12 H4:1", twice=1)
 @case("H9:12", "of those from others it keeps 0 of 4 from other 400", gains=(3, 3, 3, 3), back=4)
 @case("H5:12", "of those from others it keeps 0 of 4 from other 400", gains=(4, 4, 4, 0), uses=False)
 @case("H5:12", "of those from others it keeps 0 of 3 from other 400", others=3)
@@ -35,11 +37,11 @@ def takes_back(giver, holder, handles):
 @case("H5:12", "of those from others it keeps 0 of 4 from other 400", ends=True)
 @case("H13:12", ends_later=True)
 @case("H5:12", weakly=True)
-def giver_forgets(s, gains=(3, 3, 3, 3), back=0, others=4, left=0, when=3, code=4, left_of_more=0, uses=True,
-                  lost=False, ends=False, ends_later=False, weakly=False):
+def giver_forgets(s, gains=(3, 3, 3, 3), back=0, back_in=0, twice=0, others=4, left=0, when=3, code=4, left_of_more=0,
+                  uses=True, lost=False, ends=False, ends_later=False, weakly=False):
     """In each part of its time a server gets objects from a client, and calls them. The client takes hardly any back;
     another process takes back all, or leaves some, or ends before the server lets go of them, or later. Or the server
-    keeps weak references."""
+    keeps weak references, or takes one object twice."""
     manager, client, server = with_server(s)
     other, more = s.process(400, "other"), s.process(401, "other")
     for one in (other, more):
@@ -55,7 +57,10 @@ def giver_forgets(s, gains=(3, 3, 3, 3), back=0, others=4, left=0, when=3, code=
                 server.main.writes(*each(BC_INCREFS, handle), *each(BC_RELEASE, handle))
             held.append(handle)
         at += gained
-        if part == 0 and back:
+        for handle in range(80, 80 + twice if part == 0 else 80):
+            calls_back(client.main, server.main, handle)
+            server.main.writes(*each(BC_ACQUIRE, handle))
+        if part == back_in and back:
             for handle in range(90, 90 + back):
                 calls_back(client.main, server.main, handle)
             takes_back(client.main, server.main, range(90, 90 + back))
