@@ -50,6 +50,12 @@ KNOWN: dict[str, dict[str, str]] = {
         "all rows": "CREATE TEMP TABLE t AS SELECT * FROM (SELECT min(a), coalesce(b, c), iif(d, 1, 2) FROM x LEFT JOIN"
                     " y USING (e, g) WHERE h IN ('i', 'j') GROUP BY 1, 2 ORDER BY k DESC, l) LIMIT 0",
         **{what: f"CREATE TEMP TABLE t AS SELECT {query}" for what, query in {
+            "exchanged: min(a) and coalesce(b, c)":
+                "coalesce(b, c), min(a), iif(d, 1, 2) FROM x LEFT JOIN y USING (e, g) WHERE h IN ('i', 'j')"
+                " GROUP BY 1, 2 ORDER BY k DESC, l",
+            "exchanged: coalesce(b, c) and iif(d, 1, 2)":
+                "min(a), iif(d, 1, 2), coalesce(b, c) FROM x LEFT JOIN y USING (e, g) WHERE h IN ('i', 'j')"
+                " GROUP BY 1, 2 ORDER BY k DESC, l",
             "LEFT JOIN is JOIN": "min(a), coalesce(b, c), iif(d, 1, 2) FROM x JOIN y USING (e, g) WHERE h IN ('i', 'j')"
                                  " GROUP BY 1, 2 ORDER BY k DESC, l",
             "not joined by e": "min(a), coalesce(b, c), iif(d, 1, 2) FROM x LEFT JOIN y USING (g) WHERE h IN ('i', 'j')"
@@ -134,6 +140,12 @@ KNOWN: dict[str, dict[str, str]] = {
     "INSERT INTO t SELECT a - b + c, nullif(d, 0), e AND f AS g, sum(h) OVER (PARTITION BY i) FROM x WHERE -k > 1": {
         "the whole statement": "SELECT 1",
         **{what: f"INSERT INTO t SELECT {query}" for what, query in {
+            "exchanged: a - b + c and nullif(d, 0)":
+                "nullif(d, 0), a - b + c, e AND f AS g, sum(h) OVER (PARTITION BY i) FROM x WHERE -k > 1",
+            "exchanged: nullif(d, 0) and e AND f":
+                "a - b + c, e AND f, nullif(d, 0) AS g, sum(h) OVER (PARTITION BY i) FROM x WHERE -k > 1",
+            "exchanged: e AND f and sum(h) OVER (PARTITION BY i)":
+                "a - b + c, nullif(d, 0), sum(h) OVER (PARTITION BY i) AS g, e AND f FROM x WHERE -k > 1",
             "sum without a":
                 "0 - b + c, nullif(d, 0), e AND f AS g, sum(h) OVER (PARTITION BY i) FROM x WHERE -k > 1",
             "sum without - b":
@@ -159,6 +171,30 @@ KNOWN: dict[str, dict[str, str]] = {
             "1 + 1 in -k > 1":
                 "a - b + c, nullif(d, 0), e AND f AS g, sum(h) OVER (PARTITION BY i) FROM x WHERE -k > (1 + 1)",
         }.items()}},
+    # Parts of texts, also within a function, and names of columns, which stay.
+    "UPDATE f SET a = b || ' of ' || c, d = (SELECT DISTINCT g AS h, j, k, * FROM f)"
+    " WHERE coalesce('x' || l, m) = 'y' || n": {
+        "the whole statement": "SELECT 1",
+        **{what: f"UPDATE f SET {made}" for what, made in {
+            "without a = b || ' of ' || c": "d = (SELECT DISTINCT g AS h, j, k, * FROM f)"
+                                            " WHERE coalesce('x' || l, m) = 'y' || n",
+            "without d = (SELECT DISTINCT g AS h, j, k, * FROM f)":
+                "a = b || ' of ' || c WHERE coalesce('x' || l, m) = 'y' || n",
+            **{f"text without {what}": f"a = {text}, d = (SELECT DISTINCT g AS h, j, k, * FROM f)"
+                                       " WHERE coalesce('x' || l, m) = 'y' || n"
+               for what, text in {"b": "' of ' || c", "' of '": "b || c", "c": "b || ' of '"}.items()},
+            **{what: f"a = b || ' of ' || c, d = (SELECT {columns} FROM f) WHERE coalesce('x' || l, m) = 'y' || n"
+               for what, columns in {"without DISTINCT": "g AS h, j, k, *",
+                                     "exchanged: g and j": "DISTINCT j AS h, g, k, *",
+                                     "exchanged: j and k": "DISTINCT g AS h, k, j, *"}.items()},
+            **{what: f"a = b || ' of ' || c, d = (SELECT DISTINCT g AS h, j, k, * FROM f) WHERE {term}"
+               for what, term in {"without coalesce('x' || l, m) = 'y' || n": "1",
+                                  "coalesce without 'x' || l": "(m) = 'y' || n",
+                                  "coalesce without m": "('x' || l) = 'y' || n",
+                                  "text without 'x'": "coalesce(l, m) = 'y' || n",
+                                  "text without l": "coalesce('x', m) = 'y' || n",
+                                  "turned: coalesce('x' || l, m) = 'y' || n":
+                                      "coalesce('x' || l, m) <> 'y' || n"}.items()}}.items()}},
     "CREATE INDEX i ON t(a) WHERE b = 1": {}}
 
 

@@ -5,8 +5,9 @@
 - a comparison is turned: `<` to `>`, `=` to `<>`, IN to NOT IN
 - a threshold is moved by one, a time to half and to twice as much, a share by a tenth; and so is a number with which
   something is compared by its order
-- a side of iif, a WHEN, an argument of coalesce or nullif, a summand, a column of an order, a part of a UNION, an
-  assignment, a row of VALUES, or the whole statement is left out
+- a side of iif, a WHEN, an argument of coalesce or nullif, a summand, a part of a text, a column of an order, a part
+  of a UNION, an assignment, a row of VALUES, or the whole statement is left out
+- two columns of a SELECT that stand side by side are exchanged
 - min is max, max is min, a sum is max, an order is the other way round, a LEFT JOIN is a JOIN, DISTINCT is left out
 
 An index has none: it makes other statements faster, and changes nothing.
@@ -140,17 +141,40 @@ class Maker:
         elif clause.says("SELECT"):
             if clause.items[0].says("DISTINCT"):
                 yield Change("without DISTINCT", clause.items[0].start, clause.items[0].end, "")
+            yield from self.exchanged(clause.items)
             for member in split(clause.items, ","):
                 yield from self.value(split(member, "AS")[0])
         elif clause.says("THEN", "ELSE"):
             yield from self.value(clause.items)
+        elif clause.word is None:
+            for member in split(clause.items, ","):
+                yield from self.text(member)
 
     def value(self, items: list[Item]) -> Iterator[Change]:
-        """The terms of a value that is a condition; the summands of one that is a sum."""
+        """The terms of a value that is a condition; the parts of a text; the summands of a sum."""
         if len(split(items, "AND")) > 1 or len(split(items, "OR")) > 1:
             yield from self.terms(items)
-        elif not any(item.says("||", *COMPARED) for item in items):
+        elif any(item.says("||") for item in items):
+            yield from self.text(items)
+        elif not any(item.says(*COMPARED) for item in items):
             yield from self.summands(items)
+
+    def text(self, items: list[Item]) -> Iterator[Change]:
+        """The parts of a text that is put together, each left out."""
+        if not any(item.says("AND", "OR", *COMPARED) for item in items):
+            yield from self.one_less(items, "text without", "||")
+
+    def exchanged(self, items: list[Item]) -> Iterator[Change]:
+        """The columns of a SELECT, each exchanged with the next one. What they are called stays where it is."""
+        members = [split(member, "AS") for member in split(items[items[0].says("DISTINCT"):], ",")]
+        for one, other in zip(members, members[1:]):
+            # `AS left` is no name here: LEFT begins a clause.
+            if not all((*one, *other)) or one[0][-1].says("*") or other[0][-1].says("*"):
+                continue
+            first, second = (self.statement[slice(*span(member[0]))] for member in (one, other))
+            between = self.statement[one[0][-1].end:other[0][0].start]
+            yield Change(f"exchanged: {self.said(*span(one[0]))} and {self.said(*span(other[0]))}", one[0][0].start,
+                         other[0][-1].end, f"{second}{between}{first}")
 
     def summands(self, items: list[Item]) -> Iterator[Change]:
         """The summands of a sum, each left out. A sign at the beginning, or after another one, is no sum."""
@@ -178,9 +202,9 @@ class Maker:
                 if len(inner) == 1 and isinstance(inner[0], Group) and is_condition(inner[0]):
                     yield from self.terms(inner[0].items)
 
-    def one_less(self, items: list[Item], what: str) -> Iterator[Change]:
-        """A list with commas, each time without one of its members."""
-        members = split(items, ",")
+    def one_less(self, items: list[Item], what: str, sign: str = ",") -> Iterator[Change]:
+        """A list with commas, or with another sign, each time without one of its members."""
+        members = split(items, sign)
         if len(members) < 2 or not all(members):
             return
         for at, member in enumerate(members):
