@@ -27,8 +27,8 @@ What must hold:
 - The page says when things were, by the clocks of the side list, and nothing of it without one.
 - The files of a flight recorder, each with its side list, are shown like the whole capture; the last one alone says
   what it cannot know.
-- The folded sections have what they are for: whom each thread serves and since when, slow calls of main threads from the
-  time of --slow on, largest transactions, senders, holders, death recipients, descriptors.
+- The folded sections have what they are for: whom each thread serves and since when, slow calls of main threads from
+  the time of --slow on, largest transactions, senders, holders, death recipients, descriptors.
 - Page, database and side list of a capture have no secret of its payloads, and a redacted capture has none either.
 - A side list of another form, or of another capture, what is no side list, and a line that is none, are refused in a
   line; a list that is cut while it is loaded crashes nothing. If a side list may belong to another capture, a line says
@@ -120,14 +120,14 @@ SIDE_BY_SIDE = [
     *(Part(f"libgbinder/{name}", check_libgbinder, (name,)) for name in CAPTURES),
     *(Part(f"lost/{name}", check_gaps, (name,)) for name, (_, side) in SAMPLES.items() if side),
     *parts_of(check_malformed, check_pipes, check_names, check_changing, check_again, check_whole,
-               check_terminal, check_beside)]
+              check_terminal, check_beside)]
 BY_SCRIPTS = parts_of(check_templates, check_words, check_stopped, check_no_engine, check_python, check_version)
 IN_TURN = parts_of(
     check_side, check_forms, check_no_lists, check_list_of_loader, check_renames, check_last_names, check_files,
     check_secrets, check_told, check_untimed, check_late, check_hostile, check_methods, check_unnamed, check_services,
     check_manager, check_times, check_loader, check_agreement, check_copies, check_bad_books, check_long_books,
-    check_commands, check_sections, check_packages, check_bits, check_stacks, check_growth, check_against, check_moments,
-    check_windows)
+    check_commands, check_sections, check_packages, check_bits, check_stacks, check_growth, check_against,
+    check_moments, check_windows)
 
 
 def names() -> list[str]:

@@ -17,7 +17,8 @@ QUERIES = pathlib.Path(__file__).resolve().parent / "queries"
 # The most rows of a section. The rest is counted.
 ROWS = 1000
 
-# How long a call of a main thread takes at least that the page lists, in nanoseconds: six frames of a screen are missed.
+# How long a call of a main thread takes at least that the page lists, in nanoseconds: six frames of a screen are
+# missed.
 SLOW = SECOND // 10
 
 

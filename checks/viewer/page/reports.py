@@ -156,7 +156,6 @@ def joined_claims(report: str) -> Iterator[Claim]:
                 " AND (h.upid, h.handle) NOT IN (SELECT upid, handle FROM holder)", [(0,)])
 
 
-
 def held_at_end(database: sqlite3.Connection) -> dict[tuple, tuple]:
     """The buffers, their bytes and the strong references that each process holds at the end, as on the page."""
     who = {upid: rest for upid, *rest in database.execute("SELECT upid, device, process FROM process")}

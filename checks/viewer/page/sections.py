@@ -11,14 +11,19 @@ SECTION = re.compile(r'<details class="fold"><summary>([^<]*)</summary>(.*?)</de
 BODY = re.compile(r"<tbody>(.*?)</tbody>", re.DOTALL)
 
 
+def text_of(cell: str) -> str:
+    """The text of a cell, without what is said beside it."""
+    return re.sub(r"<[^>]*>", "", re.sub(r'<span class="of">.*?</span>', "", cell)).partition(">")[2].strip()
+
+
+
 def sections_of(page: str) -> dict[str, list[list[str]]]:
     """The rows of each folded section, by the first words of its title, each cell without markup and times of day."""
     found = {}
     for title, inner in SECTION.findall(page):
         body = BODY.search(inner)
         rows = body[1].split("<tr>")[1:] if body else []
-        found[title] = [[re.sub(r"<[^>]*>", "", re.sub(r'<span class="of">.*?</span>', "", cell)).partition(">")[2].strip()
-                         for cell in row.split("<td")[1:]] for row in rows]
+        found[title] = [[text_of(cell) for cell in row.split("<td")[1:]] for row in rows]
     return found
 
 
