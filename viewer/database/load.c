@@ -1,18 +1,24 @@
 /*
  * Loads the raw tables of a capture into a new SQLite database.
  *
- *     load DATABASE FOLDER SCHEMA [SIDE]
+ *     load [--pack TABLE].. DATABASE FOLDER SCHEMA [SIDE [OTHERS]]
  *
  * DATABASE is created, and must not exist. SCHEMA is a file of SQL statements that create the tables. Each table whose
  * name begins with raw_ takes the rows of FOLDER/NAME.rows, where NAME is what follows raw_. docs/DATABASE.md says what
  * a row is. Only the schema says how many columns a table has, and which of them are texts. side_time takes the lines
- * of frames of SIDE, a side list. Everything is one transaction.
+ * of frames of SIDE, a side list, and side_call those of calls; OTHERS is made of the other lines, as side_lines.c says.
+ * Everything is one transaction.
+ *
+ * A TABLE has whole numbers alone, and its first column rises. It becomes a virtual table of DATABASE.TABLE, a file of
+ * packed rows. If FOLDER/NAME.rows of such a table is a named pipe, its rows are packed as they come, and all files of
+ * FOLDER are there at the end of standard input.
  *
  * Status 0: everything is loaded. Status 1: a line on standard error says why not, and DATABASE is not whole.
  * Nothing of this is proved: it copies numbers and texts, and checks that rows are whole.
  */
 #include <errno.h>
 #include <fcntl.h>
+#include <pthread.h>
 #include <sqlite3.h>
 #include <stdarg.h>
 #include <stdint.h>
@@ -23,11 +29,11 @@
 #include <sys/stat.h>
 #include <unistd.h>
 
-enum { MOST_COLUMNS = 63, LONGEST_NAME = 256, KEPT = 1 << 26, MOST_DIGITS = 18, LONGEST_LINE = 1 << 22 };
+#include "load.h"
 
-static void stop(const char *format, ...) __attribute__((noreturn, format(printf, 1, 2)));
+enum { LONGEST_NAME = 256, KEPT = 1 << 26, MOST_PACKED = 8 };
 
-static void stop(const char *format, ...)
+void stop(const char *format, ...)
 {
 	va_list words;
 	va_start(words, format);
@@ -45,7 +51,7 @@ static void run(sqlite3 *database, const char *statements)
 		stop("%s", why ? why : sqlite3_errmsg(database));
 }
 
-static sqlite3_stmt *prepared(sqlite3 *database, const char *statement)
+sqlite3_stmt *prepared(sqlite3 *database, const char *statement)
 {
 	sqlite3_stmt *made = NULL;
 	if (sqlite3_prepare_v2(database, statement, -1, &made, NULL) != SQLITE_OK)
@@ -234,6 +240,13 @@ static void learn_columns(sqlite3 *database, const char *table, struct rows *row
 	sqlite3_free(statement);
 }
 
+/* The tables that are packed, and the threads that pack those that come through a pipe. */
+struct packing {
+	int tables, threads;
+	struct packed_table table[MOST_PACKED];
+	pthread_t thread[MOST_PACKED];
+};
+
 static void load_table(sqlite3 *database, const char *table, const char *folder, struct rows **current)
 {
 	char *path = sqlite3_mprintf("%s/%s.rows", folder, table + strlen("raw_"));
@@ -250,7 +263,15 @@ static void load_table(sqlite3 *database, const char *table, const char *folder,
 	forget(rows.bytes, rows.length);
 }
 
-static void load_tables(sqlite3 *database, const char *folder, struct rows **current)
+static struct packed_table *packed_of(struct packing *packing, const char *name)
+{
+	for (int number = 0; number < packing->tables; number++)
+		if (!strcmp(packing->table[number].name, name))
+			return &packing->table[number];
+	return NULL;
+}
+
+static void load_tables(sqlite3 *database, const char *folder, struct packing *packing, struct rows **current)
 {
 	sqlite3_stmt *next = prepared(database, "SELECT name FROM main.sqlite_schema WHERE type = 'table'"
 						" AND name GLOB 'raw_*' AND name > ? ORDER BY name LIMIT 1");
@@ -261,71 +282,10 @@ static void load_tables(sqlite3 *database, const char *folder, struct rows **cur
 			break;
 		snprintf(table, sizeof table, "%s", (const char *)sqlite3_column_text(next, 0));
 		sqlite3_reset(next);
-		load_table(database, table, folder, current);
+		if (!packed_of(packing, table))
+			load_table(database, table, folder, current);
 	}
 	sqlite3_finalize(next);
-}
-
-/* Reads a number of at most 18 digits. Returns what follows it; NULL if there is no number. */
-static const char *after_number(const char *at, const char *end, sqlite3_int64 *number)
-{
-	const char *begin = at;
-	for (*number = 0; at < end && at - begin < MOST_DIGITS && *at >= '0' && *at <= '9'; at++)
-		*number = *number * 10 + (*at - '0');
-	return at > begin ? at : NULL;
-}
-
-/* Whether a line is one of a frame: a time, the word, a number, and nothing else. */
-static int is_of_frame(const char *line, const char *end, sqlite3_int64 *time, sqlite3_int64 *number)
-{
-	static const char word[] = " frame ";
-	const char *at = after_number(line, end, time);
-	if (!at || (size_t)(end - at) < sizeof word - 1 || memcmp(at, word, sizeof word - 1))
-		return 0;
-	return after_number(at + sizeof word - 1, end, number) == end;
-}
-
-static void load_line(sqlite3 *database, sqlite3_stmt *to, const char *line, size_t length)
-{
-	sqlite3_int64 time, number;
-	if (!is_of_frame(line, line + length, &time, &number))
-		return;
-	sqlite3_bind_int64(to, 1, time);
-	sqlite3_bind_int64(to, 2, number);
-	if (sqlite3_step(to) != SQLITE_DONE)
-		stop("%s", sqlite3_errmsg(database));
-	sqlite3_reset(to);
-}
-
-/*
- * The side list is read and not mapped, since it may not be ours: where a mapped file was cut, a read of it would end
- * this program. Of a line only as much is kept as one of a frame has; and who reads the list next may keep whole lines,
- * since none is longer than LONGEST_LINE.
- */
-static void load_times(sqlite3 *database, const char *path)
-{
-	FILE *list = fopen(path, "re");
-	if (!list)
-		stop("%s: %s", path, strerror(errno));
-	sqlite3_stmt *next = prepared(database, "INSERT OR REPLACE INTO side_time(ts, seq) VALUES (?, ?)");
-	char line[2 * MOST_DIGITS + sizeof " frame "];
-	size_t length = 0;
-	for (int sign; (sign = getc_unlocked(list)) != EOF;) {
-		if (sign == '\n') {
-			if (length <= sizeof line)
-				load_line(database, next, line, length);
-			length = 0;
-			continue;
-		}
-		if (length < sizeof line)
-			line[length] = (char)sign;
-		if (++length > LONGEST_LINE)
-			stop("%s has a line of more than %d bytes", path, LONGEST_LINE);
-	}
-	if (ferror(list))
-		stop("%s: %s", path, strerror(errno));
-	sqlite3_finalize(next);
-	fclose(list);
 }
 
 static void run_file(sqlite3 *database, const char *path)
@@ -338,32 +298,146 @@ static void run_file(sqlite3 *database, const char *path)
 	forget(bytes, length);
 }
 
-int main(int count, char **words)
+/* ---- packed tables */
+
+static int columns_of(sqlite3 *database, const char *table)
 {
-	if (count != 4 && count != 5) {
-		fputs("usage: load DATABASE FOLDER SCHEMA [SIDE]\n", stderr);
-		return 64;
+	struct rows rows = { 0 };
+	learn_columns(database, table, &rows);
+	return rows.columns;
+}
+
+static void *pack_in_thread(void *table)
+{
+	pack_rows(table);
+	return NULL;
+}
+
+static int is_pipe(const char *path)
+{
+	struct stat about;
+	return !stat(path, &about) && S_ISFIFO(about.st_mode);
+}
+
+/* Begins to pack what comes through pipes. */
+static void begin_packing(sqlite3 *database, const char *to, const char *folder, struct packing *packing)
+{
+	for (int number = 0; number < packing->tables; number++) {
+		struct packed_table *table = &packing->table[number];
+		table->columns = columns_of(database, table->name);
+		table->packed = sqlite3_mprintf("%s.%s", to, table->name);
+		const char *after = strncmp(table->name, "raw_", 4) ? NULL : table->name + 4;
+		table->rows = after ? sqlite3_mprintf("%s/%s.rows", folder, after) : NULL;
+		if (!table->rows || !is_pipe(table->rows))
+			continue;
+		if (pthread_create(&packing->thread[packing->threads++], NULL, pack_in_thread, table))
+			stop("a thread could not be started");
 	}
-	int made = open(words[1], O_WRONLY | O_CREAT | O_EXCL, 0644);
-	if (made < 0)
-		stop("%s: %s", words[1], strerror(errno));
-	close(made);
+}
+
+/* Waits for what comes through pipes, and until all files are there, and packs the others. */
+static void end_packing(struct packing *packing)
+{
+	for (int number = 0; number < packing->threads; number++)
+		pthread_join(packing->thread[number], NULL);
+	char sign;
+	while (packing->threads && read(STDIN_FILENO, &sign, 1) > 0)
+		;
+	for (int number = 0; number < packing->tables; number++)
+		if (packing->table[number].rows && !is_pipe(packing->table[number].rows))
+			pack_rows(&packing->table[number]);
+}
+
+/* The columns of a table, as they were declared. */
+static char *columns_text(sqlite3 *database, const char *table)
+{
+	sqlite3_stmt *asked = prepared(database, "SELECT substr(sql, instr(sql, '(')) FROM sqlite_schema WHERE name = ?");
+	sqlite3_bind_text(asked, 1, table, -1, SQLITE_TRANSIENT);
+	if (sqlite3_step(asked) != SQLITE_ROW)
+		stop("%s is no table of the schema", table);
+	char *text = sqlite3_mprintf("%s", sqlite3_column_text(asked, 0));
+	sqlite3_finalize(asked);
+	char *end = text ? strrchr(text, ')') : NULL;
+	if (!end)
+		stop("%s has no columns", table);
+	end[1] = 0;
+	return text;
+}
+
+/* Puts the packed rows in the place of the table; or into it, if they are not in order. */
+static void give_packed(sqlite3 *database, const struct packed_table *table)
+{
+	char *columns = columns_text(database, table->name);
+	char *statements = table->rises
+		? sqlite3_mprintf("DROP TABLE %w; CREATE VIRTUAL TABLE %w USING packed(%Q, %s)", table->name, table->name,
+				  table->packed, columns)
+		: sqlite3_mprintf("CREATE VIRTUAL TABLE temp.unordered USING packed(%Q, %s); INSERT OR REPLACE INTO main.%w"
+				  " SELECT * FROM temp.unordered; DROP TABLE temp.unordered", table->packed, columns, table->name);
+	run(database, statements);
+	sqlite3_free(statements);
+	sqlite3_free(columns);
+	if (!table->rises)
+		unlink(table->packed);
+}
+
+/* ---- the program */
+
+static sqlite3 *made(const char *path)
+{
+	int file = open(path, O_WRONLY | O_CREAT | O_EXCL, 0644);
+	if (file < 0)
+		stop("%s: %s", path, strerror(errno));
+	close(file);
 	sqlite3 *database = NULL;
-	struct rows *current = NULL;
 	sqlite3_config(SQLITE_CONFIG_SINGLETHREAD);
 	sqlite3_config(SQLITE_CONFIG_MEMSTATUS, 0);
-	if (sqlite3_open_v2(words[1], &database, SQLITE_OPEN_READWRITE, NULL) != SQLITE_OK)
-		stop("%s: %s", words[1], sqlite3_errmsg(database));
+	if (sqlite3_open_v2(path, &database, SQLITE_OPEN_READWRITE, NULL) != SQLITE_OK)
+		stop("%s: %s", path, sqlite3_errmsg(database));
+	return database;
+}
+
+static void load(sqlite3 *database, char **words, struct packing *packing)
+{
+	const char *folder = words[1], *side = words[3], *others = side ? words[4] : NULL;
+	struct rows *current = NULL;
 	sqlite3_create_module(database, "rows", &rows_module, &current);
+	packed_module_add(database);
 	/* The file has no other user, and is made again if it is not whole: no journal, no waiting for the disk. */
 	run(database, "PRAGMA page_size=8192; PRAGMA journal_mode=OFF; PRAGMA synchronous=OFF;"
 		      " PRAGMA locking_mode=EXCLUSIVE; BEGIN");
-	run_file(database, words[3]);
-	load_tables(database, words[2], &current);
-	if (count == 5)
-		load_times(database, words[4]);
+	run_file(database, words[2]);
+	begin_packing(database, words[0], folder, packing);
+	struct packed_table *times = packed_of(packing, "side_time");
+	if (side)
+		load_side_list(database, side, times, others);
+	end_packing(packing);
+	load_tables(database, folder, packing, &current);
+	for (int number = 0; number < packing->tables; number++)
+		if (side || &packing->table[number] != times)
+			give_packed(database, &packing->table[number]);
 	run(database, "COMMIT");
+}
+
+static int usage(void)
+{
+	fputs("usage: load [--pack TABLE].. DATABASE FOLDER SCHEMA [SIDE [OTHERS]]\n", stderr);
+	return 64;
+}
+
+int main(int count, char **words)
+{
+	struct packing packing = { 0 };
+	int at = 1;
+	for (; at + 1 < count && !strcmp(words[at], "--pack"); at += 2) {
+		if (packing.tables == MOST_PACKED)
+			return usage();
+		packing.table[packing.tables++].name = words[at + 1];
+	}
+	if (count - at < 3 || count - at > 5)
+		return usage();
+	sqlite3 *database = made(words[at]);
+	load(database, words + at, &packing);
 	if (sqlite3_close(database) != SQLITE_OK)
-		stop("%s: %s", words[1], sqlite3_errmsg(database));
+		stop("%s: %s", words[at], sqlite3_errmsg(database));
 	return 0;
 }

@@ -1,13 +1,17 @@
 """From a capture to its database: the programs that read it, the side list, and the rows of the proved report."""
 
+import contextlib
+import os
 import pathlib
+import select
 import shutil
 import sqlite3
+import subprocess
 from typing import Callable
 
 from viewer.database import packages
-from viewer.database.programs import answer, build_programs, fault_in
-from viewer.database.raw_tables import load_rows
+from viewer.database.programs import Asked, answer, build_programs, fault_in
+from viewer.database.raw_tables import Loading, can_pack, load_as_it_comes, load_rows
 from viewer.database.report import load_findings, load_report
 from viewer.database.side_list import SideList
 from viewer.database.sqlite import open_database
@@ -15,6 +19,9 @@ from viewer.files import Stopped, linked, shown_name, unchanged
 from viewer.methods.known import Methods, load_methods
 from viewer.program_names import called
 from viewer.rules.judging import judge
+
+# The programs read a capture side by side if there is so much memory: so many times the capture, and so much besides.
+TIMES, BESIDE = 4, 2**28
 
 
 def load_facts(database: sqlite3.Connection, files: list[str], malformed: str | None,
@@ -31,13 +38,14 @@ def load_facts(database: sqlite3.Connection, files: list[str], malformed: str | 
 
 
 def fill(database: sqlite3.Connection, files: list[str], side: str | None, report: pathlib.Path,
-         malformed: str | None, methods: Methods | None = None, beside: list[str] | None = None) -> None:
+         malformed: str | None, methods: Methods | None = None, beside: list[str] | None = None,
+         others: pathlib.Path | None = None) -> None:
     """Adds the side list, the report and its findings to the raw tables. The driver's books are beside the side lists
-    `beside`, or else beside the side list."""
+    `beside`, or else beside the side list, of which `others` has the lines that are not loaded yet."""
     database.execute("BEGIN")
     taken = SideList(database)
     if side is not None:
-        taken.load(side)
+        taken.load(side, others)
         taken.judge()
         if taken.copies:
             from viewer.database import load_books
@@ -58,31 +66,72 @@ def compare_with_books(database: sqlite3.Connection) -> None:
         agreement.compare(database)
 
 
+def memory_for(files: list[str]) -> bool:
+    """Whether there is memory for the two programs that read a capture side by side: each takes a little more than the
+    capture has bytes, and of a hostile one more."""
+    with open("/proc/meminfo", encoding="utf-8") as lines:
+        free = next((1024 * int(line.split()[1]) for line in lines if line.startswith("MemAvailable:")), 0)
+    return free > BESIDE + TIMES * sum(os.stat(name).st_size for name in files)
+
+
+def wait_for_one(*programs: subprocess.Popen) -> None:
+    """Waits until one of the programs has ended."""
+    with contextlib.ExitStack() as opened:
+        ends = [os.pidfd_open(program.pid) for program in programs]
+        for end in ends:
+            opened.callback(os.close, end)
+        select.select(ends, [], [])
+
+
+def load_while_read(loading: Loading, listing: Asked) -> int:
+    """Loads the tables while the listing writes them. The status of the listing, 0 or 2."""
+    wait_for_one(loading.program, listing.program)
+    if loading.program.poll():  # what else can the listing do then than fail?
+        loading.end()
+    status = listing.status()
+    loading.end()
+    return status
+
+
+def tables_of(root: pathlib.Path, parts: list[pathlib.Path], side: str | None, made: pathlib.Path,
+              packs: bool) -> tuple[str | None, pathlib.Path | None]:
+    """Makes the database, with the raw tables. Returns the line of the capture's first fault, or None, and the file of
+    the lines of the side list that are left to load, if it is not the list itself."""
+    rows, told = made.with_suffix(".rows"), made.with_suffix(".told")
+    words = "--tables", rows, *parts
+    if not packs:
+        status = answer(root, told, "listing", *words)
+        load_rows(made, rows, side)
+        return fault_in(status, told), None
+    others = made.with_suffix(".others") if side is not None else None
+    with load_as_it_comes(made, rows, side, others) as loading, Asked(root, told, "listing", *words) as listing:
+        return fault_in(load_while_read(loading, listing), told), others
+
+
 def database_of(root: pathlib.Path, files: list[str], side: str | None, made: pathlib.Path,
                 tell: Callable[[str], None], methods: Methods | None = None,
-                beside: list[str] | None = None) -> str | None:
+                beside: list[str] | None = None, kept: bool = True) -> str | None:
     """Makes the database of a capture, with the report and the verdicts of the rules, and the names of methods. Returns
-    the line of the capture's first fault, or None."""
+    the line of the capture's first fault, or None. If it is not kept, a part of it stays in files beside it."""
     with unchanged(files):
         build_programs(root)
-        rows, report, told = (made.with_suffix(f".{what}") for what in ("rows", "report", "told"))
+        rows, report = made.with_suffix(".rows"), made.with_suffix(".report")
         rows.mkdir()
         parts = linked(files, rows)
-        # One after another, since each of them may need more memory than the capture has bytes.
-        tell("checking the capture")
-        malformed = fault_in(answer(root, report, "audit", "report", *parts), report)
         tell("reading the capture")
-        listed = fault_in(answer(root, told, "listing", "--tables", rows, *parts), told)
+        with Asked(root, report, "audit", "report", *parts) as audit:
+            if not memory_for(files):
+                audit.status()
+            listed, others = tables_of(root, parts, side, made, not kept and can_pack())
+            malformed = fault_in(audit.status(), report)
         if listed != malformed:
             raise Stopped(1, f"{called('listing')} and {called('audit')} do not agree: {listed!r} and {malformed!r}")
-    tell("making the database")
-    load_rows(made, rows, side)
     if malformed:
         answer(root, report, "audit", "report", rows / "before-fault.cap")
     shutil.rmtree(rows)
     database = open_database(made)
     tell("applying the rules")
-    fill(database, files, side, report, malformed, methods, beside)
+    fill(database, files, side, report, malformed, methods, beside, others)
     report.unlink()
     judge(database)
     compare_with_books(database)

@@ -25,22 +25,42 @@ def build_programs(root: pathlib.Path) -> None:
         raise Stopped(1, f"{called('audit')} and {called('listing')} could not be built")
 
 
-def answer(root: pathlib.Path, to: pathlib.Path, program: str, *words: object) -> int:
-    """Runs a program that is built and returns its status, 0 or 2. Its standard output goes into a file, since a report
-    may be as long as the capture. Its standard error is not redirected. The scripts by which users call it would take
-    more time than it does on a small capture."""
-    built = f"binder_{program}"
-    path = LIBRARY / built if PACKED else root / "crates" / built / "out" / built
-    try:
-        with open(to, "wb") as out:
-            ended = subprocess.run([path, *map(str, words)], stdin=subprocess.DEVNULL, stdout=out,
-                                   env={**LARGE_PAGES, **os.environ})
-    except OSError as error:
-        raise Stopped(1, f"{called(program)}: {error.strerror}") from error
-    if ended.returncode not in (0, 2):
-        raise Stopped(ended.returncode if ended.returncode in (3, 4) else 1,
-                      f"{called(program)} ended with status {ended.returncode}")
-    return ended.returncode
+class Asked:
+    """A program at work that is built. Its standard output goes into a file, since a report may be as long as the
+    capture. Its standard error is not redirected. The scripts by which users call it would take more time than it does
+    on a small capture."""
+
+    def __init__(self, root: pathlib.Path, to: pathlib.Path, name: str, *words: object) -> None:
+        self.name = name
+        built = f"binder_{name}"
+        path = LIBRARY / built if PACKED else root / "crates" / built / "out" / built
+        try:
+            with open(to, "wb") as out:
+                self.program = subprocess.Popen([path, *map(str, words)], stdin=subprocess.DEVNULL, stdout=out,
+                                                env={**LARGE_PAGES, **os.environ})
+        except OSError as error:
+            raise Stopped(1, f"{called(name)}: {error.strerror}") from error
+
+    def __enter__(self) -> "Asked":
+        return self
+
+    def __exit__(self, *_: object) -> None:
+        """If something else has failed, nothing goes on."""
+        self.program.kill()
+        self.program.wait()
+
+    def status(self) -> int:
+        """Waits until it ends. Its status, 0 or 2."""
+        ended = self.program.wait()
+        if ended not in (0, 2):
+            raise Stopped(ended if ended in (3, 4) else 1, f"{called(self.name)} ended with status {ended}")
+        return ended
+
+
+def answer(root: pathlib.Path, to: pathlib.Path, name: str, *words: object) -> int:
+    """Runs such a program. Its status, 0 or 2."""
+    with Asked(root, to, name, *words) as asked:
+        return asked.status()
 
 
 def fault_in(status: int, answered: pathlib.Path) -> str | None:

@@ -1,11 +1,14 @@
-"""The raw tables: from the rows of `./listing --tables` into a new database, by a loader in C."""
+"""The raw tables: from the rows of `./listing --tables` into a new database, by a loader in C. Without a database to
+keep, the longest tables are packed: they stay rows in files, in which SQLite finds them."""
 
+import ctypes
 import functools
 import os
 import pathlib
 import re
 import sqlite3
 import subprocess
+import tempfile
 from contextlib import closing
 
 from viewer.database.sqlite import UNLISTED, named_numbers
@@ -53,30 +56,69 @@ def said_by(ended: subprocess.CompletedProcess[bytes]) -> str:
     return said or f"{os.path.basename(ended.args[0])} ended with status {ended.returncode}"
 
 
-def build_loader(program: pathlib.Path) -> None:
-    """Builds the loader. Its bytes do not depend on the folder of the source."""
+# What is built, each of the sources that follow, in C.
+BUILT = {
+    "load": ("load.c", "side_lines.c", "pack_rows.c", "packer.c", "packed.c"),
+    "packed.so": ("packed.c",)}
+
+# How each is built.
+HOW = {"load": ("-pthread",), "packed.so": ("-shared", "-fPIC")}
+
+
+def build_loader(folder: pathlib.Path) -> None:
+    """Builds the loader, and the library for packed tables. Their bytes do not depend on the folder of the sources."""
     needs = subprocess.run([FOLDER.parents[1] / "packager/needs", "--as", "view", "loader"], capture_output=True)
     if needs.returncode:
         raise Stopped(1, said_by(needs).removeprefix("view: "))
-    built = subprocess.run(["cc", "-O2", "-std=gnu11", "-Wall", "-Wextra", "-o", program, "load.c", "-lsqlite3"],
-                           cwd=FOLDER, capture_output=True)
-    if built.returncode:
-        raise Stopped(1, f"the loader could not be built: {said_by(built)}")
+    for name, sources in BUILT.items():
+        words = "cc", "-O2", "-std=gnu11", "-Wall", "-Wextra", *HOW[name], "-o", folder / name, *sources, "-lsqlite3"
+        built = subprocess.run(words, cwd=FOLDER, capture_output=True)
+        if built.returncode:
+            raise Stopped(1, f"the loader could not be built: {said_by(built)}")
+
+
+def is_built(folder: pathlib.Path) -> bool:
+    """Whether all is there, and none older than a source."""
+    made = [folder / name for name in BUILT]
+    sources = [*FOLDER.glob("*.c"), *FOLDER.glob("*.h")]
+    return all(map(pathlib.Path.exists, made)) and (
+        min(it.stat().st_mtime for it in made) >= max(it.stat().st_mtime for it in sources))
 
 
 @functools.cache
 def loader() -> pathlib.Path:
-    """The loader. It is built if it is missing or older than its source."""
+    """The loader, beside the library. They are built if one is missing or older than a source."""
     if PACKED:
         return LIBRARY / "load"
-    source, program = FOLDER / "load.c", FOLDER / "out" / "load"
-    if program.exists() and program.stat().st_mtime >= source.stat().st_mtime:
-        return program
-    program.parent.mkdir(exist_ok=True)
-    new = program.with_suffix(f".{os.getpid()}")
-    build_loader(new)
-    new.replace(program)
-    return program
+    out = FOLDER / "out"
+    if not is_built(out):
+        out.mkdir(exist_ok=True)
+        with tempfile.TemporaryDirectory(prefix="new-", dir=out) as new:
+            build_loader(pathlib.Path(new))
+            for name in BUILT:
+                (pathlib.Path(new) / name).replace(out / name)
+    return out / "load"
+
+
+# ---- packed tables
+
+# The longest tables. No query but those of a timeline looks at all their rows: a rule asks for those at a place.
+PACKED_TABLES = ("raw_record", "raw_frame", "raw_delivery", "side_time")
+
+# Of these, those whose rows come while the capture is read.
+STREAMED = ("record", "frame")
+
+
+@functools.cache
+def can_pack() -> bool:
+    """Whether the SQLite of this Python reads packed tables. From now on it does so in each database that it opens;
+    but not if it is built into Python itself."""
+    try:
+        ctypes.CDLL(str(loader().with_name("packed.so"))).packed_module_add_to_all()
+    except (OSError, AttributeError):
+        return False
+    with closing(sqlite3.connect(":memory:")) as database:
+        return database.execute("SELECT 1 FROM pragma_module_list WHERE name = 'packed'").fetchone() is not None
 
 
 def refuse_other_layout(rows: pathlib.Path) -> None:
@@ -90,11 +132,50 @@ def refuse_other_layout(rows: pathlib.Path) -> None:
                          f"{called('view')} are of different versions")
 
 
+class Loading:
+    """A loader at work on a new database."""
+
+    @staticmethod
+    def words(database: pathlib.Path, rows: pathlib.Path, side: str | None, others: pathlib.Path | None,
+              packs: bool) -> list[str | pathlib.Path]:
+        """What the loader is called with: for the `.rows` files of a folder, and a side list. If the database is not
+        kept, tables are packed, and `others` gets the lines of the list that are not loaded."""
+        schema_file = rows / "schema.sql"
+        schema_file.write_text(schema(), "utf-8")
+        packed = [word for table in PACKED_TABLES for word in ("--pack", table)] if packs else []
+        return [loader(), *packed, database, rows, schema_file, *(it for it in (side, others) if it is not None)]
+
+    def __init__(self, words: list[str | pathlib.Path], rows: pathlib.Path) -> None:
+        self.rows = rows
+        self.program = subprocess.Popen(words, stdin=subprocess.PIPE, stdout=subprocess.DEVNULL, stderr=subprocess.PIPE)
+
+    def __enter__(self) -> "Loading":
+        return self
+
+    def __exit__(self, *_: object) -> None:
+        self.program.kill()
+        self.program.communicate()
+
+    def end(self) -> None:
+        """Waits until all is loaded. All files are there."""
+        if not self.program.poll():  # a loader that has failed says why
+            refuse_other_layout(self.rows)
+        _, told = self.program.communicate()
+        ended = subprocess.CompletedProcess(self.program.args, self.program.returncode, b"", told)
+        if ended.returncode:
+            raise Stopped(4, said_by(ended).removeprefix("load: "))
+
+
 def load_rows(database: pathlib.Path, rows: pathlib.Path, side: str | None) -> None:
     """Makes a new database from the `.rows` files of a folder, with the times of frames in a side list."""
-    refuse_other_layout(rows)
-    made = rows / "schema.sql"
-    made.write_text(schema(), "utf-8")
-    loaded = subprocess.run([loader(), database, rows, made, *([] if side is None else [side])], capture_output=True)
-    if loaded.returncode:
-        raise Stopped(4, said_by(loaded).removeprefix("load: "))
+    with Loading(Loading.words(database, rows, side, None, False), rows) as loading:
+        loading.end()
+
+
+def load_as_it_comes(database: pathlib.Path, rows: pathlib.Path, side: str | None,
+                     others: pathlib.Path | None) -> Loading:
+    """Begins to make a new database that is not kept, of rows that are not there yet. For those that come first there
+    are named pipes from now on."""
+    for name in STREAMED:
+        os.mkfifo(rows / f"{name}.rows", 0o600)
+    return Loading(Loading.words(database, rows, side, others, True), rows)

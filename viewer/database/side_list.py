@@ -165,10 +165,11 @@ class SideList:
         """The last number that has come in the list, of a frame or of a lost frame."""
         return max(self.told, int(self.frame[2])) if self.frame else self.told
 
-    def load(self, path: str) -> None:
-        """Takes all lines of a side list. A last line that was cut is left out."""
+    def load(self, path: str, others: pathlib.Path | None = None) -> None:
+        """Takes all lines of a side list; or those that the loader has left in a file, with the last line of a frame
+        before each. A last line that was cut is left out."""
         try:
-            with open(path, encoding="utf-8", errors="replace", newline="\n") as lines:
+            with open(others or path, encoding="utf-8", errors="replace", newline="\n") as lines:
                 self.version = version_of(next(lines, ""), path)
                 self.facts["side_list"] = self.version
                 self.read_lines(lines, path)
@@ -223,11 +224,9 @@ class SideList:
         if len(self.calls) >= 100_000:
             self.flush()
 
-    def take_frame(self, time: int, positional: list[str], _: dict[str, str]) -> None:
-        """A frame with a number that is too long for the loader."""
-        seq, = numbers(positional, 1)
-        self.told = max(self.told, seq)
-        self.database.execute("INSERT OR REPLACE INTO side_time(ts, seq) VALUES (?, ?)", (time, seq))
+    def take_frame(self, _: int, positional: list[str], __: dict[str, str]) -> None:
+        """A frame with a number of more digits than FRAME_LINE has."""
+        self.told = max(self.told, *numbers(positional, 1))
 
     def take_begin(self, time: int, _: list[str], keyed: dict[str, str]) -> None:
         if self.version > 1 and not BEGIN_FIELDS <= keyed.keys():

@@ -1,0 +1,20 @@
+/* What the parts of the loader share. */
+#include <sqlite3.h>
+#include <stddef.h>
+
+#include "packed.h"
+
+sqlite3_stmt *prepared(sqlite3 *database, const char *statement);
+
+/* A table that is packed: its name, where its rows come from, and the file of packed rows. */
+struct packed_table {
+	const char *name;
+	char *rows, *packed;
+	int columns, rises;
+};
+
+/* Packs the rows of a file or a named pipe, as `./listing --tables` writes them. */
+void pack_rows(struct packed_table *table);
+
+/* Reads a side list; side_lines.c says what becomes of its lines. `times` is packed or NULL, `others` a path or NULL. */
+void load_side_list(sqlite3 *database, const char *path, struct packed_table *times, const char *others);
