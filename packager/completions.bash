@@ -87,8 +87,8 @@ _binder_view() { # COMMAND WORD BEFORE
     --names) _binder_audit_words "$2" android ;;
     *)
       _binder_audit_options "$2" '--side --no-side --methods --symbols -o --database --groups --columns --all --against
-        --fail-on --known --trace --names --process --thread --from --to --last --between --around --slow --help
-        --version'
+        --fail-on --known --trace --names --process --thread --from --to --last --between --around --slow --timing
+        --help --version'
       ;;
   esac
 }

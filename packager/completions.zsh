@@ -128,6 +128,7 @@ case $service in
       '(--last --around)--between[show from a moment to another one]:begin: :end:' \
       '(--last --between)--around[show what is around a place]:place:' \
       '--slow[how long a call of a main thread takes at least that the page lists]:16ms or 1s:' \
+      '--timing[say how long each phase took]' \
       '(- *)--help[say what the options do]' \
       '(- *)--version[say what the programs are made of]' \
       $parts

@@ -93,7 +93,7 @@ from checks.viewer.page.growth import check_growth
 from checks.viewer.page.losses import CUTS, FAULTLESS, check_cuts, check_gaps
 from checks.viewer.page.methods import check_methods, check_unnamed
 from checks.viewer.page.moments import check_moments
-from checks.viewer.page.packed import check_broken, check_packed
+from checks.viewer.page.packed import check_broken, check_packed, check_timing
 from checks.viewer.page.reports import check_sample
 from checks.viewer.page.sections import check_sections
 from checks.viewer.page.services import CAPTURES, check_libgbinder, check_manager, check_services
@@ -126,9 +126,9 @@ BY_SCRIPTS = parts_of(check_templates, check_words, check_stopped, check_no_engi
 IN_TURN = parts_of(
     check_side, check_forms, check_no_lists, check_list_of_loader, check_renames, check_last_names, check_files,
     check_secrets, check_told, check_untimed, check_late, check_hostile, check_methods, check_unnamed, check_services,
-    check_manager, check_times, check_loader, check_packed, check_broken, check_agreement, check_copies,
-    check_bad_books, check_long_books, check_commands, check_sections, check_packages, check_bits, check_stacks,
-    check_growth, check_against, check_moments, check_windows)
+    check_manager, check_times, check_loader, check_packed, check_broken, check_timing, check_agreement,
+    check_copies, check_bad_books, check_long_books, check_commands, check_sections, check_packages, check_bits,
+    check_stacks, check_growth, check_against, check_moments, check_windows)
 
 
 def names() -> list[str]:

@@ -19,6 +19,7 @@ from viewer.files import Stopped, linked, shown_name, unchanged
 from viewer.methods.known import Methods, load_methods
 from viewer.program_names import called
 from viewer.rules.judging import judge
+from viewer.timing import Timing
 
 # The programs read a capture side by side if there is so much memory: so many times the capture, and so much besides.
 TIMES, BESIDE = 4, 2**28
@@ -110,7 +111,7 @@ def tables_of(root: pathlib.Path, parts: list[pathlib.Path], side: str | None, m
 
 def database_of(root: pathlib.Path, files: list[str], side: str | None, made: pathlib.Path,
                 tell: Callable[[str], None], methods: Methods | None = None,
-                beside: list[str] | None = None, kept: bool = True) -> str | None:
+                beside: list[str] | None = None, kept: bool = True, timing: Timing | None = None) -> str | None:
     """Makes the database of a capture, with the report and the verdicts of the rules, and the names of methods. Returns
     the line of the capture's first fault, or None. If it is not kept, a part of it stays in files beside it."""
     with unchanged(files):
@@ -130,10 +131,11 @@ def database_of(root: pathlib.Path, files: list[str], side: str | None, made: pa
         answer(root, report, "audit", "report", rows / "before-fault.cap")
     shutil.rmtree(rows)
     database = open_database(made)
-    tell("applying the rules")
+    tell("taking the side list and the report")
     fill(database, files, side, report, malformed, methods, beside, others)
     report.unlink()
-    judge(database)
+    tell("applying the rules")
+    judge(database, timing=timing)
     compare_with_books(database)
     database.close()
     return malformed

@@ -1,5 +1,6 @@
 """The rules, file after file, and the words by which their statements make texts."""
 
+import contextlib
 import functools
 import pathlib
 import sqlite3
@@ -14,6 +15,7 @@ from viewer.rules.notes import note_text
 from viewer.rules.paths import call_words, name_words, object_words, path_text, thing_words
 from viewer.rules.thresholds import THRESHOLDS
 from viewer.rules.verdicts import RANKS
+from viewer.timing import Timing
 from viewer.units import LETTERS, counted, defect_key, duration_of, status_name
 
 # The files that judge the rows of the report, in order. The first rule that fits a finding decides.
@@ -39,7 +41,7 @@ WORDS: dict[str, Callable] = {
     "bare_name": lambda name: name and short_of(name)}
 
 
-def judge(database: sqlite3.Connection, folder: pathlib.Path = FOLDER) -> None:
+def judge(database: sqlite3.Connection, folder: pathlib.Path = FOLDER, timing: Timing | None = None) -> None:
     """Gives each finding its verdict. In the statements `:BR_REPLY` is the number of that name, and `:LONG` a
     threshold. They make texts by the functions of WORDS, and after names.sql by `call_name(code, upid, ptr)`, the name
     of a call. `short_name(interface)` is what an interface is called, and `bare_name(interface)` without its package,
@@ -54,7 +56,8 @@ def judge(database: sqlite3.Connection, folder: pathlib.Path = FOLDER) -> None:
     for name in JUDGING:
         database.execute("BEGIN")
         for statement in statements_of(folder / name):
-            database.execute(statement, numbers)
+            with timing.statement(name, statement) if timing else contextlib.nullcontext():
+                database.execute(statement, numbers)
         if name == "rule.sql":
             fill(database, catalogue_of(folder))
         if name == "waits.sql":

@@ -1,11 +1,13 @@
 """Packed tables: rows that stay in files, in which SQLite finds them."""
 
 import pathlib
+import re
 import sqlite3
 from typing import Callable, Iterator
 
 from checks.kit.checking import Fail, compare
 from checks.kit.programs import DRIVER
+from checks.viewer.page.common import view
 from checks.viewer.page.sides import ODD_SIDE
 from viewer.database import loading, programs, raw_tables, side_list
 from viewer.database.sqlite import open_database
@@ -104,3 +106,14 @@ def check_broken(folder: pathlib.Path, room: pathlib.Path, fail: Fail) -> None:
         told = told_by(lambda: database.execute("SELECT sum(seq), sum(kind) FROM raw_record").fetchall())
         compare(f"a wrong file {number}", told.startswith("SQLite: "), True, fail)
         database.close()
+
+
+def check_timing(folder: pathlib.Path, room: pathlib.Path, fail: Fail) -> None:
+    """--timing names the phases in their order, and then all, which is what they sum up to."""
+    told = view(folder, room, DRIVER / "objects/capture-1.cap", "--groups", "--timing", "--no-side")[2]
+    lines = re.findall(r"^view: +([0-9]+\.[0-9]{3}) s  (.+)$", told, re.MULTILINE)
+    compare("--timing: the phases", [what for _, what in lines[:5]], [
+        "reading the capture", "taking the side list and the report", "applying the rules", "writing", "all"], fail)
+    seconds = [float(number) for number, _ in lines]
+    compare("--timing: all", abs(sum(seconds[:4]) - seconds[4]) < 0.5, True, fail)
+    compare("--timing: statements", all(re.match(r"[a-z_]+\.sql: [A-Z]", what) for _, what in lines[5:]), True, fail)
