@@ -71,7 +71,8 @@ def build_loader(folder: pathlib.Path) -> None:
     if needs.returncode:
         raise Stopped(1, said_by(needs).removeprefix("view: "))
     for name, sources in BUILT.items():
-        words = "cc", "-O2", "-std=gnu11", "-Wall", "-Wextra", *HOW[name], "-o", folder / name, *sources, "-lsqlite3"
+        words = ["cc", "-O2", "-std=gnu11", "-Wall", "-Wextra", *HOW[name], "-o", str(folder / name), *sources,
+                 "-lsqlite3"]
         built = subprocess.run(words, cwd=FOLDER, capture_output=True)
         if built.returncode:
             raise Stopped(1, f"the loader could not be built: {said_by(built)}")
