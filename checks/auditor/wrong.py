@@ -2,7 +2,9 @@
 
     checks/run wrong -- CRATE EDIT..       tries these edits of a crate
     checks/run wrong -- --all [CRATE..]    tries those stored for these crates, or for all, as `.ci/run` does: each must
-                                           be refused at the goal that it names
+                                           be refused at the goal that it names. What an earlier run on this machine has
+                                           refused, from the same sources, is not tried again
+    checks/run wrong -- --anew [CRATE..]   the same, and tries all
     checks/run wrong -- --fill [CRATE..]   the same, and writes a goal into each of these that names none
 
 The wrong bodies of a crate are stored in its folder `wrong/`. Those of four crates, whose proofs are the cheapest, are
@@ -25,8 +27,9 @@ A body that is refused only because its proof names what the function no longer 
 counts as not refused: keep the names, or mend the proof in the edit.
 
 For each edit a line says what came of it, with the goals that were left. The status is 1 if an edit was not refused, or
-not at the goal that it names, or with --all names none; 64 for another command line. As many checks run at a time as
-there are processors and memory. A crate takes as many checks as the function with most edits has edits.
+not at the goal that it names, or with --all names none; 64 for another command line. With --all the last line says how
+many were tried. As many checks run at a time as there are processors and memory. A crate takes as many checks as the
+function with most edits has edits.
 """
 
 import contextlib
@@ -39,6 +42,7 @@ import time
 from concurrent.futures import FIRST_COMPLETED, Future, ThreadPoolExecutor, wait
 from typing import Iterator, NamedTuple
 
+from checks.auditor.refused_before import Before, RefusedBefore
 from checks.kit.checking import own_room
 from checks.kit.programs import ROOT, edits_of
 from checks.kit.proving import Libraries
@@ -79,6 +83,10 @@ class Stack(NamedTuple):
     @property
     def functions(self) -> list[str]:
         return sorted(set().union(*(changed for _, changed in self.edits)))
+
+    @property
+    def paths(self) -> list[pathlib.Path]:
+        return [edit.path for edit, _ in self.edits]
 
 
 class Verdict(NamedTuple):
@@ -360,11 +368,12 @@ def fill(edit: Edit, goals: list[Goal]) -> Goal:
     return goal
 
 
-def tell(crate: str, edit: Edit, verdict: Verdict, how: str) -> bool:
-    """Prints what came of an edit, and says whether it is as it must be."""
+def tell(crate: str, edit: Edit, verdict: Verdict, how: str) -> tuple[str, bool]:
+    """Prints what came of an edit. Returns the line, and whether the edit is as it must be."""
     words, well = ending(edit, verdict, how)
-    print(f"{crate}/{edit.path.stem}: {words}{': ' * bool(verdict.why)}{verdict.why}", flush=True)
-    return well
+    line = f"{crate}/{edit.path.stem}: {words}{': ' * bool(verdict.why)}{verdict.why}"
+    print(line, flush=True)
+    return line, well
 
 
 class Tried(NamedTuple):
@@ -382,20 +391,39 @@ def tried(stack: Stack, libraries: Libraries, room: pathlib.Path) -> Tried:
     return Tried(stack, verdicts, time.monotonic() - began)
 
 
-def judge_stack(ended: Tried, how: str) -> tuple[int, list[Stack]]:
+def judge_stack(ended: Tried, how: str, before: RefusedBefore | None) -> tuple[int, list[Stack]]:
     """Says what came of each edit of a stack: returns how many are not as they must be, and those to be tried alone."""
-    crate, missed, alone = ended.stack.crate, 0, []
+    crate, told, alone = ended.stack.crate, [], []
     print(f"-- {crate}: {len(ended.verdicts)} in one check, {ended.seconds:.0f} s", flush=True)
     for (edit, _), verdict in zip(ended.stack.edits, ended.verdicts):
         is_refused = verdict.kind == "refused" and edit.goal in (None, *verdict.goals)
         if is_refused or len(ended.verdicts) == 1:
-            missed += not tell(crate, edit, verdict, how)
+            told.append(tell(crate, edit, verdict, how))
         else:
-            alone += stacks_of(crate, [edit])[0]
-    return missed, alone
+            alone.append(edit)
+    missed = sum(not well for _, well in told)
+    if before and not missed:
+        before.keep(crate, ended.stack.paths, Before([line for line, _ in told], [it.path.name for it in alone]))
+    return missed, [stack for edit in alone for stack in stacks_of(crate, [edit])[0]]
 
 
-def try_all(stacks: list[Stack], libraries: Libraries, how: str) -> int:
+def not_refused_before(stacks: list[Stack], before: RefusedBefore) -> list[Stack]:
+    """Those that no earlier run has tried; of the others it prints again what came of them."""
+    left = []
+    for stack in stacks:
+        kept = before.of(stack.crate, stack.paths)
+        if kept is None:
+            left.append(stack)
+            continue
+        print(f"-- {stack.crate}: {len(stack.edits)} in one check, in an earlier run")
+        print(*kept.lines, sep="\n", flush=True)
+        alone = [alone for edit, _ in stack.edits if edit.path.name in kept.alone
+                 for alone in stacks_of(stack.crate, [edit])[0]]
+        left += not_refused_before(alone, before)
+    return left
+
+
+def try_all(stacks: list[Stack], libraries: Libraries, how: str, before: RefusedBefore | None) -> int:
     """Tries all stacks, several at a time, the largest crates first. Returns how many edits are not as they must be."""
     missed = 0
     with own_room() as room, ThreadPoolExecutor(libraries.checks_at_once()) as pool:
@@ -405,16 +433,16 @@ def try_all(stacks: list[Stack], libraries: Libraries, how: str) -> int:
         while running:
             ended, running = wait(running, return_when=FIRST_COMPLETED)
             for one in ended:
-                more, alone = judge_stack(one.result(), how)
+                more, alone = judge_stack(one.result(), how, before)
                 missed += more
                 running |= {start(it) for it in alone}
     return missed
 
 
 def asked(words: list[str]) -> tuple[str, dict[str, list[pathlib.Path]]] | None:
-    """What the command line asks for: --all, --fill or nothing, and the edits of each crate; None if it is another
-    one."""
-    how = words[0] if words[:1] in (["--all"], ["--fill"]) else ""
+    """What the command line asks for: --all, --anew, --fill or nothing, and the edits of each crate; None if it is
+    another one."""
+    how = words[0] if words[:1] in (["--all"], ["--anew"], ["--fill"]) else ""
     crates = sorted(it.name for it in (ROOT / "crates").iterdir())
     if how:
         stored = {it: edits_of(folder_of(it)) for it in words[1:] or crates}
@@ -450,12 +478,20 @@ def main() -> int:
         missed += len(lost)
         for edit in lost:
             print(f"{crate}/{edit.path.stem}: NOT APPLIED: an old text is not there exactly once", flush=True)
+    count = sum(len(stack.edits) for stack in stacks)
     try:
-        with Libraries.below(edits) as libraries:
-            missed += try_all(stacks, libraries, how)
+        before = RefusedBefore() if how in ("--all", "--anew") else None
+        if before and how == "--all":
+            stacks = not_refused_before(stacks, before)
+        if stacks:
+            with Libraries.below({stack.crate for stack in stacks}) as libraries:
+                missed += try_all(stacks, libraries, how, before)
     except Libraries.Stopped as stopped:
         print(f"checks/wrong: {stopped}", file=sys.stderr)
         return 1
+    if before:
+        fresh = sum(len(stack.edits) for stack in stacks)
+        print(f"checks/wrong: {fresh} of {count} wrong bodies were tried; an earlier run has refused the others")
     return 1 if missed else 0
 
 
