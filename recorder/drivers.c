@@ -43,13 +43,27 @@ static int is_mangled(const char *symbol, const char *name)
 	return !strncmp(symbol, "_R", 2) && length > end_length && !strcmp(symbol + length - end_length, end);
 }
 
-static int find_mangled(const char *wanted, char *name)
+/* A compiler that optimizes a whole kernel, as for Android, may add `.llvm.` and a number to the name of a static
+ * function. With CFI it may add `.cfi`; the name alone, or with `.cfi_jt`, is then a jump to the function. */
+static int is_renamed(const char *symbol, const char *name)
+{
+	size_t length = strlen(name);
+	if (strncmp(symbol, name, length))
+		return 0;
+	const char *added = symbol + length;
+	if (!strncmp(added, ".llvm.", 6))
+		return !added[6 + strspn(added + 6, "0123456789")];
+	return !strcmp(added, ".cfi");
+}
+
+/* Finds the symbol that is the function of this name, as `is_it` tells. */
+static int find_symbol(int (*is_it)(const char *symbol, const char *name), const char *wanted, char *name)
 {
 	char line[FUNCTION_BYTES + 128];
 	int is_found = 0;
 	FILE *file = fopen("/proc/kallsyms", "r");
 	while (file && !is_found && fgets(line, sizeof line, file))
-		is_found = sscanf(line, "%*s %*s %511s", name) == 1 && is_mangled(name, wanted);
+		is_found = sscanf(line, "%*s %*s %511s", name) == 1 && is_it(name, wanted);
 	if (file)
 		fclose(file);
 	return is_found;
@@ -76,8 +90,12 @@ static int can_be_probed(const char *name)
 int driver_function(enum driver driver, const char *what, char *name)
 {
 	char wanted[32];
-	if (driver == DRIVER_IN_C)
-		return snprintf(name, FUNCTION_BYTES, "binder_%s", what) > 0;
-	snprintf(wanted, sizeof wanted, "rust_binder_%s", what);
-	return find_mangled(wanted, name) && can_be_probed(name);
+	if (driver == DRIVER_IN_RUST) {
+		snprintf(wanted, sizeof wanted, "rust_binder_%s", what);
+		return find_symbol(is_mangled, wanted, name) && can_be_probed(name);
+	}
+	snprintf(wanted, sizeof wanted, "binder_%s", what);
+	if (!find_symbol(is_renamed, wanted, name))
+		strcpy(name, wanted);
+	return 1;
 }

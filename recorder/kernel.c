@@ -134,20 +134,38 @@ static int attach_probe(struct bpf_program *to, const char *function)
 	return keep_link(bpf_program__attach_kprobe(to, false, function));
 }
 
-/* The beginnings and ends of openings are seen at functions of the driver, or else at functions that each file passes.
- * Without them all else is seen. */
+/* Returns 0 if both are attached, or an error, and then neither is. */
+static int attach_to_functions(struct bpf_program *at_open, const char *opens, struct bpf_program *at_release,
+			       const char *releases)
+{
+	int error = attach_probe(at_open, opens);
+	if (error)
+		return error;
+	error = attach_probe(at_release, releases);
+	if (error)
+		bpf_link__destroy(links[--link_count]);
+	return error;
+}
+
+/* Returns 0, or an error. Of two drivers only one attaches them: they are for both. */
+static int attach_to_all_files(void)
+{
+	static int is_done;
+	int error = is_done ? 0 : attach_to_functions(program->progs.at_any_open, "security_file_open",
+						      program->progs.at_any_release, "locks_remove_file");
+	is_done = !error;
+	return error;
+}
+
+/* The beginnings and ends of openings are seen at functions of the driver, or else, as where a compiler has put these
+ * into others, at functions that each file passes. Without them all else is seen. */
 static void attach_probes(enum driver driver)
 {
 	char opens[FUNCTION_BYTES], releases[FUNCTION_BYTES];
-	int is_bad;
-	if (driver_function(driver, "open", opens) && driver_function(driver, "release", releases)) {
-		is_bad = attach_probe(program->progs.at_open, opens) != 0;
-		is_bad |= attach_probe(program->progs.at_release, releases) != 0;
-	} else {
-		is_bad = attach_probe(program->progs.at_any_open, "security_file_open") != 0;
-		is_bad |= attach_probe(program->progs.at_any_release, "locks_remove_file") != 0;
-	}
-	if (is_bad)
+	if (driver_function(driver, "open", opens) && driver_function(driver, "release", releases) &&
+	    !attach_to_functions(program->progs.at_open, opens, program->progs.at_release, releases))
+		return;
+	if (attach_to_all_files())
 		complain("no kprobes: the beginnings and ends of openings are not recorded");
 }
 

@@ -18,6 +18,9 @@
 #     --redact           records all scenarios with --redact, but for those of stacks
 #     --stacks           records all scenarios with --stacks, but for those with --redact
 #     --append WORDS     more words for the kernel's command line
+#     --rename WORD      adds it to the names of the functions binder_open and binder_release of the driver in C, as
+#                        compilers do that optimize the whole kernel: the recorder finds them with .llvm.1234, and else
+#                        looks at all files that are opened and released
 #     --kvm              uses KVM, and not QEMU's own translator
 #     --arm64            also plays a few scenarios on Debian's kernel for arm64, with a recorder built for it
 #     --sanitize         runs the recorder under the address and undefined-behaviour sanitizers; they must find nothing
@@ -33,7 +36,7 @@ set -euo pipefail
 here=$(readlink -f -- "${BASH_SOURCE[0]}")
 root=${here%/*/*/*}
 scenarios=$root/checks/recorder/scenarios check=driver
-limit=900 flight=20 room= recorder= auditor= built= append= words_of_recorder=
+limit=900 flight=20 room= recorder= auditor= built= append= rename= words_of_recorder=
 store= arm64= rust= sanitize= blind= aosp=
 # One thread for all processors: with a thread for each, the kernel 6.12 died of a breakpoint that it had removed.
 acceleration='-accel tcg,thread=single -cpu max'
@@ -65,6 +68,7 @@ while (($#)); do
   --redact) words_of_recorder=--redact ;;
   --stacks) words_of_recorder=--stacks ;;
   --append) append=$2 && shift ;;
+  --rename) rename=$2 && shift ;;
   --kvm) acceleration='-accel kvm -cpu host' ;;
   --arm64) arm64=1 ;;
   --sanitize) sanitize=1 ;;
@@ -163,7 +167,7 @@ build_clients() {
 modules=(virtio_ring virtio virtio_pci_legacy_dev virtio_pci_modern_dev virtio_pci virtio_blk binder_linux)
 
 make_initramfs() { # KERNEL PLAN TO
-  local top=$room/initramfs file
+  local top=$room/initramfs file name
   rm -rf -- "$top"
   mkdir -p -- "$top"/{bin,lib,lib64,proc,sys,dev,out,witness,modules,tmp}
   cp -- "$programs"/* "$top/"
@@ -192,6 +196,11 @@ make_initramfs() { # KERNEL PLAN TO
   done
   touch -- "$top/modules/order"
   [[ -e $top/modules/binder_linux.ko ]] || stop 'the kernel has no module of the Binder driver'
+  if [[ -n $rename ]]; then
+    for name in binder_open binder_release; do
+      "${compiler%gcc}objcopy" --redefine-sym "$name=$name$rename" "$top/modules/binder_linux.ko"
+    done
+  fi
   (cd -- "$top" && find . | cpio -o -H newc 2>/dev/null | gzip -1) >"$3"
 }
 

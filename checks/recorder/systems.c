@@ -60,10 +60,12 @@ int main(int count, char **words)
 	need_no_preemption(PREEMPTION_UNKNOWN);
 	for (enum driver driver = 0; driver < DRIVERS; driver++) {
 		char opens[FUNCTION_BYTES], releases[FUNCTION_BYTES];
-		if (driver_is_recorded(driver))
-			printf("driver in %s: %s\n", driver_language(driver),
-			       driver_function(driver, "open", opens) && driver_function(driver, "release", releases) ?
-			       "its own functions are probed" : "functions of the kernel are probed");
+		if (!driver_is_recorded(driver))
+			continue;
+		if (driver_function(driver, "open", opens) && driver_function(driver, "release", releases))
+			printf("driver in %s: %s and %s are probed\n", driver_language(driver), opens, releases);
+		else
+			printf("driver in %s: functions of the kernel are probed\n", driver_language(driver));
 	}
 	return lack_count() != 0;
 }

@@ -3,7 +3,8 @@
 # a system with the kernel of its name: `format` files of tracepoints, some lines of kallsyms and of the functions that
 # can be probed, and of BTF the types that the recorder's programs read, which `checks/run compiled` tries. On each of
 # them nothing may be lacking. Then one tracepoint or field after the other is renamed, moved, of another size or away:
-# each of these systems must be refused in a line that names the file. So must one whose kernel is too old.
+# each of these systems must be refused in a line that names the file. So must one whose kernel is too old. And where a
+# compiler has renamed the driver's functions, those are found.
 #
 #     checks/run systems                             all stored systems: a second
 #     checks/run systems -- --store SERIES [MACHINE] boots Debian's kernel of this series in QEMU, 5.10, 6.1, 6.12 or
@@ -145,13 +146,30 @@ fields() { # TRACEPOINT: of its fields those that the recorder reads
   esac
 }
 
+# The symbols of a kernel whose compiler renames functions, and which of them are the functions.
+renamed='0 t binder_open.cfi_jt
+0 t binder_open.llvm.1234.cfi_jt
+0 t binder_open.cold
+0 t binder_open
+0 t binder_open_wrong.llvm.1234
+0 t binder_open.llvm.1234
+0 t binder_release
+0 t binder_release.cfi'
+
 for system in "$here"/systems/*/; do
   system=${system%/}
-  due='driver in C: its own functions are probed'
+  due='driver in C: binder_open and binder_release are probed'
   if [[ $system == */rust-* ]]; then due='driver in Rust: functions of the kernel are probed'; fi
   said=$("$room/systems" "$system" 2>&1) || true
   [[ $said == "$due" ]] || wrong "${system##*/}: $said"
   rm -rf -- "$room/changed" && cp -R -- "$system" "$room/changed"
+  if [[ $due == 'driver in C'* ]]; then
+    chmod u+w "$room/changed/proc/kallsyms" && printf '%s\n' "$renamed" >>"$room/changed/proc/kallsyms"
+    said=$("$room/systems" "$room/changed" 2>&1) || true
+    [[ $said == 'driver in C: binder_open.llvm.1234 and binder_release.cfi are probed' ]] ||
+      wrong "${system##*/}, with functions that are renamed: $said"
+    cp -- "$system/proc/kallsyms" "$room/changed/proc/kallsyms"
+  fi
   chmod u+w "$room/changed/release" && printf '5.9.16-amd64\n' >"$room/changed/release"
   refused "$system" 'the kernel is 5.9.16-amd64, and 5.10 or a later one is needed' 'kernel 5.9'
   cp -- "$system/release" "$room/changed/"
