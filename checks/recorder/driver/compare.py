@@ -148,7 +148,8 @@ def end_differences(recording):
         yield "end", "all", "after", after, max(numbers, default=0)
 
 
-MISSED = {"crowd": "calls-without-number"}  # what a scenario makes the recorder miss
+# What a scenario makes the recorder miss.
+MISSED = {"crowd": "calls-without-number", "old-protocol": "calls-of-32-bits"}
 COUNTS = {  # by the word of the side list: how the last line of the recorder names the same
     "events": "events missed", "calls-without-number": "calls without a number",
     "calls-of-32-bits": "calls of 32-bit programs, not recorded"}
