@@ -90,6 +90,7 @@ needs python3 python3
 if [[ -n $arm64 ]]; then
   needs qemu-system-aarch64 qemu-system-arm
   needs aarch64-linux-gnu-gcc 'gcc-aarch64-linux-gnu libc6-dev-arm64-cross'
+  needs arm-linux-gnueabihf-gcc 'gcc-arm-linux-gnueabihf libc6-dev-armhf-cross'
 fi
 
 if [[ -z $room ]]; then
@@ -129,7 +130,7 @@ take_programs() { # CHECKOUT
 # ---- the guest
 
 build_programs() {
-  local flags=(-O2 -Wall -Wextra -Werror) source=(
+  local compiler_of_32 flags=(-O2 -Wall -Wextra -Werror) source=(
     "$scenarios"/{scenarios,raw,send,processes,service,calls,held,ends,odd,many,faults,gaps,greedy,clients,crowd}.c
     "$scenarios"/{secret,hoard,people,before,forgetful,apart,frozen}.c)
   programs=$room/programs-$architecture
@@ -139,11 +140,12 @@ build_programs() {
   "$compiler" "${flags[@]}" -fno-omit-frame-pointer -Wl,--build-id -o "$programs/scenarios.framed" "${source[@]}" \
     -lpthread
   "$compiler" "${flags[@]}" -static -o "$programs/scenarios.static" "${source[@]}" -lpthread
-  if [[ $machine == x86_64 ]]; then
-    # The kernel's headers are named, as gcc-multilib, which links them, can't be installed beside a compiler for arm64.
-    gcc -m32 -isystem /usr/include/x86_64-linux-gnu "${flags[@]}" -Wno-pointer-to-int-cast -Wno-int-to-pointer-cast \
-      -static -o "$programs/scenarios.32" "${source[@]}" -lpthread
-  fi
+  # For x86-64 the kernel's headers are named, as gcc-multilib, which links them, can't be installed beside a compiler
+  # for arm64.
+  compiler_of_32=(gcc -m32 -isystem /usr/include/x86_64-linux-gnu)
+  if [[ $machine == aarch64 ]]; then compiler_of_32=(arm-linux-gnueabihf-gcc); fi
+  "${compiler_of_32[@]}" "${flags[@]}" -Wno-pointer-to-int-cast -Wno-int-to-pointer-cast -static \
+    -o "$programs/scenarios.32" "${source[@]}" -lpthread
 }
 
 # libgbinder of Debian sid, what it needs, and a service and a client on it: a library that was not written for the
