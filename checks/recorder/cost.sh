@@ -1,5 +1,5 @@
 #!/usr/bin/env bash
-# Measures what recording costs, on Debian's 6.1 kernel in QEMU, and prints a table; it is run by hand. A client makes
+# Measures what recording costs, on a kernel of Debian in QEMU, and prints a table; it is run by hand. A client makes
 # calls to a service (cost/calls.c), bare, recorded, and recorded with stacks; and files of no driver are opened, bare
 # and looked at by the recorder (cost/opens.c):
 #
@@ -14,6 +14,8 @@
 #     --room FOLDER      where packages and results are kept; by default a temporary folder that is removed
 #     --guest NAME       only this guest; may be given several times: aarch64-1, aarch64-4, x86_64-1, x86_64-4, each
 #                        with so many processors, and x86_64-kvm; by default aarch64-1 and aarch64-4
+#     --kernel SERIES    6.1, or 5.10, whose kernel gets the programs for older ones; there no files are opened, as
+#                        opens.c has only the other programs; by default 6.1
 #     --limit SECONDS    how long a guest may take; by default 1800
 #
 # The status is 1 if a guest did not come to its end, or lost frames.
@@ -22,7 +24,7 @@ set -euo pipefail
 here=$(readlink -f -- "${BASH_SOURCE[0]}")
 root=${here%/*/*/*}
 scenarios=$root/checks/recorder/scenarios cost=$root/checks/recorder/cost check=cost
-room= limit=1800 chosen=() guests=(aarch64-1 aarch64-4)
+room= series=6.1 limit=1800 chosen=() guests=(aarch64-1 aarch64-4)
 acceleration=
 # shellcheck source=checks/recorder/guests.sh
 source "$root/checks/recorder/guests.sh"
@@ -31,6 +33,7 @@ while (($#)); do
   case $1 in
   --room) room=$2 && shift ;;
   --guest) chosen+=("$2") && shift ;;
+  --kernel) series=$2 && shift ;;
   --limit) limit=$2 && shift ;;
   *) stop "$1 is not an option; the head of this script lists them" ;;
   esac
@@ -65,8 +68,10 @@ make_initramfs() { # GUEST TO
   # It keeps frame pointers, for the stacks.
   "$compiler" -O2 -fno-omit-frame-pointer -Wall -Wextra -Werror -static "-I$scenarios" -o "$top/calls" \
     "$cost"/{calls,mark}.c "$scenarios"/{raw,send,processes}.c
-  "$compiler_of_recorder" -O2 -std=gnu11 -Wall -Wextra -Werror -static "-I$root/recorder" -isystem "${recorder%/*}" \
-    -o "$top/opens" "$cost"/{opens,mark}.c "$root/recorder/common.c" -lbpf -lelf -lz
+  if [[ $series != 5.10 ]]; then
+    "$compiler_of_recorder" -O2 -std=gnu11 -Wall -Wextra -Werror -static "-I$root/recorder" \
+      -isystem "${recorder%/*}" -o "$top/opens" "$cost"/{opens,mark}.c "$root/recorder/common.c" -lbpf -lelf -lz
+  fi
   file=$(module_files "$kernel" binder_linux)
   [[ -n $file ]] || stop 'the kernel has no module of the Binder driver'
   cp -- "$file" "$top/modules/"
@@ -89,7 +94,7 @@ settings_of() { # GUEST
 
 play() { # GUEST
   as_machine "${1%-*}"
-  fetch_kernel 6.1 || stop "the registry has no kernel 6.1 for $architecture"
+  fetch_kernel "$series" || stop "the registry has no kernel $series for $architecture"
   if [[ $machine == aarch64 ]]; then
     build_recorder_for_arm64 || stop 'the recorder for arm64 was not built'
     compiler_of_recorder=$room/compiler-arm64

@@ -5,8 +5,9 @@
 #           written
 # and writes a line for each: `cost: calls HOW BYTES COUNT NANOSECONDS` and
 # `cost: rate HOW BYTES COUNT NANOSECONDS LOADER IDLE CAPTURE SIDE`, where LOADER is in nanoseconds, as is IDLE, what it
-# takes of as long a time without calls. `stack: NUMBER` is how many functions the longest stack has. Before that files
-# are opened and closed (opens.c), bare and looked at, with lines `cost: opens HOW 0 COUNT NANOSECONDS`.
+# takes of as long a time without calls. `stack: NUMBER` is how many functions the longest stack has. Before that, if
+# there is /opens, files are opened and closed (opens.c), bare and looked at, with lines
+# `cost: opens HOW 0 COUNT NANOSECONDS`.
 # shellcheck shell=dash disable=SC2013,SC2086
 /bin/busybox --install -s /bin
 export PATH=/bin
@@ -69,7 +70,7 @@ rate() { # HOW BYTES COUNT
 	echo "cost: rate $1 $2 $3 $took $loader $idle $capture $side"
 }
 
-/opens 2000 || echo "init: no files were opened"
+if [ -e /opens ]; then /opens 2000 || echo "init: no files were opened"; fi
 # So many calls fit into the ring of the recorder.
 while read -r bytes count more; do
 	calls bare $bytes $count
