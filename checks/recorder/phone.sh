@@ -8,8 +8,8 @@
 #     --room FOLDER      where packages and results are kept; by default a temporary folder that is removed
 #     --guest NAME       only this guest; may be given several times: x86_64-newest (Debian sid's kernel, with mksh and
 #                        toybox as commands), aarch64-6.1 and aarch64-newest (with busybox), x86_64-enforcing (the
-#                        first one with SELinux and the policy phone/one_domain.cil), and x86_64-5.10, whose kernel
-#                        gets the programs for older ones
+#                        first one with SELinux and the policy phone/one_domain.cil), and x86_64-5.10, the same on a
+#                        kernel that gets the programs for older ones
 #     --record FILE      the command; by default ./record, else for example /usr/bin/binder-record of a package
 #     --limit SECONDS    how long a guest may take to begin, and for each thing that it does; by default 1200
 #     --only NAME        only this scene of phone/play.py; may be given several times
@@ -178,9 +178,9 @@ play() { # GUEST
   as_machine "${1%%-*}"
   if [[ $machine == x86_64 ]]; then shell=toybox; fi
   case $series in
-  5.10) if ((${#only[@]} == 0)); then scenes=(--only session); fi ;;
-  enforcing)
-    series=newest policy=$phone/one_domain.cil
+  5.10 | enforcing)
+    if [[ $series == enforcing ]]; then series=newest; fi
+    policy=$phone/one_domain.cil
     if ((${#only[@]} == 0)); then scenes=(--only no_bpf --only session); fi
     ;;
   esac

@@ -26,6 +26,8 @@ else
 	/busybox --install -s /bin
 fi
 /busybox cp /system-programs/service /bin/service
+printf '#!/bin/sh\necho package:org.example.app uid:10123\n' >/bin/pm
+/busybox chmod 755 /bin/pm
 /busybox chmod 666 /dev/binder
 /busybox chown 0:0 /su/su
 /busybox chmod 4755 /su/su

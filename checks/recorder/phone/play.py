@@ -15,6 +15,7 @@ import time
 from typing import Callable, Iterator, NamedTuple
 
 SERVICES = {"clock", "notes", "audio.mixer", "org.example.IPower/default", "search"}
+APP = "org.example.app", "org.example.app"  # the process that is an app, and its package
 FOLDER = "/data/local/tmp/binder-record"
 
 
@@ -237,6 +238,12 @@ def services_named(stage: Stage, name: str) -> set[str]:
         return {row[0] for row in opened.execute("SELECT service FROM node_service WHERE service NOTNULL")}
 
 
+def packages_in(stage: Stage, name: str) -> set[tuple[str, str]]:
+    """The processes of users with a package, and that, by the database that `services_named` made."""
+    with contextlib.closing(sqlite3.connect(stage.given.out / f"{name}.db")) as opened:
+        return set(opened.execute("SELECT p.name, g.name FROM process p JOIN package g USING (uid)"))
+
+
 def interrupted(stage: Stage, name: str, *words: str) -> None:
     """Records for some seconds in the middle of the life of the system, and ends it as Ctrl-C does."""
     recording = stage.start(stage.serials[0], "-o", name, *words)
@@ -249,17 +256,21 @@ def interrupted(stage: Stage, name: str, *words: str) -> None:
 
 
 def session(stage: Stage) -> None:
-    """A page of a session that began in mid-life has the names of all services, and the leak."""
+    """A page of a session that began in mid-life has the names of all services, the package of the app, and the
+    leak."""
     interrupted(stage, "session")
     stage.must("not all services have names", services_named(stage, "session") == SERVICES)
+    packages = packages_in(stage, "session")
+    stage.must(f"the packages are {packages}", packages == {APP})
     groups = stage.view("session", "--groups").said
     stage.must(f"the leak has no group: {groups}", re.search(r"never freed.*\bcode 2\b.*\bnotes\b", groups) is not None)
 
 
 def no_names(stage: Stage) -> None:
-    """With --no-names nothing is asked, and no service has a name."""
+    """With --no-names nothing is asked, and no service has a name, and no user a package."""
     interrupted(stage, "unnamed", "--no-names")
     stage.must("services have names", services_named(stage, "unnamed") == set())
+    stage.must("users have packages", packages_in(stage, "unnamed") == set())
 
 
 def older_adb(stage: Stage) -> None:

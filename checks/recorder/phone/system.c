@@ -1,6 +1,7 @@
 /* system: a small Android for a guest: a manager of names, services that register with it, and an app that calls them.
  * All are there long before a recording. The service `notes` never frees what comes with code 2. `system fill FOLDER`
  * calls one with much data, until the file system of a folder is full, and somewhat longer. */
+#define _GNU_SOURCE
 #include <stdio.h>
 #include <string.h>
 #include <sys/ioctl.h>
@@ -115,7 +116,9 @@ static void service(void)
 	serve_with(exchange);
 }
 
-/* ---- the app */
+/* ---- the app: as on Android, a process of a user of its own */
+
+enum { USER = 10123 };
 
 static uint32_t look_up(struct exchange *exchange, const char *name)
 {
@@ -140,6 +143,7 @@ static void ask(struct exchange *exchange, uint32_t handle, const struct service
 
 static void app(void)
 {
+	if (setresgid(USER, USER, USER) || setresuid(USER, USER, USER)) fail("the user of the app");
 	struct exchange *exchange = opened("binder");
 	uint32_t handles[SERVICES];
 	for (int i = 0; i < SERVICES; i++) handles[i] = look_up(exchange, services[i].name);
