@@ -23,6 +23,7 @@
 #                        looks at all files that are opened and released
 #     --kvm              uses KVM, and not QEMU's own translator
 #     --arm64            also plays a few scenarios on Debian's kernel for arm64, with a recorder built for it
+#     --arm64-alone      plays nothing else
 #     --sanitize         runs the recorder under the address and undefined-behaviour sanitizers; they must find nothing
 #     --store            also renews samples/driver from the results of the newest kernel; with --rust some of them, as
 #                        NAME-rust
@@ -70,7 +71,8 @@ while (($#)); do
   --append) append=$2 && shift ;;
   --rename) rename=$2 && shift ;;
   --kvm) acceleration='-accel kvm -cpu host' ;;
-  --arm64) arm64=1 ;;
+  --arm64) arm64=too ;;
+  --arm64-alone) arm64=alone ;;
   --sanitize) sanitize=1 ;;
   --store) store=1 ;;
   --blind) blind=$2 && shift ;;
@@ -291,6 +293,7 @@ try() { # PLANS OUT WORDS WHOLE: boots the kernel, plays the plans, compares
 }
 
 for one in "${series[@]}"; do
+  if [[ $arm64 == alone ]]; then break; fi
   if [[ $one == rust ]]; then
     use_rust_kernel || stop 'there is no kernel with the driver in Rust'
   elif ! fetch_kernel "$one"; then
@@ -312,7 +315,7 @@ for one in "${series[@]}"; do
       -rust "${stored_of_rust[@]}"
   fi
 done
-((found)) || stop 'no kernel was found'
+((found)) || [[ $arm64 == alone ]] || stop 'no kernel was found'
 
 if [[ -n $arm64 ]]; then
   as_machine aarch64
