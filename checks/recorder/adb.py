@@ -11,7 +11,7 @@ What must hold:
 - If the connection is lost, if bytes come wrong, or if a file is in the way, a line says so, the recording stays on the
   device, and --fetch fetches it. So it does what --detach began.
 - One command at a time has the folder on the device. Another one says who has it, and takes nothing from it, but what
-  a killed command left. Of two that fetch, one says that the other one did.
+  a killed command left. Of two that fetch, one says that the other one did. A recording outlives a start of the device.
 - No file is fetched under a name that no recording makes, and no control character of the device comes through.
 - All that the device lacks is said, by a recording and by --check, and nothing is left there: also that it runs no
   program in the folder. So is what this system lacks of Python.
@@ -263,6 +263,22 @@ def check_left(device: Device) -> None:
         shutil.rmtree(device.folder(), ignore_errors=True)
 
 
+def check_restarted(device: Device) -> None:
+    """What was recorded before the device was started anew stays there until it is fetched."""
+    device.what = "a device that was started anew"
+    device.says(["-o", "before", "--", "true"], 0, *PREPARED, READY, COUNTS, FETCHED.format("before"))
+    device.folder().mkdir(mode=0o700)
+    for path in (device.room / "out").glob("before[-.]*"):
+        path.rename(device.folder() / f"capture{path.name.removeprefix('before')}")
+    shutil.copy(ROOT / "recorder/adb/on_device.sh", device.folder())
+    for name, text in {"owner": "another.1 1 somebody@elsewhere another 9", "state": "recording", "pid": "1"}.items():
+        (device.folder() / name).write_text(f"{text}\n", "ascii")
+    device.says(["-o", "more"], 1, r"record: one has a recording in \S+/binder-record already; to fetch it:"
+                r" \S+ --adb one --fetch -o more")
+    device.says(["--fetch", "-o", "restarted"], 1, FETCHED.format("restarted"))
+    device.fetched("restarted")
+
+
 def check_interrupted(device: Device) -> None:
     device.what = "SIGINT before the recording"
     with device.held("chmod"):
@@ -406,9 +422,9 @@ def check_server(device: Device) -> None:
 
 def judge(_: argparse.Namespace, room: pathlib.Path, fail: Fail) -> None:
     device = Device(room, fail)
-    for part in (check_sessions, check_detached, check_packages, check_two, check_left, check_interrupted,
-                 check_fetched_twice, check_lacking, check_lacking_here, check_lost, check_lost_early, check_strange,
-                 check_devices, check_server):
+    for part in (check_sessions, check_detached, check_packages, check_two, check_left, check_restarted,
+                 check_interrupted, check_fetched_twice, check_lacking, check_lacking_here, check_lost,
+                 check_lost_early, check_strange, check_devices, check_server):
         part(device)
 
 
