@@ -61,7 +61,8 @@ BUILT = {
     "load": ("load.c", "side_lines.c", "pack_rows.c", "packer.c", "packed.c"),
     "packed.so": ("packed.c",)}
 
-# How each is built.
+# How all are built, as Debian's programs are, and how each.
+HARDENED = ("-D_FORTIFY_SOURCE=2", "-Wl,-z,relro,-z,now")
 HOW = {"load": ("-pthread",), "packed.so": ("-shared", "-fPIC")}
 
 
@@ -71,8 +72,8 @@ def build_loader(folder: pathlib.Path) -> None:
     if needs.returncode:
         raise Stopped(1, said_by(needs).removeprefix("view: "))
     for name, sources in BUILT.items():
-        words = ["cc", "-O2", "-std=gnu11", "-Wall", "-Wextra", *HOW[name], "-o", str(folder / name), *sources,
-                 "-lsqlite3"]
+        words = ["cc", "-O2", "-std=gnu11", "-Wall", "-Wextra", *HARDENED, *HOW[name], "-o", str(folder / name),
+                 *sources, "-lsqlite3"]
         built = subprocess.run(words, cwd=FOLDER, capture_output=True)
         if built.returncode:
             raise Stopped(1, f"the loader could not be built: {said_by(built)}")
