@@ -3,8 +3,8 @@
 -- numbers in place of names, and joined lines, as views.sql has.
 -- needs: schema.sql: book_handle, capture, method, object_interface, object_service, raw_call, raw_capture,
 --   raw_delivery, raw_generation, raw_interface, raw_object, raw_process, raw_record, raw_send, raw_service,
---   raw_thread, side_process, side_thread, side_time; numbers.sql: kind, verdict; views.sql: sent_to; rules/nodes.sql:
---   node_of, who; rules/groups.sql: traffic; rules/defects.sql: call_text
+--   raw_thread, side_process, side_thread, side_time; numbers.sql: kind, verdict; rules/nodes.sql: node_of, who;
+--   rules/groups.sql: traffic; rules/defects.sql: call_text
 -- makes: views: txn, holder, death_request, fd_sent, looper, sender
 
 -- The outcome of a call is how its thread saw it end; that of a oneway transaction is what became of it at the driver.
@@ -161,19 +161,22 @@ SELECT
   f.received_fd
 FROM (
     SELECT d.send AS sent, d.place AS received, a.idx, d.seq, s.upid AS sender_upid, t.upid AS receiver_upid,
-      r.kind = :BR_REPLY AS reply, coalesce(q.code, r.code) AS code, coalesce(q.upid, t.upid) AS upid,
-      coalesce(q.ptr, r.ptr) AS ptr, coalesce(a.num_fds, 1) AS count, o.fd, a.fd AS received_fd
+      r.kind = :BR_REPLY AS reply, coalesce(c.code, r.code) AS code, coalesce(n.upid, -g.upid, t.upid) AS upid,
+      coalesce(n.ptr, c.handle, r.ptr) AS ptr, coalesce(a.num_fds, 1) AS count, o.fd, a.fd AS received_fd
     FROM raw_object a JOIN raw_delivery d USING (place) JOIN raw_record r USING (place)
       JOIN raw_thread t ON t.utid = d.utid
       LEFT JOIN raw_send w ON w.place = d.send LEFT JOIN raw_thread s ON s.utid = w.utid
       LEFT JOIN raw_object o ON (o.place, o.idx) = (d.send, a.idx)
-      LEFT JOIN sent_to q ON r.kind = :BR_REPLY AND q.place = d.call
+      LEFT JOIN raw_record c ON r.kind = :BR_REPLY AND c.place = d.call
+      LEFT JOIN raw_send e ON e.place = c.place LEFT JOIN raw_generation g ON g.id = e.generation
+      LEFT JOIN node_of n ON n.generation = e.generation
     WHERE a.sort IN (:FD, :FDA)
     UNION ALL
-    SELECT s.place, NULL, o.idx, s.seq, t.upid, q.upid, r.kind IN (:BC_REPLY, :BC_REPLY_SG), r.code, q.upid, q.ptr,
-      coalesce(o.num_fds, 1), o.fd, NULL
+    SELECT s.place, NULL, o.idx, s.seq, t.upid, n.upid, r.kind IN (:BC_REPLY, :BC_REPLY_SG), r.code,
+      coalesce(n.upid, -g.upid), coalesce(n.ptr, r.handle), coalesce(o.num_fds, 1), o.fd, NULL
     FROM raw_object o JOIN raw_send s USING (place) JOIN raw_record r USING (place)
-      JOIN raw_thread t ON t.utid = s.utid LEFT JOIN sent_to q ON q.place = s.place
+      JOIN raw_thread t ON t.utid = s.utid LEFT JOIN raw_generation g ON g.id = s.generation
+      LEFT JOIN node_of n ON n.generation = s.generation
     WHERE o.sort IN (:FD, :FDA) AND s.delivery IS NULL) f
   LEFT JOIN who ws ON ws.upid = f.sender_upid LEFT JOIN who wr ON wr.upid = f.receiver_upid
   LEFT JOIN call_text k ON (k.code, k.upid, k.ptr) = (f.code, f.upid, f.ptr)
@@ -184,6 +187,26 @@ FROM (
 -- it calls is its innermost call without an answer, if that came later. Threads that ended before the last frame are
 -- left out.
 CREATE VIEW looper AS
+WITH said AS MATERIALIZED (
+    SELECT utid, max(CASE WHEN kind <> :BC_EXIT_LOOPER THEN place END) AS entered,
+      max(kind = :BC_REGISTER_LOOPER) AS spawned,
+      max(CASE WHEN kind = :BC_EXIT_LOOPER THEN place ELSE 0 END) AS left_at
+    FROM raw_record WHERE kind IN (:BC_ENTER_LOOPER, :BC_REGISTER_LOOPER, :BC_EXIT_LOOPER) GROUP BY utid),
+  taker AS (
+    SELECT utid, entered, spawned FROM said WHERE entered > left_at
+    UNION ALL
+    SELECT DISTINCT utid, NULL, NULL FROM raw_call
+    WHERE served AND depth = 1 AND utid NOT IN (SELECT utid FROM said)),
+  unanswered AS MATERIALIZED (
+    SELECT utid, max(CASE WHEN served THEN place END) AS serving, max(CASE WHEN served THEN 0 ELSE place END) AS calling
+    FROM raw_call WHERE verdict = 0 GROUP BY utid),
+  at_work AS MATERIALIZED (
+    SELECT k.utid, k.entered, k.spawned, coalesce(u.serving, d.place) AS serving,
+      CASE WHEN u.calling > coalesce(u.serving, d.place, 0) THEN u.calling END AS calling
+    FROM taker k LEFT JOIN unanswered u USING (utid) LEFT JOIN raw_thread t USING (utid)
+      LEFT JOIN raw_record r ON r.place = t.last_record AND r.kind IN (:BR_TRANSACTION, :BR_TRANSACTION_SEC_CTX)
+        AND r.flags & :TF_ONE_WAY
+      LEFT JOIN raw_delivery d ON d.place = r.place AND d.freed_by IS NULL)
 SELECT
   l.utid,
   t.upid,
@@ -206,35 +229,14 @@ SELECT
   ws.who AS client,
   d.send,
   l.calling,
-  q.upid AS called_upid,
+  coalesce(n.upid, -g.upid) AS called_upid,
   wq.who AS called,
+  coalesce(n.ptr, q.handle) AS called_ptr,
   y.interface AS called_interface,
   q.code AS called_code,
   y.method AS called_method,
   coalesce(y.call, 'code ' || q.code) AS called_call
-FROM (
-    SELECT utid, entered, spawned, serving, CASE WHEN calling > coalesce(serving, 0) THEN calling END AS calling
-    FROM (
-        SELECT
-          o.utid,
-          o.entered,
-          o.spawned,
-          coalesce(
-            (SELECT max(c.place) FROM raw_call c WHERE c.utid = o.utid AND c.served AND c.verdict = 0),
-            (SELECT d.place FROM raw_thread e JOIN raw_delivery d ON d.place = e.last_record WHERE e.utid = o.utid
-              AND d.call IS NULL AND d.freed_by IS NULL)) AS serving,
-          (SELECT max(c.place) FROM raw_call c WHERE c.utid = o.utid AND NOT c.served AND c.verdict = 0) AS calling
-        FROM (
-            SELECT utid, max(entered) AS entered, max(spawned) AS spawned
-            FROM (
-                SELECT utid, max(CASE WHEN kind <> :BC_EXIT_LOOPER THEN place END) AS entered,
-                  max(kind = :BC_REGISTER_LOOPER) AS spawned,
-                  max(CASE WHEN kind = :BC_EXIT_LOOPER THEN place ELSE 0 END) AS left_at
-                FROM raw_record WHERE kind IN (:BC_ENTER_LOOPER, :BC_REGISTER_LOOPER, :BC_EXIT_LOOPER) GROUP BY utid)
-            WHERE entered > left_at GROUP BY utid
-            UNION ALL
-            SELECT DISTINCT utid, NULL, NULL FROM raw_call WHERE served AND depth = 1 AND utid NOT IN (
-              SELECT utid FROM raw_record WHERE kind IN (:BC_ENTER_LOOPER, :BC_REGISTER_LOOPER, :BC_EXIT_LOOPER))) o)) l
+FROM at_work l
   JOIN raw_thread t USING (utid) JOIN raw_process p USING (upid), raw_capture z
   LEFT JOIN side_thread u USING (device, process, thread)
   LEFT JOIN raw_record r ON r.place = l.serving LEFT JOIN raw_interface i ON i.id = r.interface
@@ -242,8 +244,10 @@ FROM (
   LEFT JOIN method m ON (m.interface, m.code) = (i.name, r.code)
   LEFT JOIN raw_delivery d ON d.place = l.serving
   LEFT JOIN raw_send w ON w.place = d.send LEFT JOIN raw_thread s ON s.utid = w.utid
-  LEFT JOIN sent_to q ON q.place = l.calling LEFT JOIN call_text y ON (y.code, y.upid, y.ptr) = (q.code, q.upid, q.ptr)
-  LEFT JOIN who wt ON wt.upid = t.upid LEFT JOIN who ws ON ws.upid = s.upid LEFT JOIN who wq ON wq.upid = q.upid
+  LEFT JOIN raw_record q ON q.place = l.calling LEFT JOIN raw_send o ON o.place = l.calling
+  LEFT JOIN raw_generation g ON g.id = o.generation LEFT JOIN node_of n ON n.generation = o.generation
+  LEFT JOIN call_text y ON (y.code, y.upid, y.ptr) = (q.code, coalesce(n.upid, -g.upid), coalesce(n.ptr, q.handle))
+  LEFT JOIN who wt ON wt.upid = t.upid LEFT JOIN who ws ON ws.upid = s.upid LEFT JOIN who wq ON wq.upid = n.upid
   LEFT JOIN side_time x ON x.seq = r.seq
 WHERE u.ended_after IS NULL OR u.ended_after >= z.last_seq;
 
