@@ -77,6 +77,17 @@ def replies_of_two_paths(s, other, first=(3, 0), second=(1, 1)):
     s.wait(200)
 
 
+@case("U3:3")
+def replies_kept_by_two(s):
+    """Two processes keep all replies to a code, and none of them keeps many."""
+    service, client = s.two()
+    for process, kept in (client, 2), (s.process(300, "other"), 1):
+        for _ in range(kept):
+            process.main.asks(service.main, 7, free=False)
+        process.main.asks(service.main, 2)
+    s.wait(200)
+
+
 @case("U3:3 U4:1", calls=(3, 0), oneway=(1, 1))
 @case("U4:4", calls=(2, 0), oneway=(2, 0))
 def calls_and_oneway_sends_kept(s, calls, oneway):

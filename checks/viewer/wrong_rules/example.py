@@ -185,8 +185,8 @@ KNOWN: dict[str, dict[str, str]] = {
                for what, text in {"b": "' of ' || c", "' of '": "b || c", "c": "b || ' of '"}.items()},
             **{what: f"a = b || ' of ' || c, d = (SELECT {columns} FROM f) WHERE coalesce('x' || l, m) = 'y' || n"
                for what, columns in {"without DISTINCT": "g AS h, j, k, *",
-                                     "exchanged: g and j": "DISTINCT j AS h, g, k, *",
-                                     "exchanged: j and k": "DISTINCT g AS h, k, j, *"}.items()},
+                                     "exchanged: g and j": "DISTINCT j AS h, g AS j, k, *",
+                                     "exchanged: j and k": "DISTINCT g AS h, k AS j, j AS k, *"}.items()},
             **{what: f"a = b || ' of ' || c, d = (SELECT DISTINCT g AS h, j, k, * FROM f) WHERE {term}"
                for what, term in {"without coalesce('x' || l, m) = 'y' || n": "1",
                                   "coalesce without 'x' || l": "(m) = 'y' || n",

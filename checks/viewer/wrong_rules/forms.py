@@ -165,16 +165,23 @@ class Maker:
             yield from self.one_less(items, "text without", "||")
 
     def exchanged(self, items: list[Item]) -> Iterator[Change]:
-        """The columns of a SELECT, each exchanged with the next one. What they are called stays where it is."""
+        """The columns of a SELECT, each exchanged with the next one. The names of both stay where they are."""
         members = [split(member, "AS") for member in split(items[items[0].says("DISTINCT"):], ",")]
         for one, other in zip(members, members[1:]):
             # `AS left` is no name here: LEFT begins a clause.
             if not all((*one, *other)) or one[0][-1].says("*") or other[0][-1].says("*"):
                 continue
             first, second = (self.statement[slice(*span(member[0]))] for member in (one, other))
-            between = self.statement[one[0][-1].end:other[0][0].start]
             yield Change(f"exchanged: {self.said(*span(one[0]))} and {self.said(*span(other[0]))}", one[0][0].start,
-                         other[0][-1].end, f"{second}{between}{first}")
+                         other[-1][-1].end, f"{second}{self.name_in(one)}, {first}{self.name_in(other)}")
+
+    def name_in(self, member: list[list[Item]]) -> str:
+        """What a column of a SELECT is called, with AS: by a name of its own, or by that of the column that it is."""
+        name = member[-1][-1]
+        if len(member) > 1 or all(isinstance(item, Token) and (item.kind == "word" or item.says("."))
+                                  for item in member[0]):
+            return f" AS {self.statement[name.start:name.end]}"
+        return ""
 
     def summands(self, items: list[Item]) -> Iterator[Change]:
         """The summands of a sum, each left out. A sign at the beginning, or after another one, is no sum."""
