@@ -7,6 +7,7 @@ If something is not so, a line on standard error says what, and the status is 1.
 """
 
 import fnmatch
+import functools
 import pathlib
 import re
 import sqlite3
@@ -79,14 +80,19 @@ class Recorded(NamedTuple):
     compared: int
 
 
+@functools.cache
+def methods_of_system() -> str:
+    status, table, err = answer([ROOT / "viewer/methods/table.py", HERE / "system"], encoding="utf-8")
+    if status:
+        raise SystemExit(f"checks/aosp: the table of methods was not made: {err.strip()}")
+    return table
+
+
 def viewed(folder: pathlib.Path) -> Recorded | str:
     """Calls `./view` for a recording, with the methods of the small system. A text says why it said nothing."""
     with tempfile.TemporaryDirectory(prefix="checks-aosp.") as room:
         made, methods = pathlib.Path(room) / "made.db", pathlib.Path(room) / "methods"
-        status, table, err = answer([ROOT / "viewer/methods/table.py", HERE / "system"], encoding="utf-8")
-        if status:
-            return f"the table of methods was not made: {err.strip()}"
-        methods.write_text(table, "utf-8")
+        methods.write_text(methods_of_system(), "utf-8")
         captures = sorted(folder.glob("capture-*.cap"), key=lambda path: int(path.stem.split("-")[1]))
         status, out, err = answer([ROOT / "view", *captures, "--side", folder / "capture.side", "--groups",
                                    "--database", made, "--methods", methods], encoding="utf-8")
