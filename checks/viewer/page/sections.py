@@ -16,7 +16,6 @@ def text_of(cell: str) -> str:
     return re.sub(r"<[^>]*>", "", re.sub(r'<span class="of">.*?</span>', "", cell)).partition(">")[2].strip()
 
 
-
 def sections_of(page: str) -> dict[str, list[list[str]]]:
     """The rows of each folded section, by the first words of its title, each cell without markup and times of day."""
     found = {}

@@ -14,7 +14,7 @@ from typing import NamedTuple
 
 from checks.kit.checking import Fail, compare
 from checks.kit.programs import DRIVER
-from checks.viewer.page.common import stored, texts_stored, written
+from checks.viewer.page.common import AT_END, stored, texts_stored, view, written
 from checks.viewer.page.reports import check_harmless
 from checks.viewer.sessions.session import Session
 from viewer.database import symbols
@@ -115,7 +115,7 @@ def shown_with(folder: pathlib.Path, room: pathlib.Path, side: str, *words: obje
                             f"list-{number}.side", "-o", shown, "--database", room / f"made-{number}.db",
                             *map(str, words)], cwd=room, env=environment, capture_output=True,
                            encoding="utf-8", timeout=120)
-    return ended.returncode, ended.stderr, shown
+    return ended.returncode, AT_END.sub("", ended.stderr), shown
 
 
 def text_of(shown: pathlib.Path) -> str:
@@ -251,7 +251,7 @@ def check_recorded(folder: pathlib.Path, room: pathlib.Path, fail: Fail) -> None
            "forgetful-frameless": (["libc.so.6+0xfdd6b", "6 of 6 have it:"], 1)}
     for name, (texts, most) in due.items():
         shown = room / f"{name}.html"
-        subprocess.run([folder / "view", *stored(name), "-o", shown, "--symbols", DRIVER / name], cwd=room, check=True)
+        view(folder, room, *stored(name), "-o", shown, "--symbols", DRIVER / name)
         compare(f"{name}: what its page does not say", [one for one in texts if one not in text_of(shown)], [], fail)
         compare(f"{name}: the most functions of a stack", max(open_frames(shown.read_text("utf-8"))), most, fail)
 
@@ -296,7 +296,7 @@ def check_freed(folder: pathlib.Path, room: pathlib.Path, program: Program, fail
              f" freed; in its place 3 have {shown}."))):
         capture = written(play_freed(program, refreshed, printed), room, f"freed-{number}")
         made = room / f"freed-{number}.html"
-        subprocess.run([folder / "view", *capture, "-o", made, *words], cwd=room, check=True)
+        view(folder, room, *capture, "-o", made, *words)
         told = [line for line in text_of(made).replace("</p>", "\n").splitlines() if "the same process freed" in line]
         compare(f"freed: {refreshed} and {printed} others, {words}", [due in line for line in told], [True] * bool(due),
                 fail)
