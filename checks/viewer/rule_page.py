@@ -13,7 +13,7 @@ from checks.kit.checking import FLAG, check
 from checks.kit.programs import DRIVER, ROOT
 from checks.viewer.page.common import VERDICTS, verdicts
 from checks.viewer.sessions.cases import Case
-from viewer.rules.catalogue import FOLDER, Rule, catalogue_of
+from viewer.rules.catalogue import FOLDER, Called, Rule, catalogue_of, read
 from viewer.rules.thresholds import TABLE, in_words, value_of
 from viewer.rules.verdicts import RANKS
 
@@ -25,9 +25,10 @@ NAMED = re.compile(r"`([^`]+)`")
 # ---- the tables
 
 # A table is made of what the line before it says.
-MADE = re.compile(r"^<!-- (rules|thresholds)((?: [A-Z])*) -->\n(?:\|.*\n)*", re.MULTILINE)
+MADE = re.compile(r"^<!-- (rules|thresholds|kinds)((?: [A-Z])*) -->\n(?:\|.*\n)*", re.MULTILINE)
 OF_RULES = ("rule", "verdict", "the page says", "look next at", "thresholds", "a session that meets it")
 OF_THRESHOLDS = ("name", "value", "meaning")
+OF_KINDS = ("a line says", "rules of its own", "section")
 
 
 def table_of(head: Iterable[str], rows: Iterable[Iterable[str]]) -> Iterator[str]:
@@ -50,16 +51,45 @@ def cells_of(rule: Rule) -> list[str]:
             rule.fields.get("met by", "")]
 
 
-def table_in(found: re.Match) -> str:
-    """What a table has to be, with the line before it."""
-    head, rows = (OF_RULES, map(cells_of, rules_in(found[2].split()))) if found[1] == "rules" else \
-        (OF_THRESHOLDS, ([f"`{name}`", value_of(name), in_words(threshold.meaning)] for name, threshold in TABLE.items()
-                         if threshold.meaning))
-    return found[0].partition("\n")[0] + "\n" + "".join(table_of(head, rows))
+def threshold_rows() -> Iterator[list[str]]:
+    yield from ([f"`{name}`", value_of(name), in_words(threshold.meaning)] for name, threshold in TABLE.items()
+                if threshold.meaning)
+
+
+def headings_of(text: str) -> dict[str, str]:
+    """The heading above the table of the rules of each letter, and above the order of the rules of each section."""
+    found, heading = {}, ""
+    for line in text.splitlines():
+        heading = line.removeprefix("## ") if line.startswith("## ") else heading
+        names = re.findall(r"[A-Z]", line) if line.startswith("<!-- rules") else line.split()[:1]
+        found.update((name, heading) for name in names if line.startswith(("<!-- rules", "    ")))
+    return found
+
+
+def kind_rows(text: str) -> Iterator[list[str]]:
+    """The kinds of findings, as lines of groups have them: which rules give a kind of their own, and where they are."""
+    catalogue, headings = catalogue_of(FOLDER), headings_of(text)
+    letters = {rule.file: rule.letter for rule in catalogue.rules}
+    own = [(title, rule.id, headings.get(rule.letter)) for rule in catalogue.rules for _, title in rule.titles()]
+    others = [(one.title, "", headings.get(letters.get(file, one.section))) for file, one in called_by_file()]
+    for title in sorted({title for title, *_ in (*own, *others)}):
+        rules = dict.fromkeys(rule for kind, rule, _ in own if kind == title)
+        heading = next(heading for kind, _, heading in (*others, *own) if kind == title) or ""
+        yield [title, ", ".join(rules), f"[{heading}](#{heading.lower().replace(' ', '-')})"]
+
+
+def called_by_file() -> Iterator[tuple[str, Called]]:
+    """What findings of a section are called, each with the file that says it."""
+    for path in sorted(FOLDER.glob("*.sql")):
+        yield from ((path.name, one) for one in read(path) if isinstance(one, Called))
 
 
 def made(text: str) -> str:
     """The page with the tables that it has to have."""
+    def table_in(found: re.Match) -> str:
+        head, rows = {"rules": (OF_RULES, map(cells_of, rules_in(found[2].split()))),
+                      "thresholds": (OF_THRESHOLDS, threshold_rows()), "kinds": (OF_KINDS, kind_rows(text))}[found[1]]
+        return found[0].partition("\n")[0] + "\n" + "".join(table_of(head, rows))
     return MADE.sub(table_in, text)
 
 
