@@ -1,8 +1,8 @@
 -- Findings in groups, and who talks to whom: what the page shows first.
 -- needs: database/schema.sql: finding, raw_call, raw_delivery, raw_generation, raw_record, raw_send, side_time;
---   database/views.sql: process; nodes.sql: node_of, who; names.sql: call_named, code_named; paths.sql: given, way;
---   rule.sql: rule, title; causes.sql: led_by; judging.py: bare_name, call_words, counted, path_text, rank_of,
---   short_name, status_name
+--   database/views.sql: process; nodes.sql: node_of, who; names.sql: call_named, code_named; paths.sql: given,
+--   given_way, way; rule.sql: rule, title; causes.sql: led_by; judging.py: bare_name, call_words, counted, path_text,
+--   rank_of, short_name, status_name
 -- after: texts.sql
 -- makes: tables: finding_head, finding_group, traffic; temporary tables: titled, alike_name, alike_way, named, ranked,
 --   common, paths; indexes: titled_kind, alike_name_of, alike_way_of, head_of_group, ranked_group, common_of, paths_of
@@ -103,15 +103,22 @@ SELECT
 FROM named n JOIN finding_head h USING (id) GROUP BY 1;
 CREATE UNIQUE INDEX temp.common_of ON common(grp);
 
--- Of each path in a group how many there are, as far as it is counted. Of what came a way, the way is the path, and not
--- the object.
+-- Of each path in a group how many there are, as far as it is counted. Of handles, these are all that came the ways of
+-- those in the group, from whomever, if no giver is named.
 CREATE TEMP TABLE paths AS
 SELECT grp, sum(n_all) AS n_all
 FROM (
-  SELECT h.grp, max(f.n_all) AS n_all FROM named n JOIN finding_head h USING (id) JOIN finding f USING (id)
-  WHERE f.n_all NOTNULL
-  GROUP BY h.grp, f.relation, f.code, iif(f.relation = 'given', 0, f.about), iif(f.relation = 'given', 0, f.node), f.way,
-    f.giver, f.status, iif(f.relation = 'handle', f.handle, 0), iif(f.section = 'handles', f.upid, 0))
+  SELECT k.grp, w.n AS n_all
+  FROM (
+    SELECT DISTINCT h.grp, v.upid, v.way, f.giver
+    FROM named n JOIN finding_head h USING (id) JOIN finding f USING (id) JOIN given v USING (generation)
+    WHERE f.section = 'handles' AND f.n_all NOTNULL) k
+    JOIN given_way w ON (w.way, w.upid) = (k.way, k.upid) AND w.sender IS coalesce(k.giver, w.sender)
+  UNION ALL
+  SELECT h.grp, max(f.n_all) AS n_all
+  FROM named n JOIN finding_head h USING (id) JOIN finding f USING (id)
+  WHERE f.section <> 'handles' AND f.n_all NOTNULL
+  GROUP BY h.grp, f.relation, f.code, f.about, f.node, f.way, f.status)
 GROUP BY 1;
 CREATE UNIQUE INDEX temp.paths_of ON paths(grp);
 
