@@ -35,7 +35,7 @@ SELECT f.id, d.kind = 'BR_REPLY' AS reply, d.code, d.handle,
 FROM finding f JOIN handle h ON h.generation = f.generation JOIN delivery d ON d.place = h.given_by
   LEFT JOIN send a ON a.place = d.call AND d.kind = 'BR_REPLY' LEFT JOIN node_of n ON n.generation = a.generation
   LEFT JOIN send s ON s.place = d.send
-WHERE f.rule IN ('H5', 'H8', 'H9', 'H10', 'H12', 'H13', 'H14');
+WHERE f.relation = 'given';
 
 -- What each finding is about: a call, by its code and its node, and how the finding belongs to it; or a handle, a node
 -- or an address. If the node of a call or a handle is not known, upid has the process that holds it with a minus, and
@@ -105,4 +105,4 @@ INSERT INTO finding_defect
 SELECT id, defect_key(kind, who, coalesce(path, '')) FROM told;
 CREATE INDEX finding_of_defect ON finding_defect(defect);
 
-INSERT INTO capture VALUES ('prints', 3);
+INSERT INTO capture VALUES ('prints', 4);

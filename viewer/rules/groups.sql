@@ -49,7 +49,7 @@ SELECT
   f.path,
   v.sender AS giver,
   -- A way stands for what came so.
-  CASE WHEN f.relation <> 'given' THEN f.relation WHEN w.reply THEN 'given by replies to' ELSE 'given by calls of' END
+  CASE WHEN f.relation IS NOT 'given' THEN f.relation WHEN w.reply THEN 'given by replies to' ELSE 'given by calls of' END
     AS relation,
   iif(f.relation = 'given', w.code, f.code) AS code,
   iif(f.relation = 'given', w.interface, f.interface) AS interface,
@@ -63,7 +63,7 @@ SELECT
     WHEN f.relation IN ('to', 'reply to', 'at', 'oneway at') OR f.relation = 'handle' AND f.about > 0
     THEN iif(f.about > 0, (SELECT name FROM alike_name a WHERE a.upid = f.about), 'a handle') END AS other
 FROM finding f JOIN rule r ON r.id = f.rule JOIN titled k USING (rule, section, what)
-  LEFT JOIN given v ON v.generation = f.generation AND f.rule IN ('H5', 'H6', 'H8', 'H9', 'H10', 'H13', 'H14')
+  LEFT JOIN given v ON v.generation = f.generation AND f.relation = 'given' AND f.rule <> 'H12'
   LEFT JOIN alike_way w ON w.id = f.way
 WHERE f.lead IS NULL;
 -- What is real and what is maybe on like paths is one group, with the strongest verdict of its findings. Methods and
@@ -144,7 +144,7 @@ CREATE TABLE finding_group(
 INSERT INTO finding_group
 SELECT h.grp, k.verdict, n.title,
   iif(min(iif(f.lead IS NULL, f.path, NULL)) = max(iif(f.lead IS NULL, f.path, NULL)), n.path, o.likeness)
-    || iif(count(DISTINCT iif(f.lead IS NULL, f.upid, NULL)) > 1 AND (n.rule IN ('H5', 'H8', 'H9', 'H10', 'H13', 'H14')
+    || iif(count(DISTINCT iif(f.lead IS NULL, f.upid, NULL)) > 1 AND (n.relation GLOB 'given *' AND n.rule <> 'H6'
       OR min(iif(f.lead IS NULL, f.path, NULL)) <> max(iif(f.lead IS NULL, f.path, NULL))),
       ' in ' || count(DISTINCT iif(f.lead IS NULL, f.upid, NULL)) || ' processes', ''),
   sum(f.lead IS NULL), s.n_all,

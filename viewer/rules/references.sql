@@ -1,11 +1,11 @@
--- H3 to H12, H14, T, U: references to handles and nodes that are held, and those that are balanced.
+-- H3 to H12, H14, H15, T, U: references to handles and nodes that are held, and those that are balanced.
 -- needs: database/schema.sql: finding, raw_generation, raw_record, raw_thread, side_time; nodes.sql: manager, node_of,
 --   who; records.sql: dead_record, told_death; paths.sql: given, given_way, thing_path; ages.sql: ended, last, leaving,
 --   process_life; handles.sql: handle_row; rule.sql: lossy; waits.sql: waits; ways.sql: collector, earlier,
 --   kept_handle, kept_way, let_go, of_way, outlived, recorded
 -- makes: temporary tables: mourned, dead_way, outlives, let_go_later, taken_again, reference_change, most_held,
---   more_references, nearly_all, growing, by_design, overdue, unused, outliving, not_collected, kept_elsewhere,
---   weakly_kept; indexes: taken_again_of, most_held_of, more_references_of, by_design_of
+--   more_references, each_again, nearly_all, growing, by_design, overdue, unused, outliving, not_collected,
+--   kept_elsewhere, weakly_kept; indexes: taken_again_of, most_held_of, more_references_of, by_design_of
 
 -- ---- what findings are called
 
@@ -70,6 +70,12 @@
 --   met by: `beside_a_collector()`: an app keeps one of four
 --   fault: references kept
 --   where frames are missing: M2
+-- H15 real: {TOO_MANY} or more objects that came this way were each taken more than once and are held, up to the end.
+--   next: the code that takes what comes this way: each acquire needs a release
+--   rests on: TOO_MANY, MANY, GROWTH, LATELY
+--   met by: `each_taken_twice()`: a client takes twice what replies give it
+--   fault: references taken more than once
+--   where frames are missing: H4
 
 -- ---- what they say of which finding
 
@@ -169,6 +175,26 @@ UPDATE finding SET
 FROM raw_generation g JOIN most_held m ON m.generation = g.id LEFT JOIN more_references o ON o.generation = g.id
 WHERE rule IS NULL AND section = 'handles' AND what = 'held' AND g.id = finding.generation
   AND (m.strong > 1 AND g.strong > 0 OR m.weak > 1 AND g.weak > 0);
+-- H15. One reference too many of each of many objects of a way, which become more up to the end.
+CREATE TEMP TABLE each_again AS
+SELECT o.way FROM of_way o JOIN finding f USING (generation)
+WHERE f.rule = 'H4'
+GROUP BY 1
+HAVING count(*) >= :TOO_MANY AND sum(o.came_left < :LATELY) >= max(:MANY, :GROWTH * count(*))
+  AND sum(o.came_left < :LATELY / 2) > 0 AND sum(o.came_left >= :LATELY / 2 AND o.came_left < :LATELY) > 0;
+UPDATE finding SET rule = 'H15' FROM of_way o
+WHERE rule = 'H4' AND o.generation = finding.generation AND o.way IN (SELECT way FROM each_again);
+-- They are told by the way, and each object by its note. What the context manager gives are services, each with a path
+-- of its own.
+UPDATE finding SET
+  code = g.code,
+  relation = 'given',
+  way = g.way,
+  giver = iif(g.reply, NULL, g.sender),
+  note = coalesce(note || '; ', '') || (SELECT path FROM thing_path t WHERE t.id = finding.id)
+FROM given g
+WHERE rule IN ('H4', 'H11', 'H15') AND g.generation = finding.generation AND g.way NOTNULL
+  AND coalesce(g.sender NOT IN (SELECT upid FROM manager), 1);
 -- H5. One handle from each of many is registration, many from one may be a leak: the ways of which nearly all handles
 -- are kept.
 CREATE TEMP TABLE nearly_all AS
@@ -184,7 +210,8 @@ FROM (SELECT o.way, coalesce(b.kept, 0) AS early,
     coalesce(b.later, 0) + sum(came_left >= :LATELY / 2 AND (o.kept OR went_left < :LATELY / 2)) AS later,
     coalesce(b.kept, 0) + sum(o.kept) AS kept
   FROM of_way o LEFT JOIN earlier b USING (way)
-  WHERE o.generation NOT IN (SELECT generation FROM finding WHERE rule IN ('H3', 'H4', 'H11', 'H12')) GROUP BY o.way)
+  WHERE o.generation NOT IN (SELECT generation FROM finding WHERE rule IN ('H3', 'H4', 'H11', 'H12', 'H15'))
+  GROUP BY o.way)
 WHERE kept - half >= max(:MANY, :GROWTH * kept) AND half < later AND later < kept;
 -- But what is in use and does not grow is a cache, also one that goes on changing what it has: so the ways of it, with
 -- how many have no rule yet, and how many of these are in use.
@@ -278,7 +305,7 @@ WHERE rule IN ('H5', 'H8', 'H9', 'H10', 'H14') AND k.generation = finding.genera
 -- A death recipient of libbinder keeps its object weakly, until it is unlinked.
 CREATE TEMP TABLE weakly_kept AS
 SELECT f.id FROM finding f JOIN raw_generation g ON g.id = f.generation
-WHERE f.rule IN ('H4', 'H5', 'H8', 'H9', 'H10', 'H11', 'H14') AND g.strong = 0 AND g.weak > 0
+WHERE f.rule IN ('H4', 'H5', 'H8', 'H9', 'H10', 'H11', 'H14', 'H15') AND g.strong = 0 AND g.weak > 0
   AND EXISTS (SELECT 1 FROM finding q WHERE q.section = 'requests' AND q.generation = g.id);
 UPDATE finding SET note = coalesce(note || '; ', '') || 'held weakly, with a request for its death'
 WHERE id IN (SELECT id FROM weakly_kept);

@@ -1,7 +1,7 @@
 """More sessions as in cases.py: handles that came the same way, of which a process keeps nearly all or some."""
 
-from checks.kit.captures import (BC_ACQUIRE, BC_DECREFS, BC_INCREFS, BC_RELEASE, BC_REQUEST_DEATH_NOTIFICATION, ENTER,
-                                 each, of_handle, offsets, watch)
+from checks.kit.captures import (BC_ACQUIRE, BC_INCREFS, BC_RELEASE, BC_REQUEST_DEATH_NOTIFICATION, ENTER, each,
+                                 of_handle, offsets, watch)
 from checks.viewer.sessions.cases import case, with_server
 from checks.viewer.sessions.session import node_object
 
@@ -276,6 +276,36 @@ def had_before(s, gains=(2, 2, 2, 2), lets_go=(2, 2, 2, 2), stays=0, passing=0, 
         client.main.asks((other if of_other else server).main, 8, handle, 0x100 * handle)
     quarters.plays(server, gains, passing, uses=uses, of_before=lets_go, at=at)
     s.wait(rests)
+
+
+@case("H15:12", "real references taken more than once: 12 of 12 given by replies to code 5 of server 300 node 0x9000 H15"
+      " (2 times, weakly, and let go of 0 times; handle 20, server 300 node 0x1400)",
+      "defect: references taken more than once | client on binder | given by replies to code 5 of server; key ")
+@case("H15:10", gains=(3, 3, 2, 2))
+@case("H4:9", "maybe references taken more than once: 9 of 9 given by replies to code 5 of server 300 node 0x9000 H4",
+      gains=(3, 2, 2, 2))
+@case("H15:10", gains=(3, 3, 3, 1))
+@case("H4:10", gains=(4, 3, 2, 1))
+@case("H4:12", gains=(4, 4, 4, 0))
+@case("H4:12", gains=(4, 4, 0, 4))
+@case("H15:44", gains=(20, 19, 3, 2))
+@case("H4:45", gains=(21, 20, 2, 2))
+@case("H4:12", lost=True)
+@case("H15:12", has_side=False)
+def each_taken_twice(s, gains=(3, 3, 3, 3), lost=False):
+    """In each part of its time a client takes weak references twice of what it gets, and lets go of none."""
+    manager, client, server = with_server(s)
+    if lost:
+        s.loses(client)
+    quarters, at = Quarters(s, client, manager), 20
+    for part, gained in enumerate(gains):
+        quarters.lasts(part + 0.2)
+        for handle in range(at, at + gained):
+            client.main.is_given(server.main, handle, weakly=True, **SERVER)
+            client.main.writes(*each(BC_INCREFS, handle))
+        at += gained
+    quarters.lasts(4)
+    client.main.asks(manager.main)
 
 
 # ---- some are kept, and others let go of
