@@ -36,6 +36,7 @@ class Capture:
         self.fault = fault_of(malformed, [os.path.basename(file) for file in files]) if malformed else None
         self.who = dict(database.execute("SELECT upid, who FROM who"))
         self.rules = dict(database.execute("SELECT id, text FROM rule"))
+        self.looks = dict(database.execute("SELECT id, next FROM rule"))
         self.names = Names(database)
         self.times = Times(database)
 

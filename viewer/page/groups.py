@@ -1,6 +1,6 @@
 """The groups of findings, with what the page shows of each."""
 
-from typing import Iterator
+from typing import Iterator, NamedTuple
 
 from viewer.page.around_place import lane_of
 from viewer.page.capture import ROWS, Capture
@@ -14,6 +14,25 @@ FINDINGS, LANES = 100, 300
 Marks = dict[str, list[str]]
 
 
+class Finding(NamedTuple):
+    """A finding, as the page shows it. `row` is that of the proved report; `lasted` is how long it has lasted, and
+    `longest` the longest of its path that came to a good end, of `good` ones."""
+    section: str
+    place: int | None
+    utid: int | None
+    upid: int
+    rule: str
+    note: str | None
+    row: str | None
+    thread: int | None
+    id: int
+    lasted: int | None
+    good: int | None
+    longest: int | None
+    ts: int | None
+    size: int | None
+
+
 class Group:
     """A group. It has no more findings than the page shows, and one."""
 
@@ -21,7 +40,7 @@ class Group:
         (self.number, self.verdict, self.title, self.path, self.n, self.n_all, self.first, self.last, self.waiting,
          rules, self.note) = row
         self.rules = rules.split(",")
-        self.found = capture.asked("findings", self.number, FINDINGS + 1)
+        self.found = [Finding(*row) for row in capture.asked("findings", self.number, FINDINGS + 1)]
         self.who = [upid for upid, in capture.asked("group_who", self.number)]
         keys = [key for key, in capture.asked("group_keys", self.number)]
         self.marks = list(dict.fromkeys(mark for key in keys for mark in marks.get(key, ())))
@@ -30,11 +49,21 @@ class Group:
         self.stacks = GroupStacks(stacks, self.number)
         self.lane: tuple | None = None
 
+    @property
+    def columns(self) -> dict[str, bool]:
+        """The columns of its table that say something, each with whether it has numbers."""
+        def some(name: str) -> bool:
+            return any(getattr(one, name) is not None for one in self.found)
+        said = {"place": True, "at": some("ts"), "held for": some("lasted"), "others at most": some("good"),
+                "size": some("size"), "thread": True, "rule": len(self.rules) > 1,
+                "note": bool({one.note for one in self.found} - {None, "", self.note}), "row of the report": True}
+        return {name: name in ("place", "at", "held for", "others at most", "size") for name in said if said[name]}
+
     def plot_of(self, capture: Capture) -> Plot | None:
         """How many findings it has over time or, of few, where they are."""
         if self.n >= 8:
             return growth_of(capture, self.number)
-        places = [place for _, place, *_ in self.found if place is not None]
+        places = [one.place for one in self.found if one.place is not None]
         return strip(places, capture.facts["bytes"]) if places else None
 
 
@@ -62,8 +91,8 @@ class Groups:
 
     def give_lane(self, group: Group) -> None:
         """Gives a group the place of its first finding that has a thread, and the lines around that."""
-        for _, place, utid, *_ in group.found:
-            if place is not None and utid is not None:
+        for one in group.found:
+            if one.place is not None and one.utid is not None:
                 self.lanes += 1
-                group.lane = place, list(lane_of(self.capture, utid, place))
+                group.lane = one.place, list(lane_of(self.capture, one.utid, one.place))
                 return

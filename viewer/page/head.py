@@ -17,7 +17,7 @@ def head_of(capture: Capture) -> dict[str, object]:
         "kernel": capture.facts.get("kernel"), "machine": capture.facts.get("machine"),
         "begin_ts": capture.facts.get("begin_ts"),
         "devices": ask("SELECT name, driver FROM device WHERE name NOTNULL ORDER BY device LIMIT 21"),
-        "agreed": agreement.line_of(capture.database),
+        "agreed": agreement.line_of(capture.database), "differs": capture.count("disagreement") > 0,
         "met": ask("SELECT who FROM who JOIN process USING (upid) WHERE met IS NOT 'from-start' AND upid NOT IN (SELECT"
                    " upid FROM book_opening WHERE moment = 'begin' UNION SELECT upid FROM book_process) ORDER BY upid"
                    " LIMIT 21"),

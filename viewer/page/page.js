@@ -1,5 +1,5 @@
-// Sorts a table by the column whose head is pressed, hides the rows and groups without the words in the box, and opens
-// what is folded where it is needed. The page can be read without this script.
+// Sorts a table by the column whose head is pressed, copies the command of a place that is pressed, hides the rows and
+// groups without the words in the box, and opens what is folded where it is needed. The page can be read without this script.
 'use strict';
 
 const numberOr = text => {
@@ -30,6 +30,14 @@ for (const head of document.querySelectorAll('table.sorted th')) {
   head.append(button);
   button.addEventListener('click', () => sortBy(head));
 }
+
+// A place that is pressed is copied with the command that shows its record.
+const command = document.querySelector('.command').textContent;
+document.querySelector('.copies').textContent = ' Press a place to copy that command.';
+document.addEventListener('click', event => {
+  const pressed = event.target.closest('.place');
+  if (pressed && navigator.clipboard) navigator.clipboard.writeText(command.replace('PLACE', () => pressed.textContent));
+});
 
 // The texts of what can be hidden, each read once.
 const all = [...document.querySelectorAll('details.group, table.sorted tbody tr')];

@@ -55,9 +55,9 @@ def asked_of(capture: Capture, shown: Shown) -> dict[str, object]:
     """What templates ask. Sections ask when they are written, so that no two are in memory."""
     groups = Groups(capture, shown.marks)
     return {"who": capture.who, "names": capture.names, "times": capture.times, "rules": capture.rules,
-            "command": capture.command, "asked": capture.rows, "count": capture.count, "groups": groups.of,
-            "left": groups.left, "most": FINDINGS, "all_verdicts": VERDICTS, "columns_of": columns_of,
-            "growths": lambda: growths_of(capture), "axis": lambda: axis_of(capture),
+            "looks": capture.looks, "command": capture.command, "asked": capture.rows, "count": capture.count,
+            "groups": groups.of, "left": groups.left, "most": FINDINGS, "all_verdicts": VERDICTS,
+            "columns_of": columns_of, "growths": lambda: growths_of(capture), "axis": lambda: axis_of(capture),
             "has_stacks": groups.stacks.are_there, "gone": shown.gone, "calls": lambda: calls_of(capture),
             "slow": capture.slow, "slow_calls": lambda: capture.asked("main_thread", ROWS, capture.slow),
             "groups_shown": len(capture.groups)}

@@ -40,7 +40,7 @@ def session() -> Session:
 # What the page says of the session, without markup.
 ON_PAGE = (
     "IIds.tenth (code 10) to service 100 node 0x100", "IPlain code 1 to service 100 node 0x200",
-    "0x100 check.forms.IIds or others IIds.tenth (code 10) call 2 0 1", "IIds code 99 call 1",
+    "check.forms.IIds or others , handle 1, node 0x100 IIds.tenth (code 10) call 2 0 1", "IIds code 99 call 1",
     "IIds.getInterfaceVersion (code 16777215) call 1", "IBinder.pingBinder (code _PNG) call 1", "7 call 1",
     "IIds.third or others (code 3) call 3", "oneway IIds.first (code 1) at service 100 node 0x100",
     "handle=1 code=10 method=IIds.tenth data_size=", "handle=2 code=1 interface=IPlain data_size=",

@@ -207,7 +207,8 @@ class Shown(html.parser.HTMLParser):
         given = dict(attributes)
         self.scripts += tag == "script"
         self.apart += tag == "bdi"
-        self.bad += [name for name in given if name.startswith("on") or name in ("src", "href")]
+        self.bad += [name for name, value in attributes if name.startswith("on") or name == "src"
+                     or name == "href" and not re.fullmatch(r"#rule-[A-Z][0-9]+", value or "")]
         if tag in ("iframe", "img", "object", "embed", "base", "link", "form"):
             self.bad.append(tag)
         if tag in ("td", "div", "tr", "span") and not self.inside and given.get("class") == "proved":
@@ -276,6 +277,10 @@ def check_sample(folder: pathlib.Path, room: pathlib.Path, files: list[pathlib.P
     compare(f"{name}, rows that are not on its page", sorted(proved_due(report) - set(proved)), [], fail)
     compare(f"{name}, what has the mark of a proved row, and no text", proved.count(""), 0, fail)
     compare(f"{name}, names without a space between", re.findall("</bdi><bdi>[^<]+", text), [], fail)
+    rules = {rule for rule, in database.execute("SELECT DISTINCT rule FROM finding")}
+    compare(f"{name}, the rules of its page", set(re.findall(' id="rule-([^"]*)"', text)), rules, fail)
+    linked = set(re.findall('href="#rule-([^"]*)"', text))
+    compare(f"{name}, rules that a link names and the page lacks", linked - rules, set(), fail)
     if side is not None:
         compare(f"{name}, groups", groups_of(database), groups_due(files[0].parent.name), fail)
     database.close()

@@ -51,5 +51,5 @@ def check_bits(folder: pathlib.Path, room: pathlib.Path, fail: Fail) -> None:
         view(folder, room, stored("clean")[0], "--side", "bits.side", "-o", "bits.html")
         texts = texts_of(room / "bits.html")
         compare(f"bits of {name}, how many", f"{due} calls of 32 bits." in texts, due is not None, fail)
-        which = set(re.findall(r" (\w+) \d+ 0 \d+ 0 \d+, 32 bits ", texts))
+        which = set(re.findall(r" (\w+) \d+ binder \d+ 0 \d+, 32 bits ", texts))
         compare(f"bits of {name}, which", which, {name} if due else set(), fail)

@@ -164,23 +164,38 @@ def check_killed(words: list, run: dict, kept: pathlib.Path, fail: Fail) -> None
     (kept / "view-of-mine").rmdir()
 
 
+# The sections that are not folded.
+SECTIONS = ["Look at these", "Explained", "Calls without an answer, and those that took longest", "Growth", "Processes",
+            "Who talks to whom", "Rules", "The heads of the proved report"]
+
+
 def check_told(folder: pathlib.Path, room: pathlib.Path, fail: Fail) -> None:
     """What a page says besides its findings: how long they lasted, the heads, who served; and the singular of one
     thing."""
     due = {"hung": ("1 maybe · 1 row ",
                     "calls: place device process thread handle code verdict closer (docs/REPORT.md#calls)",
                     f"./audit report {DRIVER}/hung/capture-1.cap writes the whole report",
-                    "It has lasted 573 ms, none of its path came to a good end.", "after 103, at 614 ms",
-                    "client 1794 1 service 1792 0x1000 1 call 13 0 0 0 0 1 1.96 ms all", "most 2, ended with 1"),
-           "quarter": ("5 of 20", "the longest of its path that came to a good end"),
+                    "place at held for others at most size thread row of the report",
+                    "3208 0.039 s 577 ms none ended 0 client 1794 thread 1795 calls: 3208", "0.613 s /scenarios",
+                    "client 1794 service 1792 handle 1, node 0x1000 1 call 13 0 0 0 0 1 1.96 ms all",
+                    "Look at what the server&#39;s thread has done since it got the call.",
+                    "C4 maybe It was delivered, and not replied. what the server&#39;s thread has done",
+                    "most 2, ended with 1"),
+           "quarter": ("5 of 20", "U2 Look at what the thread did after it", "3172 0.036 s 527 ms 1.54 ms 0 service",
+                       "Nothing was cut off by an end or by the recording."),
+           "hello-11": ("No group is real or maybe: no rule found a fault. This does not show that nothing is",),
            "dead-user": ("client 1857 thread 1857 short-lived 1856 1 failed",
-                         "client 1857 1 short-lived 1856 0x1000 1 call 6 3 0 ")}
+                         "client 1857 short-lived 1856 handle 1, node 0x1000 1 call 6 3 0 ")}
     for name, texts in due.items():
         shown = room / f"{name}.html"
         view(folder, room, *stored(name), "-o", shown.name)
-        text = texts_of(shown)
+        text = re.sub(r" \d\d:\d\d:\d\d\.\d{3}", "", texts_of(shown))
         compare(f"{name}: what its page does not say", [one for one in texts if one not in text], [], fail)
         if name == "hung":
+            # The second one is in the list of rules.
+            compare("hung: how often its page has a sentence", text.count("It was delivered, and not replied."), 2,
+                    fail)
+            compare("hung: its sections", re.findall("<h2[^>]*>([^<]*)", shown.read_text("utf-8")), SECTIONS, fail)
             wrong = re.findall(r"(?<![\d,.])1 (?:rows|frames|processes|records|bytes)\b", text)
             compare("hung: some of one", wrong, [], fail)
 
