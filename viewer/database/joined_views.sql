@@ -218,7 +218,7 @@ SELECT
   r.seq,
   (r.flags & :TF_ONE_WAY) <> 0 AS oneway,
   x.ts,
-  CASE WHEN l.serving NOTNULL THEN (SELECT value FROM capture WHERE key = 'until_ts') - x.ts END AS age,
+  CASE WHEN l.serving NOTNULL THEN CAST((SELECT value FROM capture WHERE key = 'until_ts') AS BIGINT) - x.ts END AS age,
   coalesce(i.name, k.interface) AS interface,
   r.ptr,
   r.code,
@@ -268,5 +268,5 @@ FROM (
       sum(CASE WHEN oneway THEN sends ELSE 0 END) AS oneway, sum(failed) AS failed, sum(bytes) AS bytes
     FROM traffic GROUP BY upid) a
   JOIN raw_process p USING (upid) LEFT JOIN side_process s USING (device, process) LEFT JOIN who w USING (upid),
-  (SELECT nullif((SELECT value FROM capture WHERE key = 'until_ts')
-    - (SELECT value FROM capture WHERE key = 'first_ts'), 0) / 1e9 AS seconds) b;
+  (SELECT nullif(CAST((SELECT value FROM capture WHERE key = 'until_ts') AS BIGINT)
+    - CAST((SELECT value FROM capture WHERE key = 'first_ts') AS BIGINT), 0) / 1e9 AS seconds) b;
