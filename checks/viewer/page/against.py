@@ -127,9 +127,9 @@ def check_unlike(folder: pathlib.Path, room: pathlib.Path, old: tuple, new: tupl
     compare("methods on both sides", lines.splitlines()[-1], "1 new, 0 worse, 1 grown, 1 gone, 1 same, 1 not met", fail)
     compare("a key with a method", "reply to check.forms.IIds.tenth of service" in "\n".join(
         path for path, in sqlite3.connect(room / "named.db").execute("SELECT path FROM defect")), True, fail)
-    view(folder, room, old[0], "--groups", "--database", "no-side.db")
+    view(folder, room, old[0], "--no-side", "--groups", "--database", "no-side.db")
     for words, against, made, viewed in ((new, "no-side.db", "without", "with"),
-                                         (new[:1], "old.db", "with", "without")):
+                                         ((new[0], "--no-side"), "old.db", "with", "without")):
         told = f"view: {against} was made {made} --side, and the capture is viewed {viewed}: give both, or none\n"
         compare(f"a side list on one side, {against}", view(folder, room, *words, "--against", against), (1, "", told),
                 fail)

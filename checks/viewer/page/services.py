@@ -69,7 +69,8 @@ def check_hostile_names(folder: pathlib.Path, room: pathlib.Path, fail: Fail) ->
     client.main.sends(0, 3, body=marked(MANAGER) + string16("<script>window.bad=1</script>"))
     s.wait(300)
     capture, *_ = written(s, room, "harmful")
-    made = view(folder, room, capture, "-o", "harmful.html", "--database", "harmful.db", "--trace", "harmful.json.gz")
+    made = view(folder, room, capture, "--no-side", "-o", "harmful.html", "--database", "harmful.db", "--trace",
+                "harmful.json.gz")
     compare("hostile payloads", made, (0, "", ""), fail)
     database = sqlite3.connect(room / "harmful.db")
     known = {name for name, in database.execute("SELECT name FROM interface")}
