@@ -12,6 +12,7 @@ from typing import Callable, Iterable, Iterator, Sequence
 
 from checks.kit.cases import chosen
 from checks.kit.programs import AUDITOR, BY_RATTLE
+from viewer.files import Stopped
 
 Fail = Callable[[str], None]
 
@@ -76,7 +77,10 @@ def check(judge: Callable[[argparse.Namespace, pathlib.Path, Fail], Iterable[str
     given.programs = [program.resolve() for program in given.programs or built]
     failed: list[str] = []
     with own_room() as room:
-        failed.extend(judge(given, room, failed.append) or ())
+        try:
+            failed.extend(judge(given, room, failed.append) or ())
+        except Stopped as stopped:  # the programs can't be built
+            failed.append(stopped.line)
     for what in failed:
         print(f"checks/{name}: {what}", file=sys.stderr)
     sys.exit(1 if failed else 0)
