@@ -1,7 +1,7 @@
 """More sessions as in cases.py: handles that came the same way, of which a process keeps nearly all or some."""
 
-from checks.kit.captures import (BC_ACQUIRE, BC_INCREFS, BC_RELEASE, BC_REQUEST_DEATH_NOTIFICATION, ENTER, each,
-                                 of_handle, offsets, watch)
+from checks.kit.captures import (BC_ACQUIRE, BC_DECREFS, BC_INCREFS, BC_RELEASE, BC_REQUEST_DEATH_NOTIFICATION, ENTER,
+                                 each, of_handle, offsets, watch)
 from checks.viewer.sessions.cases import case, with_server
 from checks.viewer.sessions.session import node_object
 
@@ -278,8 +278,8 @@ def had_before(s, gains=(2, 2, 2, 2), lets_go=(2, 2, 2, 2), stays=0, passing=0, 
     s.wait(rests)
 
 
-@case("H15:12", "real references taken more than once: 12 of 12 given by replies to code 5 of server 300 node 0x9000 H15"
-      " (2 times, weakly, and let go of 0 times; handle 20, server 300 node 0x1400)",
+@case("H15:12", "real references taken more than once: 12 of 12 given by replies to code 5 of server 300 node 0x9000"
+      " H15 (2 times, weakly, and let go of 0 times; handle 20, server 300 node 0x1400)",
       "defect: references taken more than once | client on binder | given by replies to code 5 of server; key ")
 @case("H15:10", gains=(3, 3, 2, 2))
 @case("H4:9", "maybe references taken more than once: 9 of 9 given by replies to code 5 of server 300 node 0x9000 H4",
