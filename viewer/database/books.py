@@ -70,6 +70,7 @@ class Opening:
         self.nodes: dict[tuple[int, int], tuple[int, int, int | None, int | None]] = {}
         self.node_numbers: dict[tuple[int, int], int] = {}
         self.areas: dict[int, Buffer] = {}
+        self.active: set[int] = set()
         self.outgoing: list[Transaction] = []
         self.incoming: list[Transaction] = []
         self.pending: list[Transaction] = []
@@ -85,8 +86,10 @@ class Opening:
 
     @property
     def unread(self) -> set[int]:
-        """The numbers of the buffers that were on their way, and of all else that was."""
-        return {item.number for item in self.pending}
+        """The numbers of the buffers that were on their way, and of all else that was. An active buffer has a
+        transaction. If no thread serves that, and it does not wait, it was sent while the driver wrote the book, which
+        has what waits at the nodes before the buffers."""
+        return {item.number for item in self.pending} | self.active - {item.number for item in self.incoming}
 
     def is_requested(self, handle: int) -> bool | None:
         """Whether the death of the handle is asked for, as far as the driver tells."""
@@ -109,6 +112,8 @@ class Opening:
                 self.requests.add(int(found[1]))
         elif found := BUFFER.match(word):
             self.areas[int(found[1])] = Buffer(int(found[2], 16), int(found[3]), int(found[4]))
+            if found[6] == "active":
+                self.active.add(int(found[1]))
         elif word.startswith("transaction error: "):
             self.errors[thread] += 1
         elif word == "has delivered dead binder":

@@ -110,7 +110,16 @@ def compare(database: sqlite3.Connection) -> None:
     database.execute("INSERT INTO capture SELECT 'books_compared', count(*) FROM compared")
     database.execute("INSERT INTO capture SELECT 'books_left_out', count(*) - (SELECT count(*) FROM compared)"
                      " FROM book_opening WHERE moment = 'end'")
+    database.execute(LEFT_OUT)
 
+
+# Why openings are left out, by the first reason of each.
+REASONS = {"books_went_on": "had frames after the copy", "books_lossy": "without all frames in the capture",
+           "books_in_use": "had frames when the books of the beginning were copied, or are not in these"}
+LEFT_OUT = """INSERT INTO capture
+SELECT CASE WHEN NOT quiet THEN 'books_went_on' WHEN upid IN (SELECT upid FROM lossy) THEN 'books_lossy'
+  ELSE 'books_in_use' END, count(*)
+FROM book_opening WHERE moment = 'end' AND upid NOT IN (SELECT upid FROM compared) GROUP BY 1"""
 
 # The most differences that the line names.
 NAMED = 8
@@ -130,14 +139,15 @@ def line_of(database: sqlite3.Connection) -> str | None:
     """Says that both agree, or where not, or why nothing is compared; None if there are no books of the end."""
     known = dict(database.execute("SELECT key, value FROM capture WHERE key GLOB 'books_*'"))
     left = known.get("books_left_out", 0)
+    reasons = ", ".join(f"{known[key]} {why}" for key, why in REASONS.items() if key in known)
     if not known.get("books_compared"):
         nothing = database.execute(NOTHING).fetchone()
         if nothing is None:
             return None
-        why = f"of {counted(left, 'opening')} it is not certain what was held then" if left else nothing[0]
+        why = f"of {counted(left, 'opening')} it is not certain what was held then: {reasons}" if left else nothing[0]
         return f"The driver's books at the end are not compared with the report: {why}."
     of = counted(known["books_compared"], "opening")
-    more = f"; {counted(left, 'other')} cannot be compared" if left else ""
+    more = f"; {counted(left, 'other')} cannot be compared: {reasons}" if left else ""
     rows = database.execute("SELECT who, what, report, books FROM disagreement JOIN who USING (upid)"
                             " ORDER BY disagreement.id").fetchall()
     if not rows:

@@ -44,24 +44,30 @@ RUST_SERVICE = (f"  thread 100: l 12 need_return false\n    {RUST_CALL.replace('
                 "  buffer 0: 568 size 8 pid 200 oneway false allocated\n"
                 "  buffer: 768 size 8 pid 200 allocated\n\n")
 
+# A buffer of a oneway send that came while the driver wrote the book.
+ACTIVE = "  buffer 103: 0000000000007400 size 0:0:0 active\n"
+
 AGREED = "The driver's books at the end agree with the report on 2 openings."
 NOT_COMPARED = "The driver's books at the end are not compared with the report"
 
 
 def play(s: Session, client: str = CLIENT, service: str = SERVICE, later: int = 0, had: bool = False,
          ended: bool = False, absent: bool = False, waits: bool = False, asked: bool = False,
-         restarted: bool = False, driver: str = "", held: str | None = None) -> None:
+         restarted: bool = False, driver: str = "", held: str | None = None, busy: bool = False,
+         lost: bool = False) -> None:
     """What the book of the end has. `later`: so many of both go on after it; `had`: the client was met with two more
     references; `ended`: both have ended before; `absent`: the book has neither; `waits`: no thread got the call;
     `asked`: with `had`, the client had asked for the death of the handle before; `restarted`: the handle meant an
     object of another process before, whose death was told; `driver`: that of the device, by the side list; `held`: with
-    `had`, the lines of the client then."""
+    `had`, the lines of the client then; `busy`: with `had`, both go on at once; `lost`: a frame of the client is."""
     if driver:
         s.lines[0] = s.lines[0].replace("\n", f" drivers=10:1:{driver}\n")
     if had:
         s.books("begin", of_200=held or (asking if asked else str)(ref(1, 2)), of_100="")
-        s.wait(200)
+        s.wait(0 if busy else 200)
     ours, theirs = s.two("in-mid-life" if had else "from-start")
+    if lost:
+        s.loses(theirs)
     if restarted:
         old = s.process(300, "old")
         theirs.main.is_given(old.main, 1, node=0x900)
@@ -121,8 +127,16 @@ LINES: list[tuple[dict, str]] = [
      differ("service 100: buffers 2 by the report and 3 by the books")),
     ({"service": SERVICE + buffer(0x7400, 103) + "  " + transaction_of("pending async").replace("102", "103") + "\n"},
      AGREED),
-    ({"later": 1}, "The driver's books at the end agree with the report on 1 opening; 1 other cannot be compared."),
-    ({"later": 2}, f"{NOT_COMPARED}: of 2 openings it is not certain what was held then."),
+    ({"service": SERVICE + ACTIVE}, AGREED),
+    ({"service": SERVICE + ACTIVE.replace("active", "delivered")},
+     differ("service 100: buffers 2 by the report and 3 by the books")),
+    ({"later": 1}, "The driver's books at the end agree with the report on 1 opening; 1 other cannot be compared: 1 had"
+                   " frames after the copy."),
+    ({"later": 2}, f"{NOT_COMPARED}: of 2 openings it is not certain what was held then: 2 had frames after the copy."),
+    ({"lost": True}, "The driver's books at the end agree with the report on 1 opening; 1 other cannot be compared: 1"
+                     " without all frames in the capture."),
+    ({"had": True, "busy": True}, f"{NOT_COMPARED}: of 2 openings it is not certain what was held then: 2 had frames"
+                                  " when the books of the beginning were copied, or are not in these."),
     ({"ended": True}, f"{NOT_COMPARED}: all processes had ended before the copy of them was made."),
     ({"absent": True}, f"{NOT_COMPARED}: it is not certain which of the openings in them are those of the capture."),
     ({"had": True, "client": CLIENT.replace(" s 1 ", " s 3 ")}, AGREED),
