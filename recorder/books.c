@@ -63,8 +63,7 @@ static int is_in_binderfs(char *path, enum driver driver, const char *name)
 	return is_found;
 }
 
-/* Opens one of a driver's books. Returns a descriptor, or one below 0. */
-static int open_book(enum driver driver, const char *name)
+int books_open(enum driver driver, const char *name)
 {
 	char path[LONGEST_PATH];
 	if (!driver_is_recorded(driver))
@@ -100,7 +99,7 @@ static int open_books(const char *name, int *books)
 {
 	int has_some = 0;
 	for (enum driver driver = 0; driver < DRIVERS; driver++) {
-		books[driver] = open_book(driver, name);
+		books[driver] = books_open(driver, name);
 		has_some |= books[driver] >= 0;
 	}
 	return has_some;

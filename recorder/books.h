@@ -3,7 +3,10 @@
 #ifndef RECORDER_BOOKS_H
 #define RECORDER_BOOKS_H
 #include "common.h"
+#include "drivers.h"
 
+/* Opens one of a driver's books. Returns a descriptor, or one below 0. */
+int books_open(enum driver driver, const char *name);
 /* Returns the path of a copy that exists already, or NULL. */
 const char *books_in_the_way(const char *out);
 /* Copies the books. `when` is "begin" or "end". What can't be read is left out. */

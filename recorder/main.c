@@ -5,6 +5,7 @@
 #include "clocks.h"
 #include "command.h"
 #include "common.h"
+#include "failures.h"
 #include "frame.h"
 #include "kernel.h"
 #include "lack.h"
@@ -134,6 +135,7 @@ static int record(struct ring *ring)
 		long count = take(ring);
 		u64 time = now();
 		clocks_look();
+		failures_look();
 		if (time - flushed >= FLUSH_EVERY) {
 			missed_tell();
 			error = parts_flush();
@@ -170,6 +172,7 @@ static void finish(struct ring *ring)
 		pause_for(LOOK_EVERY);
 	missed_tell();
 	window_end();
+	failures_end();
 	stacks_end();
 	clocks_tell();
 	books_tell();
@@ -306,6 +309,7 @@ static void begin(const struct options *options, FILE *for_ready)
 	if (options->program)
 		program_prepare(options->program);
 	missed_begin();
+	failures_begin();
 	kernel_start();
 	begin_tell(options->no_attachments ? "none" : options->redact ? "redacted" : "whole");
 	books_copy(options->out, "begin");

@@ -118,6 +118,38 @@ static int is_book(const char *name)
 	return !strcmp(name, "/state") || !strcmp(name, "/transactions") || !strcmp(name, "/stats");
 }
 
+/* ---- its log of failed transactions, which has the last 32 of them */
+
+static int log_book = -1;
+
+/* The log has the entries up to this one, and one that the driver has only begun. */
+static void write_log(u32 newest)
+{
+	u32 oldest = newest > 32 ? newest - 31 : 1;
+	if (ftruncate(log_book, 0) || lseek(log_book, 0, SEEK_SET))
+		fail("the log can't be made");
+	dprintf(log_book, "0: call  from 0:0 to 0:0 context (null) node 0 handle 0 size 0:0 ret 0/0 l=0 (incomplete)\n");
+	for (u32 number = oldest; number <= newest; number++)
+		dprintf(log_book, "%u: %s from 7:%u to 8:0 context a node 5\\b node 9 handle 3 size 40:8 ret 29201/-28 l=3409\n",
+			number, number % 2 ? "call " : "async", number);
+	dprintf(log_book, "%u: reply from 7:7 to 8:0 context a node 0 handle 0 size 0:0 ret 29201/-71 l=1 (incomplete)\n",
+		newest + 1);
+}
+
+/* What it has at the beginning, and, as FAILURES in the environment says, at the end. */
+static int open_log(void)
+{
+	log_book = memfd_create("log", 0);
+	write_log(2);
+	return log_book;
+}
+
+static void fill_log(void)
+{
+	if (getenv("FAILURES"))
+		write_log((u32)atoi(getenv("FAILURES")));
+}
+
 /* The text of a book is its name. */
 static int open_book(const char *name)
 {
@@ -134,6 +166,8 @@ int __wrap_open(const char *path, int flags, ...)
 	va_start(more, flags);
 	mode_t mode = flags & O_CREAT ? va_arg(more, mode_t) : 0;
 	va_end(more);
+	if (name && !strcmp(name, "/failed_transaction_log"))
+		return open_log();
 	return name && is_book(name) ? open_book(name + 1) : __real_open(path, flags, mode);
 }
 
@@ -204,6 +238,7 @@ u64 kernel_stop(void)
 {
 	end_number = last;
 	is_stopped = 1;
+	fill_log();
 	return end_number;
 }
 

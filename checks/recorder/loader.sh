@@ -87,6 +87,22 @@ if [[ ! $told =~ ^\ *2\ [0-9]+\ missed\ 3\ what=events\ from=2\ after=103$ ]]; t
   printf 'checks/loader: before their files two side lists say that this was missed: %s\n' "$told" && failed=1
 fi
 
+# Of the log of failed transactions all is told that was not there at the beginning, but not what the driver has only
+# begun to write; and if the log has all of its entries since then, that there may have been others.
+fails() { # FAILURES DUE
+  local told
+  FAILURES=$1 "$room/flight" -o "$room/failed-$1" 2>/dev/null
+  told=$(sed -nE 's/^[0-9]+ ((failed|overrun) .*)/\1/p' "$room/failed-$1.side" | sed -E '3,$!b; $!d')
+  if [[ $told != "$2" ]]; then
+    printf 'checks/loader: of %s failures: %s\n' "$1" "$told" && failed=1
+  fi
+}
+of='to=8 handle=3 data=40 offsets=8 answer=29201 errno=28 from=0 after=103 name=a node 5\x5cb'
+fails 2 ''
+fails 4 "failed 3 what=call pid=7 tid=3 $of"$'\n'"failed 4 what=oneway pid=7 tid=4 $of"
+fails 33 "failed 3 what=call pid=7 tid=3 $of"$'\n'"failed 4 what=oneway pid=7 tid=4 $of"$'\n'"failed 33 what=call pid=7 tid=33 $of"
+fails 34 "overrun from=0 after=103"$'\n'"failed 3 what=call pid=7 tid=3 $of"$'\n'"failed 34 what=oneway pid=7 tid=34 $of"
+
 # When there is no room for openings, the list says who has the most, after what was missed, and so does each later list.
 CROWDED=1 "$room/flight" -o "$room/crowd" --size 65536 2>/dev/null
 CROWDED=1 "$room/flight" -o "$room/crowds" --size 65536 --files 2 2>/dev/null
