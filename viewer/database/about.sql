@@ -12,6 +12,8 @@ INSERT INTO about VALUES
   ('thread', 'side', 'a thread of a process, as utid; tid, name, end and bits are from the side list'),
   ('side_lost', 'side', 'a frame that the recorder lost, and why'),
   ('side_missed', 'side', 'what the recorder missed without giving it a number, of whatever process'),
+  ('side_failed', 'side', 'what the driver logged of transactions that failed'),
+  ('side_overrun', 'side', 'a look at that log which may have missed some'),
   ('side_calls', 'side', 'the calls of a thread that were open before the first file'),
   ('side_handle', 'side', 'a handle that a process had met before the first file'),
   ('book', 'side', 'a copy of one of the driver''s books, and which frames came before and while it was made'),
@@ -67,6 +69,8 @@ INSERT INTO about VALUES
   ('txn', 'inferred', 'a transaction with both ends: times, names, sizes and outcome'),
   ('holder', 'inferred', 'who holds whose object at the end, also by what the driver''s books have of the beginning'),
   ('death_request', 'inferred', 'who asked to be told of whose death, and what ended the request'),
+  ('refusal', 'inferred', 'why the driver refused a send, by its log'),
+  ('no_space', 'inferred', 'what waited or was held at a receiver when a send found no space there'),
   ('fd_sent', 'inferred', 'descriptors that were sent: from whom, to whom, with which call'),
   ('looper', 'inferred', 'threads that take calls, and what each serves and calls at the end'),
   ('sender', 'inferred', 'how much each process sends, and at which rate');

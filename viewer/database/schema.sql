@@ -6,14 +6,15 @@
 -- Since version 7, program, call_text, defect, finding_defect, talk, book_process, book_open, book_stats, and the
 -- columns fault of rule, culprit of finding, driver of device and of book_opening, and those of freeze notifications in
 -- book_opening are new; the notifications have their names in record; what the driver in Rust does not tell is NULL.
--- Since version 9, package, txn, holder, death_request, fd_sent, looper, sender and the column bits of thread are new.
+-- Since version 9, package, txn, holder, death_request, fd_sent, looper, sender, side_failed, side_overrun, refusal,
+-- no_space and the column bits of thread are new.
 -- needs: nothing
 -- makes: tables: raw_capture, raw_process, raw_thread, raw_frame, raw_record, raw_interface, raw_service, raw_object,
 --   raw_call, raw_generation, raw_send, raw_delivery, raw_slice, raw_level, side_device, side_process, side_thread,
 --   side_time, side_clock, side_lost, method, call_interface, object_interface, object_service, side_missed,
---   side_calls, side_handle, book, book_opening, book_handle, book_node, book_buffer, book_call, book_process,
---   book_open, book_stats, package, disagreement, side_call, side_pc, side_map, side_unstacked, symbol, capture,
---   report, finding; indexes: side_process_of_pid, side_thread_of_tid
+--   side_failed, side_overrun, side_calls, side_handle, book, book_opening, book_handle, book_node, book_buffer,
+--   book_call, book_process, book_open, book_stats, package, disagreement, side_call, side_pc, side_map,
+--   side_unstacked, symbol, capture, report, finding; indexes: side_process_of_pid, side_thread_of_tid
 
 PRAGMA user_version = 9;
 
@@ -304,6 +305,12 @@ CREATE TABLE object_service(upid INTEGER, ptr INTEGER, service INTEGER, register
   others INTEGER NOT NULL, PRIMARY KEY(upid, ptr)) STRICT;
 CREATE TABLE side_missed(id INTEGER PRIMARY KEY, what TEXT NOT NULL, count INTEGER NOT NULL, from_seq INTEGER NOT NULL,
   after INTEGER NOT NULL, ts INTEGER NOT NULL) STRICT;
+-- What the driver logged of transactions that failed, and between which looks at its log it may have logged more. `answer`
+-- is the kind of the record in raw_record that tells of it.
+CREATE TABLE side_failed(id INTEGER PRIMARY KEY, what TEXT NOT NULL, pid INTEGER NOT NULL, tid INTEGER NOT NULL,
+  to_pid INTEGER NOT NULL, handle INTEGER NOT NULL, data_size INTEGER NOT NULL, offsets_size INTEGER NOT NULL,
+  answer INTEGER, errno INTEGER NOT NULL, from_seq INTEGER NOT NULL, after INTEGER NOT NULL, ts INTEGER NOT NULL) STRICT;
+CREATE TABLE side_overrun(from_seq INTEGER NOT NULL, after INTEGER NOT NULL, ts INTEGER NOT NULL) STRICT;
 CREATE TABLE side_calls(device INTEGER, process INTEGER, thread INTEGER, made INTEGER NOT NULL,
   served INTEGER NOT NULL, PRIMARY KEY(device, process, thread)) STRICT;
 CREATE TABLE side_handle(device INTEGER, process INTEGER, handle INTEGER, PRIMARY KEY(device, process, handle)) STRICT;

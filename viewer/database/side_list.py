@@ -137,6 +137,10 @@ BEGIN_FIELDS = frozenset(("realtime", "boottime", "kernel", "machine", "payloads
 # The most addresses of a stack.
 MOST_OF_STACK = 64
 
+# The kinds of the error replies that the driver's log names, by their code words: BR_DEAD_REPLY, BR_FAILED_REPLY and
+# BR_FROZEN_REPLY.
+ANSWERS = {0x7205: 261, 0x7211: 273, 0x7212: 274}
+
 # The time and the number of a frame, of at most 18 digits each.
 FRAME_LINE = re.compile(r"([0-9]{1,18}) frame ([0-9]{1,18})\n")
 
@@ -312,6 +316,19 @@ class SideList:
         self.database.execute("INSERT INTO side_missed(count, what, from_seq, after, ts) VALUES (?, ?, ?, ?, ?)",
                               (*numbers(positional, 1), keyed["what"], number(keyed["from"]), number(keyed["after"]),
                                time))
+
+    def take_failed(self, time: int, _: list[str], keyed: dict[str, str]) -> None:
+        """What the driver logged of a transaction that failed. The answer is a code word."""
+        names = ("pid", "tid", "to", "handle", "data", "offsets")
+        self.database.execute(
+            "INSERT INTO side_failed(what, pid, tid, to_pid, handle, data_size, offsets_size, answer, errno, from_seq,"
+            " after, ts) VALUES (?, ?, ?, ?, ?, ?, ?, ?, ?, ?, ?, ?)",
+            (keyed["what"], *(number(keyed[name]) for name in names), ANSWERS.get(number(keyed["answer"])),
+             *(number(keyed[name]) for name in ("errno", "from", "after")), time))
+
+    def take_overrun(self, time: int, _: list[str], keyed: dict[str, str]) -> None:
+        self.database.execute("INSERT INTO side_overrun VALUES (?, ?, ?)",
+                              (number(keyed["from"]), number(keyed["after"]), time))
 
     def take_call(self, _: int, positional: list[str], keyed: dict[str, str]) -> None:
         """A line that is not of the usual form."""

@@ -1,6 +1,6 @@
 -- Which process causes a finding, where the capture shows that it is another one than the one that has the finding.
--- needs: database/schema.sql: finding, raw_record; failures.sql: failure, in_freeze, in_the_way, takes_no_fds;
---   waits.sql: waits
+-- needs: database/schema.sql: finding, raw_record; failures.sql: failure, in_freeze, takes_no_fds; waits.sql: waits;
+--   refusals.sql: in_the_way
 -- after: missing.sql
 -- makes: nothing
 

@@ -1,9 +1,9 @@
 -- E: calls and sends that failed, and oneway sends that may be spam.
--- needs: database/schema.sql: finding, raw_call, raw_delivery, raw_object, raw_record, raw_send, raw_thread, side_time;
---   nodes.sql: node_of, who; records.sql: told_death; judging.py: counted
+-- needs: database/schema.sql: finding, raw_call, raw_object, raw_record, raw_send, raw_thread, side_time; records.sql:
+--   told_death
 -- after: late.sql
--- makes: temporary tables: failure, too_late, got_call, in_freeze, takes_no_fds, refused_first, in_the_way; indexes:
---   failure_of, got_call_by, in_freeze_of
+-- makes: temporary tables: failure, too_late, got_call, in_freeze, takes_no_fds; indexes: failure_of, got_call_by,
+--   in_freeze_of
 
 -- ---- what findings are called
 
@@ -29,7 +29,7 @@
 --   rests on: OFTEN
 --   met by: `goes_on_calling_the_frozen()`: three calls of one thread in one freeze
 -- E5 real: The driver refused it.
---   next: the size and the objects of the call, and the note: what was in the way at the receiver
+--   next: the note, if it says why; then the size and the objects of the call, or what filled the receiver
 --   met by: `too-large`: a call with more data than fits
 --   where frames are missing: M3
 -- E6 real: The driver took the call, and could not deliver the call or its reply.
@@ -120,25 +120,4 @@ WHERE f.rule = 'E6' AND NOT r.flags & :TF_ACCEPT_FDS
   AND EXISTS (SELECT 1 FROM raw_object o WHERE o.place = c.closer AND o.sort IN (:FD, :FDA));
 UPDATE finding SET note = 'the call takes no file descriptors (TF_ACCEPT_FDS), and its reply has some'
 WHERE id IN (SELECT id FROM takes_no_fds);
--- What waits or is held at the receiver when its first oneway send is refused, and from whom. The driver rounds sizes
--- up to 8 bytes, and takes half of the buffer space of a process for oneway transactions.
-CREATE TEMP TABLE refused_first AS
-SELECT f.id, e.place, f.target, row_number() OVER (PARTITION BY f.upid, f.target ORDER BY e.place) AS nth
-FROM failure e JOIN finding f USING (id) JOIN raw_record r ON r.place = e.place
-WHERE e.refused AND f.target NOTNULL AND r.flags & :TF_ONE_WAY;
-DELETE FROM refused_first WHERE nth > 1;
-CREATE TEMP TABLE in_the_way AS
-SELECT id, target, upid, count(*) AS n, sum(bytes) AS bytes, sum(iif(got, bytes, 0)) AS held
-FROM (SELECT q.id, q.target, t.upid, coalesce(d.place < q.place, 0) AS got,
-    (r.data_size + 7) / 8 * 8 + (r.offsets_size + 7) / 8 * 8 + (coalesce(r.extra, 0) + 7) / 8 * 8 AS bytes
-  FROM (SELECT * FROM refused_first ORDER BY place LIMIT :NOTED) q JOIN node_of n ON n.upid = q.target
-    JOIN raw_send s ON s.generation = n.generation AND s.place < q.place JOIN raw_record r ON r.place = s.place
-    JOIN raw_thread t ON t.utid = s.utid LEFT JOIN raw_delivery d ON d.place = s.delivery
-  WHERE s.refused IS NULL AND r.flags & :TF_ONE_WAY AND coalesce(d.freed_by > q.place, 1)) GROUP BY 1, 2, 3;
--- The limit of -1, which is none, keeps the order.
-UPDATE finding SET note = (SELECT counted(sum(n), 'oneway send') || ' with ' || counted(sum(bytes), 'byte')
-    || ' waited or were held at ' || (SELECT who FROM who w WHERE w.upid = target) || ': ' || group_concat(
-      counted(n, 'send') || ' from ' || (SELECT who FROM who w WHERE w.upid = i.upid), ', ')
-  FROM (SELECT * FROM in_the_way w WHERE w.id = finding.id ORDER BY bytes DESC, upid LIMIT -1) i)
-WHERE rule = 'E5' AND id IN (SELECT id FROM in_the_way);
 UPDATE finding SET rule = 'E7' WHERE rule IS NULL AND section = 'spam';

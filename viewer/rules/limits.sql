@@ -2,8 +2,9 @@
 -- process of the pool, and how much of the receiver's space for oneway sends was free. The driver in Rust hands calls
 -- and oneway sends only to threads that have said that they take calls.
 -- needs: database/schema.sql: book_stats, finding, raw_thread; database/views.sql: device, process; ages.sql:
---   process_life; rule.sql: lossy; waits.sql: full_pool, loop, occupies, queued, waits; judging.py: counted
--- after: calls.sql, failures.sql
+--   process_life; rule.sql: lossy; waits.sql: full_pool, loop, occupies, queued, waits; refusals.sql: refused_first;
+--   judging.py: counted
+-- after: calls.sql
 -- makes: temporary tables: pool_limit, no_looper
 
 CREATE TEMP TABLE pool_limit AS
@@ -23,7 +24,8 @@ WHERE finding.rule = 'C7' AND w.id = finding.id AND w.delivery IS NULL;
 UPDATE finding SET note = note || '; at the end ' || counted(b.oneway_free, 'byte') || ' of its oneway space '
   || iif(b.oneway_free = 1, 'was', 'were') || ' free'
 FROM book_stats b
-WHERE finding.rule = 'E5' AND finding.note NOTNULL AND b.moment = 'end' AND b.upid = finding.target
+WHERE finding.id IN (SELECT id FROM refused_first WHERE oneway) AND finding.note NOTNULL AND b.moment = 'end'
+  AND b.upid = finding.target
   AND b.oneway_free NOTNULL;
 -- Servers of the driver in Rust of which no thread has said so, as far as something waits for them.
 CREATE TEMP TABLE no_looper AS

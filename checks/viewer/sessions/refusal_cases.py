@@ -1,0 +1,133 @@
+"""More sessions as in cases.py: why the driver refused a send, by its log of failed transactions."""
+
+from checks.kit.captures import BC_TRANSACTION, BR_DEAD_REPLY, BR_FAILED_REPLY, BR_FROZEN_REPLY, record
+from checks.viewer.sessions.cases import case
+from checks.viewer.sessions.session import DONE, ONE_WAY, Sent, Session, Thread
+
+NO_SPACE, BAD, DENIED, NO_CALL = 28, 22, 1, 71
+# Code words of error replies.
+DEAD, FAILED, FROZEN = (int.from_bytes(record(kind)[:4], "little") for kind in (
+    BR_DEAD_REPLY, BR_FAILED_REPLY, BR_FROZEN_REPLY))
+
+
+def logs(s: Session, thread: Thread, errno: int, what: str = "call", to: int = 100, handle: int = 0, data: int = 0,
+         answer: int = FAILED, since: int = 0, until: int | None = None) -> None:
+    """The recorder finds an entry in the driver's log, which was not there at the number `since`."""
+    s.tell(f"failed 9 what={what} pid={thread.process.number} tid={thread.number} to={to} handle={handle} data={data}"
+           f" offsets=0 answer={answer} errno={errno} from={since}"
+           f" after={s.sequence if until is None else until} name=binder")
+
+
+def refused(thread: Thread, code: int = 1, size: int = 0, flags: int = 0, handle: int = 0, kind: bytes = BR_FAILED_REPLY
+            ) -> None:
+    sent = Sent(thread, code, flags, bytes(size), b"")
+    thread.writes(sent.record(BC_TRANSACTION, handle), attached=(0, sent.body, b""))
+    thread.reads(record(kind))
+
+
+@case("E5:1", "(no space (-28 ENOSPC) for its 40 bytes: nothing else that the capture has was there)", size=40)
+@case("E5:1", "(a bad object (-22 EINVAL))", errno=BAD)
+@case("E5:1", "(a bad handle (-22 EINVAL))", errno=BAD, to=0)
+@case("E5:1", "(denied, by SELinux or as the receiver takes no descriptors (-1 EPERM))", errno=DENIED)
+@case("E5:1", "(denied, by SELinux or as the receiver takes no descriptors (-13 EACCES))", errno=13)
+@case("E5:1", "(a descriptor that is not open (-9 EBADF))", errno=9)
+@case("E5:1", "(its data could not be read (-14 EFAULT))", errno=14)
+@case("E5:1", "(an error (-12 ENOMEM))", errno=12)
+@case("E5:1", "(an error)", errno=0)
+@case("E5:1", "(a bad object (-22 EINVAL))", errno=BAD, size=40, data=40)
+@case("E5:1", "code 1 to service 100 node 0x0 ()", errno=BAD, size=40, data=48)
+@case("E5:1", "code 1 to service 100 node 0x0 ()", errno=BAD, handle=3)
+@case("E5:1", "code 1 to service 100 node 0x0 ()", errno=BAD, what="oneway")
+@case("E5:1", "code 1 to service 100 node 0x0 ()", errno=BAD, answer=DEAD)
+@case("E5:1", "code 1 to service 100 node 0x0 ()", errno=BAD, of="service")
+@case("E5:1", "code 1 to service 100 node 0x0 ()", errno=BAD, since=9)
+@case("E5:1", "(a bad object (-22 EINVAL))", errno=BAD, since=8)
+@case("E5:1", "code 1 to service 100 node 0x0 ()", errno=BAD, until=7)
+@case("E5:1", "(a bad object (-22 EINVAL))", errno=BAD, until=8)
+@case("M3:1", "(a bad object (-22 EINVAL))", errno=BAD, lost=True)
+def refused_by_the_log(s, errno=NO_SPACE, size=0, data=0, to=100, handle=0, what="call", answer=FAILED, of="client",
+                       since=0, until=None, lost=False):
+    """A call is refused, in the frames 8 and 9; the log says why, of the same call or of another one."""
+    service, client = s.two()
+    client.main.asks(service.main)
+    if lost:
+        s.loses(client)
+    refused(client.main, size=size)
+    logs(s, client.main if of == "client" else service.main, errno, what, to, handle, data, answer, since, until)
+
+
+@case("E5:3", "code 1 to service 100 node 0x0 (no space (-28 ENOSPC)", "code 2 to service 100 node 0x0 (denied, by ",
+      "code 3 to service 100 node 0x0 (a bad object (", log=(NO_SPACE, DENIED, BAD))
+@case("E5:3", "code 1 to service 100 node 0x0 ()", "code 2 to service 100 node 0x0 (denied, by ",
+      "code 3 to service 100 node 0x0 (a bad object (", log=(DENIED, BAD), overrun=True)
+@case("E5:3", "code 1 to service 100 node 0x0 (a bad object (", "code 2 to service 100 node 0x0 ()",
+      "code 3 to service 100 node 0x0 ()", log=(BAD, BAD, BAD), each=2)
+def refused_in_a_row(s, log, overrun=False, each=3):
+    """Three calls of a thread are refused alike, and the log has all of them, or the last ones; or each look finds only
+    what came long before."""
+    service, client = s.two()
+    client.main.asks(service.main)
+    begin = s.sequence
+    for code in 1, 2, 3:
+        refused(client.main, code)
+    if overrun:
+        s.tell(f"overrun from={begin} after={s.sequence}")
+    for errno in log:
+        logs(s, client.main, errno, since=begin, until=begin + 2 if each == 2 else None)
+
+
+@case("E4:1", "code 1 to service 100 node 0x0 ()", kind=BR_FROZEN_REPLY, answer=FROZEN)
+@case("E3:1", "code 1 to service 100 node 0x0 ()", kind=BR_DEAD_REPLY, answer=DEAD)
+def refused_by_another_answer(s, kind, answer):
+    """The answer says it all."""
+    service, client = s.two()
+    client.main.asks(service.main)
+    refused(client.main, kind=kind)
+    logs(s, client.main, 0, answer=answer)
+
+
+@case("S1:1", "(the send at 648; no space (-28 ENOSPC))")
+def refused_of_two_by_the_log(s):
+    """Of two oneway sends in one write the driver refuses the second."""
+    service, client = s.two()
+    client.main.asks(service.main)
+    sent = Sent(None, 7, ONE_WAY, b"", b"").record(BC_TRANSACTION)
+    client.main.writes(sent, sent)
+    client.main.reads(DONE, record(BR_FAILED_REPLY))
+    logs(s, client.main, NO_SPACE, "oneway")
+    service.main.frees(service.main.gets(Sent(client.main, 7, ONE_WAY, b"", b"")))
+
+
+@case("E6:1 U6:1", "(the reply at 780: no space (-28 ENOSPC))", errno=NO_SPACE)
+@case("E6:1 U6:1", "(the reply at 780: denied, by SELinux", errno=DENIED)
+@case("E6:1 U6:1", "code 1 to service 100 node 0x0 ()", errno=None)
+def reply_refused_by_the_log(s, errno):
+    """A reply finds no space at the caller, or may not go there: the log has the reply, and the caller gets an
+    error."""
+    service, client = s.two()
+    client.main.asks(service.main)
+    service.main.gets(client.main.sends(0, 1))
+    service.main.replies(None, bytes(4000))
+    client.main.reads(DONE, record(BR_FAILED_REPLY))
+    if errno:
+        logs(s, service.main, errno, "reply", 200, 7, 4000)
+
+
+@case("E5:1 A1:2 U6:4", "no space (-28 ENOSPC): 4 sends and replies with 2,224 bytes waited or were held at service"
+      " 100: 3 sends from client 200, 1 send from other 300; most by code 7, the largest has 1,000 bytes)")
+@case("E5:1 A1:2 U6:4", "no space (-28 ENOSPC): 2 oneway sends with 2,000 bytes waited or were held at service 100: 2"
+      " sends from client 200; most by code 7, the largest has 1,000 bytes)", oneway=True)
+@case("E5:1 A1:2 U6:4", "; most by replies to code 9, the largest has 5,000 bytes)", size=5000)
+def space_filled_by_several(s, oneway=False, size=100):
+    """A call finds no space: calls, oneway sends and replies are there."""
+    service, client = s.two()
+    other = s.process(300, "other")
+    client.main.asks(service.main)
+    client.main.gives(service.main, 3)
+    address = client.main.gets(service.main.sends(3, 9), 0x9300)
+    service.main.answered(client.main.replies(address, bytes(size)), free=False)
+    service.main.gets(other.main.sends(0, 5, body=bytes(120)))
+    for _ in range(2):
+        client.main.sends(0, 7, ONE_WAY, bytes(1000))
+    refused(client.main, 8, 2000, ONE_WAY if oneway else 0)
+    logs(s, client.main, NO_SPACE, "oneway" if oneway else "call", data=2000)
