@@ -19,7 +19,8 @@ def moments_of(database: sqlite3.Connection) -> list[Moment]:
     of the wall clock, and the end."""
     known = dict(database.execute("SELECT key, value FROM capture WHERE key IN ('begin_ts', 'realtime', 'boottime')"))
     first = [Moment(known["begin_ts"], known["realtime"], known.get("boottime"))] if "begin_ts" in known else []
-    return sorted(first + [Moment(*row) for row in database.execute("SELECT ts, realtime, boottime FROM side_clock")])
+    told = [Moment(*row) for row in database.execute("SELECT ts, realtime, boottime FROM side_clock")]
+    return sorted(first + told, key=lambda moment: moment.monotonic)
 
 
 class Clock:

@@ -63,6 +63,8 @@ Kind = Callable[[random.Random, Stock, pathlib.Path], Iterator[Play]]
 LOOKS: tuple[tuple[str, ...], ...] = (
     ("--groups",), ("--groups",), ("-o", "page.html"), (), ("--groups", "--database", "made.db"),
     ("--trace", "time.json.gz"), ("--trace", "time.pftrace"), ("--trace", "time.pftrace.gz", "--names", "android"),
+    ("--groups", "--columns", "--all"), ("--groups", "--last", "1s"), ("-o", "page.html", "--between", "+0", "+0.5"),
+    ("-o", "page.html", "--between", "00:00", "23:59:59.9"), ("--groups", "--columns", "--around", "100"),
     ("--groups", "--fail-on", "maybe"), ("-o", "page.html", "--database", "made.db", "--trace", "time.json.gz"))
 
 
@@ -79,7 +81,8 @@ def narrowed(chance: random.Random) -> list[str]:
     options = (["--at", place], ["--frame", place], ["--call", place], ["--process", "0"], ["--thread", "1"],
                ["--device", "0"], ["--direction", "read"], ["--from", "2"], ["--to", "9"], ["--code", "OPAQUE"],
                ["--handle", "1"], ["--cookie", "0x0"], ["--node", "0"], ["--address", "0"], ["--flag", "TF_ONE_WAY"],
-               ["--larger", "0"], ["--interface", "android.os.IServiceManager"], ["--objects"], ["--form", "tab"])
+               ["--larger", "0"], ["--interface", "android.os.IServiceManager"], ["--objects"], ["--form", "tab"],
+               ["--around", place], ["--last", "1s"], ["--between", "00:00", "23:59"])
     return [word for option in chance.sample(options, chance.choice((0, 0, 1, 2))) for word in option]
 
 
