@@ -18,7 +18,7 @@
 -- B1 maybe: Open throughout, by the driver's books of beginning and end: a long poll, or it hangs.
 --   next: whether the call waits for an event; else what the server's thread does, by its stack
 --   met by: `open_throughout()`
--- C1 maybe: It was answered over {LONG} before the end of its thread, which has not read the answer.
+-- C1 maybe: The server replied over {LONG} before the calling thread ended, and the thread never read the reply.
 --   next: why the caller's thread went on without reading, and ended
 --   rests on: LONG
 --   met by: `unread`: a client never reads a reply

@@ -1,6 +1,6 @@
 """What the files of rules say of their rules, in comments before the statements:
 
-    -- C1 maybe: It was answered over {LONG} before the end of its thread, which has not read the answer.
+    -- C1 maybe: The server replied over {LONG} before the calling thread ended, and the thread never read the reply.
     --   next: why the caller's thread went on without reading, and ended
     --   rests on: LONG
     --   met by: `unread`: a client never reads a reply

@@ -15,7 +15,7 @@
 
 -- D3 explained: The driver waits for the acknowledgement of the death, or of the freeze.
 --   met by: `death()`
--- D4 maybe: It answers nothing.
+-- D4 maybe: It acknowledges or confirms what was never sent.
 --   next: where the process has the cookie from, and whether it answers twice
 --   met by: `ack-twice`: a death is acknowledged twice
 -- D6 explained: Enough earlier deaths, or clears, had this cookie.

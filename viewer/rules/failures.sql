@@ -13,12 +13,12 @@
 
 -- ---- the rules
 
--- E1 real: Sent to an object of whose death the process had been told: repeatedly, or over {VERY_LONG} later.
+-- E1 real: Sent to an object after its death notification: repeatedly, or over {VERY_LONG} later.
 --   next: what the process does when it is told of the death: it keeps the handle and goes on
 --   rests on: VERY_LONG
 --   met by: `dead-user`: three calls after BR_DEAD_BINDER
 --   where frames are missing: M3
--- E2 maybe: Sent to an object that had ended, as BR_DEAD_REPLY had told: repeatedly, or over {VERY_LONG} later.
+-- E2 maybe: Sent to an object after BR_DEAD_REPLY had told its end: repeatedly, or over {VERY_LONG} later.
 --   next: what the process does with BR_DEAD_REPLY: it keeps the handle and goes on
 --   rests on: VERY_LONG
 --   met by: `dead_reply_before()`
@@ -41,8 +41,7 @@
 --   met by: `spam()`
 -- E8 explained: The process that serves it was frozen then, and was thawed later.
 --   met by: `frozen()`: the service gets a call later
--- E11 real: Sent {TOO_MANY} times or more, for over {VERY_LONG}, to an object that had ended, as BR_DEAD_REPLY had
---     told.
+-- E11 real: Sent {TOO_MANY} times or more, for over {VERY_LONG}, to an object after BR_DEAD_REPLY had told its end.
 --   next: what the process does with BR_DEAD_REPLY: it keeps the handle and goes on
 --   rests on: TOO_MANY, VERY_LONG
 --   met by: `dead_reply_before()`: ten calls in 1.1 s

@@ -7,12 +7,12 @@
 
 -- ---- the rules
 
--- H1 real: A handle that no delivery gave it.
+-- H1 real: The process uses a handle that it never received.
 --   next: where the process has the number from: a handle of another process, or one that it let go of
 --   met by: `errors`: a release of handle 78, which the client has not
 --   fault: handles that nobody gave
 --   where frames are missing: M1
--- H2 real: Let go, or given back, more often than taken.
+-- H2 real: Released more often than acquired.
 --   next: the code that lets go of it: by the way in the note, if there is one
 --   met by: `errors`: one release too many
 --   fault: references let go, or given back, too often

@@ -16,7 +16,7 @@
 
 -- ---- the rules
 
--- H3 maybe: Still held long after its death was told.
+-- H3 maybe: Still held long after its death notification.
 --   next: what the process does when it is told of the death: its proxy of the object stays
 --   rests on: VERY_LONG, LONG, OFTEN
 --   met by: `mourned`: handles of three dead clients
@@ -34,7 +34,7 @@
 --   met by: `cache()`: most kept handles are in use
 -- H7 normal: Taken and let go of.
 --   met by: `handles_and_nodes()`
--- H8 maybe: Kept, and not used, for over {OLD} times as long as any handle of its way that was let go of.
+-- H8 maybe: Unused, and held over {OLD} times longer than any released handle that came the same way.
 --   next: what became different for those that are kept: an error, or a caller that left
 --   rests on: MANY, OFTEN, OLD, LONG, LATELY
 --   met by: `one_in_ten()`: one handle of ten is kept

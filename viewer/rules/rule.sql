@@ -9,7 +9,7 @@
 --   met by: `never_answered()`: the served call and the buffer of a call that nobody answers
 -- L1 explained: It comes of what was read after the end of the recording.
 --   met by: `buffer_kept()`
--- M1 explained: Frames of its process are missing, and the one that it lacks may be among them.
+-- M1 explained: Frames of its process were lost: what is missing here may be in one of them.
 --   met by: `let_go_too_often()`, with a lost frame
 -- M2 maybe: It would be real, but frames of its process, or of the one that it calls, are missing.
 --   next: the lost frames in the head of the page; then a recording without losses
@@ -25,15 +25,16 @@
 --   rests on: LONG, OLD
 --   met by: `caller_ends()`: the caller ends 50 ms after its call
 --   title of nodes: references not acknowledged yet
--- U1 explained: Under way: others of its path took as long.
+-- U1 explained: Still within the usual time of this path.
 --   rests on: ENOUGH, USUAL, VERY_LONG
 --   met by: `slow_answers()`: a call waits 190 ms, and earlier ones took 100 ms
--- U2 real: More than {OLD} times as long as the longest of its path that came to a good end, and {LONG}.
+-- U2 real: Pending over {LONG}, and over {OLD} times longer than the slowest one of this path that completed.
 --   next: what the thread did after it, and where others of its path came to their end
 --   rests on: ENOUGH, OLD, LONG, OFTEN
 --   met by: `quarter`: a service frees three buffers of four
 --   where frames are missing: M2
--- U3 real: {OFTEN} or more, and nearly all of this path, or of its replies to one process, while their threads went on.
+-- U3 real: {OFTEN} or more were not freed, and nearly all of this path or of its replies to one process, while their
+--     threads went on.
 --   next: the code that handles what this path brings: nothing ends it there
 --   rests on: OFTEN, NEARLY_ALL
 --   met by: `replies`: a client keeps six replies to one code
@@ -43,11 +44,11 @@
 --   rests on: LONG
 --   met by: `leaks`: a buffer that a service never frees
 --   title of nodes: references never acknowledged
--- U5 maybe: The last thing that its thread did, and long before the end.
+-- U5 maybe: Its thread did nothing more, long before the end.
 --   next: what the thread waits for, outside of Binder too
 --   rests on: OLD, LONG
 --   met by: `leaks`: a death that is not acknowledged
--- U6 explained: The last thing that its thread did, or shortly before the end.
+-- U6 explained: Still in progress, as far as the recording shows.
 --   rests on: OLD, LONG, OFTEN, ENOUGH, VERY_LONG, USUAL
 --   met by: `never_answered()`: a call 50 ms before the end
 --   title of nodes: references not acknowledged yet
