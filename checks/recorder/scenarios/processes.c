@@ -16,7 +16,7 @@
 static const char *directory;
 
 /* Seconds; so long that they are no limit for a guest that has little of a processor. */
-enum { LONGEST_WAIT = 120, LONGEST_LIFE = 3600 };
+enum { LONGEST_WAIT = 600, LONGEST_LIFE = 3600 };
 
 pid_t start(const char *name, void (*process)(void))
 {
