@@ -37,8 +37,8 @@ def pool_with_a_limit(s, threads, driver="C", wait=1100):
     counts(s, threads, driver=driver)
 
 
-@case("E5:1 W5:1", "held at service 100: 1 send from client 200; at the end 16 bytes of its oneway space were free",
-      free=16)
+@case("E5:1 W5:1", "held at service 100: 1 send from client 200; most by code 1, the largest has 8 bytes; at the end 16"
+      " bytes of its oneway space were free", free=16)
 @case("E5:1 W5:1", "at the end 1 byte of its oneway space was free", free=1, driver="Rust")
 @case("E5:1 W5:1", "waited or were held at service 100: 1 send from client 200", free=None)
 def oneway_space_is_full(s, free, driver="C"):
