@@ -247,7 +247,15 @@ struct packing {
 	pthread_t thread[MOST_PACKED];
 };
 
-static void load_table(sqlite3 *database, const char *table, const char *folder, struct rows **current)
+/* Of a database that is not kept nobody else needs the rows: so less is on the disk at a time. */
+static void remove_rows(const struct packing *packing, const char *path)
+{
+	if (packing->tables)
+		unlink(path);
+}
+
+static void load_table(sqlite3 *database, const char *table, const char *folder, const struct packing *packing,
+		       struct rows **current)
 {
 	char *path = sqlite3_mprintf("%s/%s.rows", folder, table + strlen("raw_"));
 	struct rows rows = { .path = path };
@@ -259,8 +267,9 @@ static void load_table(sqlite3 *database, const char *table, const char *folder,
 		" DROP TABLE temp.rows", table);
 	run(database, statements);
 	sqlite3_free(statements);
-	sqlite3_free(path);
 	forget(rows.bytes, rows.length);
+	remove_rows(packing, path);
+	sqlite3_free(path);
 }
 
 static struct packed_table *packed_of(struct packing *packing, const char *name)
@@ -283,7 +292,7 @@ static void load_tables(sqlite3 *database, const char *folder, struct packing *p
 		snprintf(table, sizeof table, "%s", (const char *)sqlite3_column_text(next, 0));
 		sqlite3_reset(next);
 		if (!packed_of(packing, table))
-			load_table(database, table, folder, current);
+			load_table(database, table, folder, packing, current);
 	}
 	sqlite3_finalize(next);
 }
@@ -343,9 +352,14 @@ static void end_packing(struct packing *packing)
 	char sign;
 	while (packing->threads && read(STDIN_FILENO, &sign, 1) > 0)
 		;
-	for (int number = 0; number < packing->tables; number++)
-		if (packing->table[number].rows && !is_pipe(packing->table[number].rows))
-			pack_rows(&packing->table[number]);
+	for (int number = 0; number < packing->tables; number++) {
+		struct packed_table *table = &packing->table[number];
+		if (!table->rows)
+			continue;
+		if (!is_pipe(table->rows))
+			pack_rows(table);
+		remove_rows(packing, table->rows);
+	}
 }
 
 /* The columns of a table, as they were declared. */
