@@ -54,7 +54,8 @@ class Group:
         """The columns of its table that say something, each with whether it has numbers."""
         def some(name: str) -> bool:
             return any(getattr(one, name) is not None for one in self.found)
-        said = {"place": True, "at": some("ts"), "held for": some("lasted"), "others at most": some("good"),
+        has_age = some("lasted")
+        said = {"place": True, "at": some("ts"), "held for": has_age, "others at most": has_age and some("good"),
                 "size": some("size"), "thread": True, "rule": len(self.rules) > 1,
                 "note": bool({one.note for one in self.found} - {None, "", self.note}), "row of the report": True}
         return {name: name in ("place", "at", "held for", "others at most", "size") for name in said if said[name]}

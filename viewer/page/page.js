@@ -53,6 +53,8 @@ input.addEventListener('input', () => {
   const words = input.value.toLowerCase().split(/\s+/).filter(Boolean);
   const hides = all.map(one => !words.every(word => textOf(one).includes(word)));
   all.forEach((one, at) => { if (one.hidden !== hides[at]) one.hidden = hides[at]; });
+  for (const table of document.querySelectorAll('table.sorted'))
+    table.hidden = [...table.tBodies[0].rows].every(row => row.hidden);
 });
 box.append(input);
 

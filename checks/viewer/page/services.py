@@ -33,7 +33,8 @@ def session() -> Session:
 
 # What the page says of the session, without markup.
 ON_PAGE = (
-    "IIds code 11 to server 300 node 0x9000 hello", "hello (check.forms.IIds) , handle 1, node 0x9000 IIds code 10 call 3",
+    "IIds code 11 to server 300 node 0x9000 hello",
+    "hello (check.forms.IIds) , handle 1, node 0x9000 IIds code 10 call 3",
     "handle=1 code=11 interface=IIds service=hello data_size=", "handle 1, server 300 node 0x9000 hello (IIds)",
     "hello check.forms.IIds server 300 0x9000 its registration", "not in a capture server 300 0x9100 its registration")
 
