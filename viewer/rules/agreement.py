@@ -115,7 +115,7 @@ def compare(database: sqlite3.Connection) -> None:
 
 # Why openings are left out, by the first reason of each.
 REASONS = {"books_went_on": "had frames after the copy", "books_lossy": "without all frames in the capture",
-           "books_in_use": "had frames when the books of the beginning were copied, or are not in these"}
+           "books_in_use": "had frames when debugfs was copied at the beginning, or are not in that copy"}
 LEFT_OUT = """INSERT INTO capture
 SELECT CASE WHEN NOT quiet THEN 'books_went_on' WHEN upid IN (SELECT upid FROM lossy) THEN 'books_lossy'
   ELSE 'books_in_use' END, count(*)
@@ -128,7 +128,7 @@ NAMED = 8
 # Why no opening is in the books of the end that are there.
 NOTHING = """SELECT CASE
   WHEN NOT EXISTS (SELECT 1 FROM process p WHERE p.met NOTNULL AND coalesce(p.ended > b.ts, 1))
-  THEN 'all processes had ended before the copy of them was made'
+  THEN 'all processes had ended before the copy'
   WHEN c.last_seq IS NULL OR EXISTS (SELECT 1 FROM side_time s WHERE s.seq < c.first_seq
     OR s.seq > c.last_seq AND s.seq <= b.from_seq) THEN 'the capture was cut'
   ELSE 'it is not certain which of the openings in them are those of the capture' END
@@ -145,14 +145,14 @@ def line_of(database: sqlite3.Connection) -> str | None:
         if nothing is None:
             return None
         why = f"of {counted(left, 'opening')} it is not certain what was held then: {reasons}" if left else nothing[0]
-        return f"The driver's books at the end are not compared with the report: {why}."
+        return f"The report is not compared with the driver's debugfs at the end: {why}."
     of = counted(known["books_compared"], "opening")
     more = f"; {counted(left, 'other')} cannot be compared: {reasons}" if left else ""
     rows = database.execute("SELECT who, what, report, books FROM disagreement JOIN who USING (upid)"
                             " ORDER BY disagreement.id").fetchall()
     if not rows:
-        return f"The driver's books at the end agree with the report on {of}{more}."
-    told = "; ".join(f"{who}: {what} {report} by the report and {books} by the books"
+        return f"The report agrees with the driver's debugfs at the end on {of}{more}."
+    told = "; ".join(f"{who}: {what} {report} by the report and {books} by debugfs"
                      for who, what, report, books in rows[:NAMED])
     told += f"; and {len(rows) - NAMED} more" if len(rows) > NAMED else ""
-    return f"The driver's books at the end differ from the report on {of}: {told}{more}."
+    return f"The report differs from the driver's debugfs at the end on {of}: {told}{more}."

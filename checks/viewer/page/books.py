@@ -47,8 +47,8 @@ RUST_SERVICE = (f"  thread 100: l 12 need_return false\n    {RUST_CALL.replace('
 # A buffer of a oneway send that came while the driver wrote the book.
 ACTIVE = "  buffer 103: 0000000000007400 size 0:0:0 active\n"
 
-AGREED = "The driver's books at the end agree with the report on 2 openings."
-NOT_COMPARED = "The driver's books at the end are not compared with the report"
+AGREED = "The report agrees with the driver's debugfs at the end on 2 openings."
+NOT_COMPARED = "The report is not compared with the driver's debugfs at the end"
 
 
 def play(s: Session, client: str = CLIENT, service: str = SERVICE, later: int = 0, had: bool = False,
@@ -95,76 +95,76 @@ def play(s: Session, client: str = CLIENT, service: str = SERVICE, later: int = 
 
 
 def differ(told: str) -> str:
-    return f"The driver's books at the end differ from the report on 2 openings: {told}."
+    return f"The report differs from the driver's debugfs at the end on 2 openings: {told}."
 
 
 # What the book has instead, and what the line says then.
 LINES: list[tuple[dict, str]] = [
     ({}, AGREED),
     ({"client": CLIENT.replace(" s 1 ", " s 2 ")},
-     differ("client 200: handle 1 1 by the report and 2 by the books")),
+     differ("client 200: handle 1 1 by the report and 2 by debugfs")),
     ({"client": CLIENT.replace(" w 0 ", " w 1 ")},
-     differ("client 200: handle 1, weakly 0 by the report and 1 by the books")),
-    ({"client": CLIENT + ref(5)}, differ("client 200: handle 5 0 by the report and 1 by the books")),
+     differ("client 200: handle 1, weakly 0 by the report and 1 by debugfs")),
+    ({"client": CLIENT + ref(5)}, differ("client 200: handle 5 0 by the report and 1 by debugfs")),
     ({"client": CLIENT.replace(REQUESTED, ref(1))},
-     differ("client 200: request for handle 1 1 by the report and 0 by the books")),
+     differ("client 200: request for handle 1 1 by the report and 0 by debugfs")),
     ({"client": CLIENT.replace("outgoing", "incoming")}, differ(
-        "client 200: calls made 1 by the report and 0 by the books; client 200: calls served 0 by the report and 1 by"
-        " the books")),
+        "client 200: calls made 1 by the report and 0 by debugfs; client 200: calls served 0 by the report and 1 by"
+        " debugfs")),
     ({"client": CLIENT.replace("outgoing", "pending").replace(" r1", " r0")}, AGREED),
     ({"client": CLIENT.replace("outgoing", "pending").replace(" r1", " a0 r1")}, AGREED),
     ({"waits": True, "service": WAITING}, AGREED),
     ({"waits": True, "service": WAITING.replace(" r1", " a0 r0")}, AGREED),
     ({"client": CLIENT.replace(transaction_of("outgoing"), "transaction error: 29189")}, AGREED),
     ({"client": CLIENT + "  has delivered dead binder\n"},
-     differ("client 200: deaths not acknowledged 0 by the report and 1 by the books")),
+     differ("client 200: deaths not acknowledged 0 by the report and 1 by debugfs")),
     ({"service": SERVICE.replace(" hs 1 ", " hs 0 ")},
-     differ("service 100: node 0x100 1 by the report and 0 by the books")),
+     differ("service 100: node 0x100 1 by the report and 0 by debugfs")),
     ({"service": SERVICE + own(0, local=1, number=1)}, AGREED),
     ({"service": SERVICE.replace("size 4:", "size 12:")},
-     differ("service 100: bytes in buffers 4 by the report and 12 by the books")),
+     differ("service 100: bytes in buffers 4 by the report and 12 by debugfs")),
     ({"service": SERVICE + buffer(0x7400, 103).replace("size 28", "size 0")},
-     differ("service 100: buffers 2 by the report and 3 by the books")),
+     differ("service 100: buffers 2 by the report and 3 by debugfs")),
     ({"service": SERVICE + buffer(0x7400, 103) + "  " + transaction_of("pending async").replace("102", "103") + "\n"},
      AGREED),
     ({"service": SERVICE + ACTIVE}, AGREED),
     ({"service": SERVICE + ACTIVE.replace("active", "delivered")},
-     differ("service 100: buffers 2 by the report and 3 by the books")),
-    ({"later": 1}, "The driver's books at the end agree with the report on 1 opening; 1 other cannot be compared: 1 had"
-                   " frames after the copy."),
+     differ("service 100: buffers 2 by the report and 3 by debugfs")),
+    ({"later": 1}, "The report agrees with the driver's debugfs at the end on 1 opening; 1 other cannot be compared: 1"
+                   " had frames after the copy."),
     ({"later": 2}, f"{NOT_COMPARED}: of 2 openings it is not certain what was held then: 2 had frames after the copy."),
-    ({"lost": True}, "The driver's books at the end agree with the report on 1 opening; 1 other cannot be compared: 1"
-                     " without all frames in the capture."),
+    ({"lost": True}, "The report agrees with the driver's debugfs at the end on 1 opening; 1 other cannot be compared:"
+                     " 1 without all frames in the capture."),
     ({"had": True, "busy": True}, f"{NOT_COMPARED}: of 2 openings it is not certain what was held then: 2 had frames"
-                                  " when the books of the beginning were copied, or are not in these."),
-    ({"ended": True}, f"{NOT_COMPARED}: all processes had ended before the copy of them was made."),
+                                  " when debugfs was copied at the beginning, or are not in that copy."),
+    ({"ended": True}, f"{NOT_COMPARED}: all processes had ended before the copy."),
     ({"absent": True}, f"{NOT_COMPARED}: it is not certain which of the openings in them are those of the capture."),
     ({"had": True, "client": CLIENT.replace(" s 1 ", " s 3 ")}, AGREED),
-    ({"had": True}, differ("client 200: handle 1 3 by the report and 1 by the books")),
+    ({"had": True}, differ("client 200: handle 1 3 by the report and 1 by debugfs")),
     ({"had": True, "asked": True, "client": CLIENT.replace(" s 1 ", " s 3 ")}, AGREED),
     ({"restarted": True}, AGREED),
     ({"restarted": True, "client": CLIENT.replace(REQUESTED, ref(1))},
-     differ("client 200: request for handle 1 1 by the report and 0 by the books")),
+     differ("client 200: request for handle 1 1 by the report and 0 by debugfs")),
     ({"driver": "C"}, AGREED)]
 
 # The same of the driver in Rust, where the book of the client or the service has something instead.
 RUST_LINES: list[tuple[str, str, str, str]] = [
     ("", "", "", AGREED),
-    ("client", " s 1 ", " s 2 ", differ("client 200: handle 1 1 by the report and 2 by the books")),
+    ("client", " s 1 ", " s 2 ", differ("client 200: handle 1 1 by the report and 2 by debugfs")),
     ("client", " w 0", " w 0  ref 89: desc 5 node 90 s 1 w 1",
-     differ("client 200: handle 5 0 by the report and 1 by the books; client 200: handle 5, weakly 0 by the report and"
-            " 1 by the books")),
+     differ("client 200: handle 5 0 by the report and 1 by debugfs; client 200: handle 5, weakly 0 by the report and"
+            " 1 by debugfs")),
     ("client", " w 0", " w 0  has delivered dead binder",
-     differ("client 200: deaths not acknowledged 0 by the report and 1 by the books")),
+     differ("client 200: deaths not acknowledged 0 by the report and 1 by debugfs")),
     ("client", "outgoing", "incoming", differ(
-        "client 200: calls made 1 by the report and 0 by the books; client 200: calls served 0 by the report and 1 by"
-        " the books")),
+        "client 200: calls made 1 by the report and 0 by debugfs; client 200: calls served 0 by the report and 1 by"
+        " debugfs")),
     ("client", RUST_CALL, RUST_CALL.replace("outgoing", "pending").replace(" node 82", ""), AGREED),
     ("client", RUST_CALL, "transaction error: 29189", AGREED),
-    ("service", "hs true", "hs false", differ("service 100: node 0x100 1 by the report and 0 by the books")),
+    ("service", "hs true", "hs false", differ("service 100: node 0x100 1 by the report and 0 by debugfs")),
     ("service", "568 size 8", "568 size 80", AGREED),
     ("service", "  buffer 0: 568 size 8 pid 200 oneway false allocated\n", "",
-     differ("service 100: buffers 2 by the report and 1 by the books")),
+     differ("service 100: buffers 2 by the report and 1 by debugfs")),
     ("service", "768 size 8 pid 200 allocated", "768 size 8 pid 200 allocated\n  buffer: 900 size 8 pid 200 reserved",
      AGREED)]
 
@@ -220,8 +220,9 @@ def check_copies(folder: pathlib.Path, room: pathlib.Path, fail: Fail) -> None:
         status, _, told = view(folder, room, capture, "--side", list_, "-o", f"copies-{name}.html")
         compare(f"books, {name}", (status, told), (0, f"view: {due}\n" if due else ""), fail)
         compare(f"books, {name}, the page", says(room / f"copies-{name}.html", due), True, fail)
-    for due in ("Met in mid-life; by the driver's books of then they had: service 100 0 handles, 0 objects, 0 buffers,"
-                " 0 calls made and 0 served; client 200 1 handle, 0 objects, 0 buffers, 0 calls made and 0 served.",
+    for due in ("Already open when the recording began; by the driver's debugfs they then had: service 100 0 handles, 0"
+                " objects, 0 buffers, 0 calls made and 0 served; client 200 1 handle, 0 objects, 0 buffers, 0 calls made"
+                " and 0 served.",
                 AGREED):
         compare(f"books, the page says {due!r}", says(room / "copies-whole.html", due), True, fail)
     begin.write_text(texts[0], "utf-8")
@@ -233,7 +234,7 @@ def check_copies(folder: pathlib.Path, room: pathlib.Path, fail: Fail) -> None:
     whole = session.capture()
     (room / "cut.cap").write_bytes(whole[:16] + whole[frames_of(whole)[1].place:])
     view(folder, room, "cut.cap", "--side", side, "-o", "cut.html")
-    for due in ("Met in mid-life, so that what came before is not known: client 200, service 100.",
+    for due in ("Already open when the recording began, so what came before is not known: client 200, service 100.",
                 f"{NOT_COMPARED}: the capture was cut."):
         compare(f"books of a capture that was cut: {due!r}", says(room / "cut.html", due), True, fail)
 

@@ -142,9 +142,9 @@ def check_files(folder: pathlib.Path, room: pathlib.Path, fail: Fail) -> None:
     status, _, told = view(folder, room, "part-2.cap", "--side", "part-2.side", "-o", "part-2.html")
     compare("the last file of a flight recorder", (status, told), (0, ""), fail)
     text = texts_of(room / "part-2.html")
-    for due in ("Met in mid-life, so that what came before is not known: ", "in files that were removed: 3 calls that"
-                " went on, and 1 handle that a process had met.", "In these calls were: process 1 thread 1 (2 made, 1"
-                " served)."):
+    for due in ("Already open when the recording began, so what came before is not known: ",
+                "in files that were removed: 3 calls that went on, and 1 handle that a process had met.",
+                "In these calls were: process 1 thread 1 (2 made, 1 served)."):
         compare(f"the page of the last file says {due!r}", due in text, True, fail)
     status, came, _ = view(folder, room, "part-2.cap", "--side", "part-2.side", "--groups")
     compare("the last file: real", [line for line in came.splitlines() if line.startswith("real")], [], fail)
