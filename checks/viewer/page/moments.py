@@ -72,7 +72,7 @@ def check_moments(folder: pathlib.Path, room: pathlib.Path, fail: Fail) -> None:
     compare("times without a side list", re.findall(r"\d\d:\d\d:\d\d|\d\.\d{3} s", texts_of(room / "none.html")), [],
             fail)
     untimed = "place caller served by", "place size thread row of the report"
-    compare("columns without a side list", [one for one in untimed if one not in texts_of(room / "none.html")], [], fail)
+    compare("columns without times", [one for one in untimed if one not in texts_of(room / "none.html")], [], fail)
     view(folder, room, *stored("oneway"), "-o", "oneway.html")
     compare("a oneway send in what a thread did", "BC_TRANSACTION oneway handle=" in texts_of(room / "oneway.html"),
             True, fail)
