@@ -1,7 +1,7 @@
 -- Why the driver refused a send, by its log of failed transactions, and what filled the space of the receiver then.
--- needs: database/schema.sql: finding, raw_call, raw_delivery, raw_record, raw_send, raw_thread, side_failed;
---   database/views.sql: thread; nodes.sql: node_of, who; names.sql: call_named, code_named; ages.sql: life;
---   failures.sql: failure; judging.py: call_words, counted, short_name, status_name
+-- needs: database/schema.sql: finding, raw_call, raw_delivery, raw_record, raw_send, raw_thread, side_failed,
+--   side_overrun; database/views.sql: thread; nodes.sql: node_of, who; names.sql: call_named, code_named; ages.sql:
+--   life; failures.sql: failure; judging.py: call_words, counted, short_name, status_name
 -- after: failures.sql, strays.sql
 -- makes: tables: refusal, no_space; temporary tables: failing, refused_first, filling, in_the_way
 
@@ -131,6 +131,9 @@ UPDATE finding SET note = w.why
     ELSE '' END
 FROM failure e JOIN refusal w USING (place)
 WHERE finding.rule = 'E5' AND e.id = finding.id AND e.refused;
+UPDATE finding SET note = 'why is not known, as the driver''s log was overrun' || coalesce(': ' || finding.note, '')
+FROM failure e JOIN failing f USING (place) JOIN side_overrun o ON f.seq <= o.after AND f.told > o.from_seq
+WHERE finding.rule = 'E5' AND e.id = finding.id AND e.refused AND e.place NOT IN (SELECT place FROM refusal);
 UPDATE finding SET said = 'the reply at {other}: ' || w.why, other = w.place
 FROM raw_send s JOIN raw_call c ON c.place = s.delivery JOIN refusal w ON w.place = c.closer
 WHERE finding.rule = 'E6' AND s.place = finding.place;

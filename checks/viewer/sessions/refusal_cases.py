@@ -58,7 +58,8 @@ def refused_by_the_log(s, errno=NO_SPACE, size=0, data=0, to=100, handle=0, what
 
 @case("E5:3", "code 1 to service 100 node 0x0 (no space (-28 ENOSPC)", "code 2 to service 100 node 0x0 (denied, by ",
       "code 3 to service 100 node 0x0 (a bad object (", log=(NO_SPACE, DENIED, BAD))
-@case("E5:3", "code 1 to service 100 node 0x0 ()", "code 2 to service 100 node 0x0 (denied, by ",
+@case("E5:3", "code 1 to service 100 node 0x0 (why is not known, as the driver's log was overrun)", "code 2 to service"
+      " 100 node 0x0 (denied, by ",
       "code 3 to service 100 node 0x0 (a bad object (", log=(DENIED, BAD), overrun=True)
 @case("E5:3", "code 1 to service 100 node 0x0 (a bad object (", "code 2 to service 100 node 0x0 ()",
       "code 3 to service 100 node 0x0 ()", log=(BAD, BAD, BAD), each=2)
