@@ -24,14 +24,14 @@ TABLE = {
     # process that ends in this last time of the recording ends with it (E9).
     "VERY_LONG": Threshold(1_000_000_000, "long even for one send after the news of a death, or for a call that waits"
                            " for a pool", is_time=True),
-    # Old is what has lasted over so many times as long as the longest of its path that came to a good end (U2, C8), or
+    # Old is what has lasted over so many times as long as the longest completed one of its path (U2, C8), or
     # what waits for a pool so many times as long as the median (Q1).
     "OLD": Threshold(10, "an old finding has lasted over {OLD} times as long as the longest of the path"),
     # For up to so many times as long, a call or a oneway send is under way (U1).
     "USUAL": Threshold(2, "a call or oneway send is under way up to {USUAL} times the longest of the path"),
-    # So many must have come to a good end before the longest of them says something (U1, U2), or how
+    # So many must have completed before the longest of them says something (U1, U2), or how
     # those waited that came to a node (W4).
-    "ENOUGH": Threshold(3, "the longest of a path counts from {ENOUGH} good ends on"),
+    "ENOUGH": Threshold(3, "the longest of a path counts from {ENOUGH} completed ones on"),
     # So many are no accident: of one path (U3, R1, C4, E9, E10), of one thread (E4) or process (H3), for one pool (Q1),
     # or times that a thread went on (U2).
     "OFTEN": Threshold(3, "so many are no accident"),
