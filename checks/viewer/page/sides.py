@@ -139,6 +139,9 @@ def check_files(folder: pathlib.Path, room: pathlib.Path, fail: Fail) -> None:
     status, came, told = view(folder, room, "part-1.cap", "part-2.cap", "--side", "part-1.side", "--side",
                               "part-2.side", "--groups")
     compare("the files of a flight recorder", (status, came, told), (0, whole, ""), fail)
+    came = view(folder, room, "part-1.cap", "part-2.cap", "--groups")
+    due = "view: takes part-1.side part-2.side beside the capture; --no-side leaves it out\n"
+    compare("the files of a flight recorder with the side lists beside them", came, (0, whole, due), fail)
     status, _, told = view(folder, room, "part-2.cap", "--side", "part-2.side", "-o", "part-2.html")
     compare("the last file of a flight recorder", (status, told), (0, ""), fail)
     text = texts_of(room / "part-2.html")
