@@ -138,7 +138,6 @@ make_initramfs() { # KERNEL PLAN TO
   cp -- "$recorder" "$top/record"
   cp -- "$2" "$top/plan"
   for release in "${releases[@]}"; do put_release "$release" "$top"; done
-  for file in $(ldd "$recorder" | awk '$3 ~ /^\/(usr\/)?lib/ { print $3 }'); do cp -nL -- "$file" "$top/lib/"; done
   cp -L -- "$loader" "$top$loader_in_guest/"
   cp -- "$busybox" "$top/bin/busybox"
   for file in sh env; do ln -s busybox "$top/bin/$file"; done

@@ -1,9 +1,9 @@
 """Judges what a guest left of the plan: judge.py FOLDER
 
 Each folder in FOLDER is a recording, and is named after its line of plan.txt and its release of Android. A test that
-was also played unrecorded must have the same results each time; no frame may be lost but for those of LOST; the report
-may not differ from the driver's books; and the groups must be those that groups.txt expects. It prints a line for each.
-If something is not so, a line on standard error says what, and the status is 1.
+was also played unrecorded must have the same results each time; no frame may be lost but for those of LOST and
+MAY_BE_LOST; the report may not differ from the driver's books; and the groups must be those that groups.txt expects. It
+prints a line for each. If something is not so, a line on standard error says what, and the status is 1.
 """
 
 import fnmatch
@@ -26,6 +26,8 @@ WAYS = ("-unrecorded", "-redacted", "-stacks")
 
 # What is lost in a test: the recorder can't read a command of binderDriverInterfaceTest whose address is wrong.
 LOST = {"driver": ["call-unreadable"]}
+# And what may be: the test forks, and while the kernel copies a page after that, the recorder can't read the page.
+MAY_BE_LOST = {"lib": "unreadable"}
 
 
 class Due(NamedTuple):
@@ -156,7 +158,7 @@ def faults_of(folder: pathlib.Path, told: list[str]) -> Iterator[str]:
     output = (folder / "output").read_text("utf-8", errors="replace")
     lost, frames = lost_of(folder), re.search(r"record: (\d+) frames", output)
     told += [f"{frames[1] if frames else 'no'} frames", f"{len(lost)} lost"]
-    if lost != LOST.get(line_of(name), []):
+    if [why for why in lost if why != MAY_BE_LOST.get(line_of(name))] != LOST.get(line_of(name), []):
         yield f"lost: {' '.join(lost)}"
     came = viewed(folder)
     if isinstance(came, str):

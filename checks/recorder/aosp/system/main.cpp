@@ -128,7 +128,7 @@ static void cache() {
     sp<IDesk> service = desk();
     std::map<int, sp<ISession>> kept;
     for (int turn; (turn = turns());) {
-        auto& session = kept[turn % 60];
+        auto& session = kept[turn % 20];
         int32_t answer;
         if (session == nullptr) session = opened(service);
         session->work(turn, &answer);
@@ -326,7 +326,7 @@ static const Role ROLES[] = {
     {"counter", [] { serve("check.counter", IInterface::asBinder(newCounter())); }, "the service check.counter"},
     {"client", client, "opens sessions, listens, asks, pings, dumps"},
     {"guest", guest, "listens, and is forgotten"},
-    {"cache", cache, "keeps 60 sessions, and uses each again and again"},
+    {"cache", cache, "keeps 20 sessions, and uses each again and again"},
     {"weak", weak, "promotes a weak pointer to a session"},
     {"linker", linker, "links a recipient to each session, and unlinks it"},
     {"parallel", parallel, "calls by 8 threads"},
