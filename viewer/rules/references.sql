@@ -119,8 +119,9 @@ FROM (SELECT DISTINCT upid, way FROM outlives) w CROSS JOIN given g USING (upid,
 WHERE z.ts > p.ended GROUP BY 1, 2;
 DELETE FROM outlives WHERE since <= :OLD * (SELECT longest FROM let_go_later l
   WHERE (l.upid, l.way) = (outlives.upid, outlives.way));
+-- Of a process that ended a missing frame may have handed over one that was let go of then.
 UPDATE finding SET
-  rule = 'H12',
+  rule = iif(EXISTS (SELECT 1 FROM lossy JOIN process_life p USING (upid) WHERE p.ended_after NOTNULL), 'M2', 'H12'),
   relation = 'given',
   way = o.way,
   n_all = (SELECT sum(w.n) FROM given_way w WHERE (w.upid, w.way) = (o.upid, o.way)),

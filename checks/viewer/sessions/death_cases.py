@@ -146,19 +146,22 @@ def death(s, done=False, clears=False, calls=0, lets_go=False, objects=1, lets_g
 @case("", let_go=1, wait=1000)
 @case("H12:3", let_go=1, wait=1200)
 @case("H12:3", let_go=-1, wait=1000)
-@case("M2:3", lost=True)
+@case("M2:3", lost="server")
+@case("M2:3", lost="short-lived")
+@case("H12:3", lost="client")
 @case("", to_manager=True)
 @case("", at_once=True)
 @case("", collects=0)
 @case("H12:3", collects=1)
 @case("", collects=-1)
 def listeners_of_the_dead(s, dead=3, alive=0, wait=1100, of_one=False, rests=False, asks=False, reused=False, let_go=0,
-                          lost=False, to_manager=False, at_once=False, collects=None):
+                          lost=None, to_manager=False, at_once=False, collects=None):
     """A server, or the manager, keeps an object of each of some clients, of which some end, or of one that ends. It
     asks for their deaths, or did so for what had these handles before. It goes on, or rests. `let_go`: it let go of one
     100 ms after its process ended, or before. Or all came at once, and it is not known which is of whom. `collects`: it
-    lets go of handles only by collecting garbage, and did so before they ended, or after that, or never."""
-    manager, _, server = with_server(s)
+    lets go of handles only by collecting garbage, and did so before they ended, or after that, or never. `lost`: of
+    this process a frame is lost."""
+    manager, client, server = with_server(s)
     if collects is not None:
         server.is_called("system_server")
         server.main.is_given(manager.main, 90)
@@ -184,9 +187,9 @@ def listeners_of_the_dead(s, dead=3, alive=0, wait=1100, of_one=False, rests=Fal
         s.wait(100)
         if let_go >= 0:
             holder.writes(*each(BC_RELEASE, 20))
-    if lost:
-        s.loses(server)
     others = [s.process(400 + at, "short-lived") for at in range(1 if of_one else dead + alive)]
+    if lost:
+        s.loses({"server": server, "short-lived": others[0], "client": client}[lost])
     if at_once:
         register_at_once(others, manager, server)
     elif of_one:
