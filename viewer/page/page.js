@@ -31,13 +31,15 @@ for (const head of document.querySelectorAll('table.sorted th')) {
   button.addEventListener('click', () => sortBy(head));
 }
 
-// A place that is pressed is copied with the command that shows its record.
-const command = document.querySelector('.command').textContent;
-document.querySelector('.copies').textContent = ' Press a place to copy that command.';
-document.addEventListener('click', event => {
-  const pressed = event.target.closest('.place');
-  if (pressed && navigator.clipboard) navigator.clipboard.writeText(command.replace('PLACE', () => pressed.textContent));
-});
+// A place that is pressed is copied with the command that shows its record. The page of a lab has no places.
+const command = document.querySelector('.command');
+if (command && navigator.clipboard) {
+  document.querySelector('.copies').textContent = ' Press a place to copy that command.';
+  document.addEventListener('click', event => {
+    const place = event.target.closest('.place');
+    if (place) navigator.clipboard.writeText(command.textContent.replace('PLACE', () => place.textContent));
+  });
+}
 
 // The texts of what can be hidden, each read once.
 const all = [...document.querySelectorAll('details.group, table.sorted tbody tr')];
