@@ -62,13 +62,15 @@ static size_t read_log(char *text, u64 *number)
 	return length;
 }
 
-/* The entries of the log. While the driver writes one, it is the last of them, or in the place of the oldest. */
+/* The entries of the log, none if it is as it was before. While the driver writes one, it is the last of them, or in the
+ * place of the oldest. */
 static u32 read_entries(struct failure *entries, u64 *number)
 {
-	static char text[LOG_BYTES];
+	static char text[LOG_BYTES], before[LOG_BYTES];
 	u32 found = 0;
-	if (!read_log(text, number))
+	if (!read_log(text, number) || !strcmp(text, before))
 		return 0;
+	strcpy(before, text);
 	for (char *line = strtok(text, "\n"); line && found < ENTRIES; line = strtok(NULL, "\n"))
 		if (read_entry(line, entries + found))
 			found++;
