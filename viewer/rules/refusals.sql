@@ -24,11 +24,12 @@ FROM (SELECT 1 FROM side_failed LIMIT 1) CROSS JOIN raw_send s JOIN raw_record r
   JOIN raw_record e ON e.place = s.refused
 UNION ALL
 SELECT q.place, q.utid, 'reply', NULL, q.data_size, coalesce(e.kind, :BR_DEAD_REPLY), q.seq, coalesce(k.seq, q.seq)
-FROM (SELECT 1 FROM side_failed LIMIT 1) CROSS JOIN raw_call c JOIN raw_record q ON q.place = c.closer
-  JOIN raw_send p ON p.place = q.place LEFT JOIN raw_record k ON k.place = p.confirmed
-  JOIN raw_delivery d ON d.place = c.place JOIN raw_send s ON s.place = d.send JOIN raw_call m ON m.place = s.place
-  LEFT JOIN raw_record e ON e.place = m.closer AND m.verdict = 3 JOIN life l ON l.utid = s.utid
-WHERE c.served AND c.verdict = 2 AND p.refused IS NULL AND (m.verdict = 3 OR m.verdict = 0 AND l.ended_after < q.seq);
+FROM (SELECT 1 FROM side_failed LIMIT 1) CROSS JOIN raw_call m CROSS JOIN raw_send s ON s.place = m.place
+  JOIN raw_call c ON c.place = s.delivery JOIN raw_record q ON q.place = c.closer JOIN raw_send p ON p.place = q.place
+  LEFT JOIN raw_record k ON k.place = p.confirmed LEFT JOIN raw_record e ON e.place = m.closer AND m.verdict = 3
+  JOIN life l ON l.utid = m.utid
+WHERE NOT m.served AND m.verdict IN (0, 3) AND c.served AND c.verdict = 2 AND p.refused IS NULL
+  AND (m.verdict = 3 OR l.ended_after < q.seq);
 -- Of a thread the log and the capture have the same failures in the same order, the last ones for certain. What the log
 -- has of a send was in it at a look after the send was begun, and not yet at the look before that, unless the send was
 -- under way then.
