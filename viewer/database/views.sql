@@ -1,10 +1,10 @@
 -- The views, which docs/DATABASE.md describes. A view can't have parameters, so raw_tables.py puts the numbers in. It
 -- also joins a line that is eight spaces in to the one before it: the database keeps the text of a view, and names are
 -- longer than numbers.
--- needs: schema.sql: book_process, object_interface, object_service, raw_call, raw_delivery, raw_frame, raw_generation,
---   raw_interface, raw_level, raw_object, raw_process, raw_record, raw_send, raw_service, raw_thread, side_device,
---   side_map, side_pc, side_process, side_thread, side_time, symbol; numbers.sql: cause, kind, sort, verdict;
---   rules/nodes.sql: node_of; rules/groups.sql: traffic; rules/defects.sql: call_text, program
+-- needs: schema.sql: book_process, capture, object_interface, object_service, raw_call, raw_delivery, raw_frame,
+--   raw_generation, raw_interface, raw_level, raw_object, raw_process, raw_record, raw_send, raw_service, raw_thread,
+--   side_device, side_map, side_pc, side_process, side_thread, side_time, symbol; numbers.sql: cause, kind, sort,
+--   verdict; rules/nodes.sql: node_of; rules/groups.sql: traffic; rules/defects.sql: call_text, program
 -- makes: views: device, process, thread, frame, record, interface, service, object, call, handle, send, delivery,
 --   status, level, reference, listing, came_to, sent_to, node_interface, stack, node_service, talk
 
@@ -88,9 +88,11 @@ FROM raw_delivery d JOIN raw_thread t USING (utid) JOIN raw_record r USING (plac
   LEFT JOIN side_time z ON z.seq = d.seq + d.dur_seq
   LEFT JOIN interface i ON i.id = iif(r.kind = :BR_REPLY, c.interface, r.interface);
 
--- The replies that have a number in place of data.
+-- The replies that have a number in place of data. In a redacted capture it is not that number.
 CREATE VIEW status AS
-SELECT place, status AS value FROM raw_record WHERE kind = :BR_REPLY AND data_size = 4 AND flags & :TF_STATUS_CODE;
+SELECT place, status AS value FROM raw_record
+WHERE kind = :BR_REPLY AND data_size = 4 AND flags & :TF_STATUS_CODE
+  AND NOT EXISTS (SELECT 1 FROM capture WHERE (key, value) = ('payloads', 'redacted'));
 
 CREATE VIEW level AS SELECT upid, slice, buffers, bytes, refs, calls, served FROM raw_level;
 

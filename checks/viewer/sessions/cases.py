@@ -503,7 +503,11 @@ def answered_with_a_status(s, wrong, right, others=0):
 
 @case("", value=0)
 @case("R2:1", value=1)
-def status_of_no_error(s, value):
+@case("", value=1, redacted=True)
+def status_of_no_error(s, value, redacted=False):
+    """Of a redacted capture it is not known whether the status is an error."""
+    if redacted:
+        s.lines[0] = s.lines[0].replace("machine=x86_64", "machine=x86_64 payloads=redacted")
     service, client = s.two()
     address = service.main.gets(client.main.sends(0, 7))
     client.main.answered(service.main.replies(address, u32(value), flags=STATUS_CODE))
