@@ -29,6 +29,10 @@ LOST = {"driver": ["call-unreadable"]}
 # And what may be: the test forks, and while the kernel copies a page after that, the recorder can't read the page.
 MAY_BE_LOST = {"lib": "unreadable"}
 
+# A test that fails also without the recorder: SchedPolicySet and InheritRt want priorities that go from a caller to a
+# server, which only the driver in Android's own kernels passes on.
+FAILS = {"lib-14": "1"}
+
 
 class Due(NamedTuple):
     """A line of groups.txt."""
@@ -147,7 +151,7 @@ def faults_of(folder: pathlib.Path, told: list[str]) -> Iterator[str]:
     name = name_of(folder)
     status = (folder / "status").read_text("utf-8").split()[0]
     results, plain = results_of(folder), folder.parent / f"{name}-unrecorded"
-    if status != "0":
+    if status != FAILS.get(name, "0"):
         yield f"status {status}"
     if plain.is_dir():
         told.append(f"{sum(result.startswith(('OK', 'PASS')) for result in results)} of {len(results)} passed")

@@ -8,6 +8,8 @@ import pathlib
 import sys
 import tarfile
 
+from checks.recorder.aosp.judge import FAILS
+
 # In bytes.
 LARGEST = 100_000
 
@@ -34,7 +36,7 @@ def main(source: str, to: str) -> None:
     for folder in sorted(path for path in pathlib.Path(source).iterdir() if (path / "capture.side").exists()):
         status, _, how, *_ = (folder / "status").read_text("utf-8").split()
         data = packed(folder, name := folder.name.removesuffix("-redacted"))
-        if how == "--redact" and status == "0" and len(data) <= LARGEST:
+        if how == "--redact" and status == FAILS.get(name, "0") and len(data) <= LARGEST:
             (pathlib.Path(to) / f"{name}.tar.xz").write_bytes(data)
 
 
