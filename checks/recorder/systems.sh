@@ -44,8 +44,10 @@ fi
 # ---- storing
 
 boot() { # KERNEL TO: boots the kernel, and unpacks what its guest leaves
-  local top=$room/initramfs modules=(virtio_ring virtio virtio_pci_legacy_dev virtio_pci_modern_dev virtio_pci virtio_blk
-    binder_linux) file
+  local top=$room/initramfs modules=(virtio_ring virtio virtio_pci_legacy_dev virtio_pci_modern_dev virtio_pci
+    virtio_blk) file
+  # With the driver in Rust, which is built in, the one in C stays a file.
+  if [[ $series != rust ]]; then modules+=(binder_linux); fi
   rm -rf -- "$top" "$2" && mkdir -p -- "$top"/{bin,proc,sys,dev,modules,kept} "$2"
   install -- "$here/systems/init.sh" "$top/init"
   cp -- "$busybox" "$top/bin/busybox"
