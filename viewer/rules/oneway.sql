@@ -29,14 +29,14 @@
 --   rests on: OLD, LONG, ENOUGH, VERY_LONG
 --   met by: `oneway_handler()`: a handler is at work for 1100 ms, and a send waits
 --   fault: oneway handlers at work
--- W7 explained: Its receiver was frozen: the driver keeps it until the thaw.
+-- W7 explained: Its receiver was frozen, and reads it only after the thaw.
 --   rests on: TOO_MANY, VERY_LONG
 --   met by: `sends_to_the_frozen()`: nine sends
 --   fault: oneway sends to what is frozen
 -- W8 maybe: Its receiver was frozen, and this process went on: {TOO_MANY} such sends or more, for over {VERY_LONG}.
 --   next: whether the sender can tell that the receiver is frozen, and stop or drop what it sends
 --   rests on: TOO_MANY, VERY_LONG
---   met by: `sends_to_the_frozen()`: ten sends in 1.1 s
+--   met by: `pending`: twelve sends in 1.4 s to a service that stays frozen
 --   fault: oneway sends to what is frozen
 -- W9 real: {OFTEN} or more sends have waited over {VERY_LONG} for it, and its thread went on with other work.
 --   next: what the thread did after it: nothing frees the buffer, and nothing else comes to the object until then

@@ -21,7 +21,7 @@ FROM (SELECT 1 FROM report WHERE section = 'codes' AND text LIKE '% BR_ONEWAY_SP
   CROSS JOIN raw_send s JOIN raw_record k ON k.place = s.confirmed AND k.kind = :BR_ONEWAY_SPAM_SUSPECT
   JOIN raw_record r ON r.place = s.place JOIN raw_thread t ON t.utid = s.utid
 WHERE s.generation NOTNULL;
--- Oneway sends to a process that was frozen, as the driver said when it took them: it keeps them until the thaw.
+-- Oneway sends to a process that was frozen, as the driver said when it took them.
 CREATE TEMP TABLE to_frozen AS
 SELECT s.place FROM (SELECT 1 FROM report WHERE section = 'codes' AND text LIKE '% BR_TRANSACTION_PENDING_FROZEN %'
     LIMIT 1) CROSS JOIN raw_send s JOIN raw_record k ON k.place = s.confirmed
