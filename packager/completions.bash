@@ -74,7 +74,7 @@ _binder_record() { # COMMAND WORD BEFORE
     --size | --files | --pid | --ring) ;;
     *)
       _binder_audit_words "$2" '-o --size --files --pid --device --redact --no-attachments --stacks --ring --check
-        --adb --detach --fetch --no-names --help --version --'
+        --adb --detach --fetch --no-names --collect --help --version --'
       ;;
   esac
 }

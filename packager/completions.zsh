@@ -101,6 +101,7 @@ case $service in
       '--detach[go on without the connection]' \
       '--fetch[end and fetch a recording]' \
       '--no-names[do not ask for the names of services and packages]' \
+      '--collect=-[have garbage collected before the end]::names of processes:' \
       '(- *)--help[say what the options do]' \
       '(- *)--version[say what the programs are made of]'
     ;;

@@ -17,7 +17,8 @@ static const char usage[] =
 	" [--no-attachments] [--ring BYTES] [--stacks] [--check | --version | -- PROGRAM ARGUMENT...]";
 
 static const char usage_of_adb[] =
-	"record --adb [SERIAL] [--detach | --fetch] [--no-names] [OPTION].. [-- PROGRAM ARGUMENT...]";
+	"record --adb [SERIAL] [--detach | --fetch] [--no-names] [--collect[=NAME,..]] [OPTION].."
+	" [-- PROGRAM ARGUMENT...]";
 
 static const char help[] =
 	"Records the Binder traffic of the whole system until PROGRAM ends, or until SIGINT or SIGTERM, into\n"
@@ -47,6 +48,8 @@ static const char help[] =
 	"--no-names         does not ask the device's managers for the names of services and packages; without it the page\n"
 	"                   has those of all services, also of those that registered before the recording, and shows the\n"
 	"                   packages of each process's user\n"
+	"--collect          has all apps collect their garbage 2 s before the end, or the processes of these names,\n"
+	"                   --collect=NAME,NAME: what an app keeps then is no garbage that waits for its collection\n"
 	"\n"
 	"The exit status is that of PROGRAM, or 128 and the number of its signal; 1 if no recording was made, or could be.\n";
 
@@ -88,7 +91,7 @@ static void take(struct options *options, int letter)
 	case 't': options->stacks = 1; break;
 	case 'r': options->ring = number("--ring", optarg, SMALLEST_RING, LARGEST_RING); break;
 	case 'c': options->check = 1; break;
-	case 'b': fail("--adb comes first, and --detach, --fetch and --no-names after it: %s", usage_of_adb);
+	case 'b': fail("--adb comes first, and --detach, --fetch, --no-names and --collect after it: %s", usage_of_adb);
 	case 'h': printf("%s\n%s\n\n%s", usage, usage_of_adb, help); exit(0);
 	default: fail("usage: %s", usage);
 	}
@@ -105,6 +108,7 @@ void options_read(struct options *options, int count, char **words)
 		{ "stacks", no_argument, NULL, 't' }, { "check", no_argument, NULL, 'c' },
 		{ "adb", no_argument, NULL, 'b' }, { "detach", no_argument, NULL, 'b' },
 		{ "fetch", no_argument, NULL, 'b' }, { "no-names", no_argument, NULL, 'b' },
+		{ "collect", optional_argument, NULL, 'b' },
 		{ "help", no_argument, NULL, 'h' }, { NULL, 0, NULL, 0 },
 	};
 	*options = (struct options){ .out = "capture", .size = 268435456, .ring = 67108864 };

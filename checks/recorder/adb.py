@@ -7,6 +7,7 @@ What must hold:
 
 - A recording is fetched as it was on the device, into files of the owner alone, and removed there. PROGRAM has its
   output and its status; without one SIGINT ends the recording, and a line says so. Lines before say what is done.
+- Apps, or the processes that are named, collect garbage before the recording ends, and none ends by that.
 - The packages of a device are in a file beside the side list, and a device that does not tell them holds up nothing.
 - If the connection is lost, if bytes come wrong, or if a file is in the way, a line says so, the recording stays on the
   device, and --fetch fetches it. So it does what --detach began.
@@ -226,6 +227,81 @@ def check_packages(device: Device) -> None:
     device.fetched("waiting")
 
 
+# Two processes as the zygote forks them. One has the name of an app and waits for SIGUSR1, as those of Java do, in a
+# thread that is not its first, and the other one would end by the signal. Each writes that it is there, and the first
+# one each signal that came.
+ZYGOTE = """
+import os, signal, subprocess
+def forked(name, script):
+    program = subprocess.Popen([name], executable=os.environ["PYTHON"], stdin=subprocess.PIPE)
+    program.stdin.write(b"import signal, threading, time; " + script)
+    program.stdin.close()
+    return program
+signal.pthread_sigmask(signal.SIG_BLOCK, [signal.SIGUSR1])
+app = forked(os.environ["APP"], b"threading.Thread(target=lambda: ["
+             b"print(signal.sigwait([signal.SIGUSR1]).name, flush=True) for _ in range(99)]).start();"
+             b" print('app', flush=True); time.sleep(999)")
+signal.pthread_sigmask(signal.SIG_UNBLOCK, [signal.SIGUSR1])
+other = forked(os.environ["OTHER"], b"print('other', flush=True); time.sleep(999)")
+other.wait()
+print("ended", flush=True)
+app.wait()
+"""
+
+
+@contextlib.contextmanager
+def zygote(device: Device, app: str, other: str) -> Iterator[Callable[[], list[str]]]:
+    """While it is entered, the zygote is there. What it forked has written so far is returned."""
+    told = device.room / "zygote"
+    with told.open("w") as out, subprocess.Popen(["zygote64", "-c", ZYGOTE], executable=sys.executable, stdout=out,
+                                                 env={**os.environ, "PYTHON": sys.executable, "APP": app,
+                                                      "OTHER": other},
+                                                 start_new_session=True) as program:
+        device.wait_until("the zygote", lambda: set(told.read_text("utf-8").split()) == {"app", "other"})
+        try:
+            yield lambda: sorted(told.read_text("utf-8").split())
+        finally:
+            os.killpg(program.pid, signal.SIGKILL)
+
+
+def check_garbage(device: Device) -> None:
+    """Apps, or the processes that are named, collect garbage once, 2 s before the end: also at the end of PROGRAM, and
+    when a detached recording is fetched. No process ends by that. Another run of this may have apps here, too."""
+    app, other = f"com.example.app{os.getpid()}", f"com.example.other{os.getpid()}"
+    with zygote(device, app, other) as told:
+        def collected(count: str) -> str:
+            return rf"record: the garbage of {count} process(es)? is collected; the recording ends 2 s later"
+
+        def signals(count: int) -> None:
+            device.wait_until(f"signal {count}", lambda: told().count("SIGUSR1") >= count)
+            if set(told()) - {"SIGUSR1"} != {"app", "other"}:
+                device.report(f"{device.what}: a process ended: {told()}")
+
+        device.what = "garbage at Ctrl-C"
+        program = device.start("--collect", "-o", "all-collect")
+        device.wait_until_recording()
+        program.send_signal(signal.SIGINT)
+        device.ends(program, 0, *PREPARED, READY, BEGUN, collected(r"\d+"), COUNTS, FETCHED.format("all-collect"))
+        signals(1)
+        for name, words, count in (("named", f"com.example.none,{app}", 1), ("none", app[1:], 0), ("other", other, 0)):
+            device.what = f"garbage of {words}"
+            began = time.monotonic()
+            device.says([f"--collect={words}", "-o", f"{name}-collects", "--", "sh", "-c", "echo a  word; exit 7"], 7,
+                        *PREPARED, READY, collected(str(count)), COUNTS, FETCHED.format(f"{name}-collects"),
+                        said="a word")
+            signals(2)
+            if time.monotonic() - began < 2:
+                device.report(f"{device.what}: the recording did not go on for 2 s")
+        device.what = "garbage when it is fetched"
+        device.says(["--detach", f"--collect={app}", "-o", "collects"], 0, *PREPARED, READY, r"record: one records, .*")
+        device.says(["--fetch", "-o", "collects"], 0, collected("1"), COUNTS, FETCHED.format("collects"))
+        signals(3)
+    device.what = "words for garbage"
+    for words in ("--collect=,", "--collect=a b", "--collect=a,,b"):
+        device.says([words], 1, "record: --collect takes nothing, or names of processes:"
+                    " --collect=com.example.one,com.example.two")
+
+
 # ---- whose the folder is
 
 
@@ -422,7 +498,7 @@ def check_server(device: Device) -> None:
 
 def judge(_: argparse.Namespace, room: pathlib.Path, fail: Fail) -> None:
     device = Device(room, fail)
-    for part in (check_sessions, check_detached, check_packages, check_two, check_left, check_restarted,
+    for part in (check_sessions, check_detached, check_packages, check_garbage, check_two, check_left, check_restarted,
                  check_interrupted, check_fetched_twice, check_lacking, check_lacking_here, check_lost,
                  check_lost_early, check_strange, check_devices, check_server):
         part(device)

@@ -1,17 +1,20 @@
 # What `record --adb` has done on the device, by its sh, as root, in the folder of the recording.
 #
-#     sh on_device.sh record NAMES [OPTION..] [-- PROGRAM ARGUMENT..]
+#     sh on_device.sh record NAMES COLLECT [OPTION..] [-- PROGRAM ARGUMENT..]
 #         records, and passes on what the recorder says, first what the device lacks or that it is ready, until PROGRAM
 #         ends. Without PROGRAM it says when the recording has begun. Each line of standard input, and its end, is
 #         passed on as SIGINT. If NAMES is `services` or `all`, the managers are asked for the names of all services; if
-#         it is `all`, the packages and their user ids are asked for too, and are in capture.packages.
-#     sh on_device.sh detach NAMES [OPTION..] [-- PROGRAM ARGUMENT..]
+#         it is `all`, the packages and their user ids are asked for too, and are in capture.packages. COLLECT is who
+#         collects garbage before the recording ends: `nobody`, `apps`, or the names of processes, with commas between.
+#     sh on_device.sh detach NAMES COLLECT [OPTION..] [-- PROGRAM ARGUMENT..]
 #         begins the same, and returns when the recording has begun, or has failed.
 #     sh on_device.sh end
 #         ends what was begun so, waits for that, and passes on what was said since.
+#     sh on_device.sh program PROGRAM ARGUMENT..
+#         runs the program that is recorded, and then has the garbage collected.
 #
-# The folder has `state`: `recording`, and then the status of the recorder, or nothing if the device is full; `pid`; and
-# `messages`, what the recorder says, of which so many bytes as `told` has were passed on when it began. The recorder
+# The folder has `state`: `recording`, and then the status of the recorder, or nothing if the device is full; `pid`;
+# `collect`, who collects garbage, until that is done; and `messages`, what the recorder says, of which so many bytes as `told` has were passed on when it began. The recorder
 # does not write to the connection itself, which may stall, but for the line that it is ready, before PROGRAM begins.
 # It uses what toybox, mksh and busybox have.
 # shellcheck shell=dash
@@ -26,9 +29,52 @@ wait_for_pid() {
 	while [ ! -e pid ] && [ "$(cat state)" = recording ]; do sleep 0.1; done
 }
 
+# The name that a process has in its command line, where NULs end the words.
+name_of() { # PROCESS
+	name=
+	read -r name <"$1/cmdline"
+	[ "$name" ]
+}
+
+# Whether a process waits for SIGUSR1, as all of Java do: any other one would end by it. The mask is in hexadecimal.
+waits_for_signal() { # PROCESS
+	blocked=
+	while read -r word value _; do
+		case $word in PPid:) parent=/proc/$value ;; SigBlk:) blocked=$value ;; esac
+	done <"$1/status"
+	case $blocked in *[2367abef]??) ;; *) return 1 ;; esac
+}
+
+# Whether a process is among these: by its name, or an app, which the zygote forked and which has a name of its own.
+is_among() { # NAMES PROCESS
+	name_of "$2" || return 1
+	if [ "$1" != apps ]; then
+		case ,$1, in *",$name,"*) return ;; *) return 1 ;; esac
+	fi
+	case $name in *zygote* | usap* | '<pre-initialized>') return 1 ;; esac
+	name_of "$parent" || return 1
+	case $name in *zygote*) ;; *) return 1 ;; esac
+}
+
+# Has garbage collected, once: so the handles of dropped proxies are let go of, and the recorder sees that.
+collect() {
+	[ -e collect ] || return
+	names=$(cat collect) count=0 what=processes
+	rm collect
+	for process in /proc/[0-9]*; do
+		if waits_for_signal "$process" && is_among "$names" "$process" && kill -USR1 "${process#/proc/}"; then
+			count=$((count + 1))
+		fi
+	done
+	if [ $count = 1 ]; then what=process; fi
+	echo "record: the garbage of $count $what is collected; the recording ends 2 s later" >>messages
+	sleep 2
+}
+
 # As Ctrl-C does on a terminal: the recorder and the program get the signal. It waits for a recorder that just begins.
 interrupt() {
 	wait_for_pid
+	is_recording && collect
 	is_recording && kill -INT "-$(cat pid)"
 }
 
@@ -73,9 +119,19 @@ prepare() {
 }
 
 # Runs the recorder in a session of its own, so that it and its program can be signalled as one.
-run() { # NAMES [OPTION..]
-	names=$1 asker=
-	shift
+run() { # NAMES COLLECT [OPTION..] [-- PROGRAM ARGUMENT..]
+	names=$1 asker= program=
+	if [ "$2" != nobody ]; then
+		echo "$2" >collect
+		program='sh on_device.sh program'
+	fi
+	shift 2
+	for word; do	# the program comes after the first --
+		shift
+		set -- "$@" "$word"
+		# shellcheck disable=SC2086
+		if [ "$word" = -- ]; then set -- "$@" $program && program=; fi
+	done
 	if [ "$names" = all ]; then ask_packages & asker=$!; fi
 	RECORD_READY=3 setsid ./record -o capture "$@" </dev/null 3>&4 2>>messages 4>&- & recorder=$!
 	# Until setsid has become the recorder, or that has ended.
@@ -96,7 +152,7 @@ tell() {
 }
 
 # Says once that the recording has begun, which ends by Ctrl-C: that of a PROGRAM shows itself.
-tell_begun() { # [OPTION..] [-- PROGRAM ARGUMENT..]
+tell_begun() { # NAMES COLLECT [OPTION..] [-- PROGRAM ARGUMENT..]
 	for word; do [ "$word" != -- ] || return; done
 	if [ -z "$begun" ] && has_begun; then
 		echo 'record: recording; Ctrl-C ends it, and fetches the files' >&4
@@ -144,6 +200,13 @@ end)
 		for _ in 1 2 3 4 5 6 7 8 9 10; do is_recording && sleep 1; done
 	done
 	tell
+	;;
+program)
+	shift
+	"$@" 2>&4 4>&-
+	status=$?
+	collect
+	exit $status
 	;;
 esac
 exit 0

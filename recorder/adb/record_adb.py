@@ -52,7 +52,8 @@ class Command(NamedTuple):
     def on_device(self, what: str) -> str:
         """A call of the script on the device."""
         progress = "RECORD_PROGRESS=1 " if sys.stderr.isatty() and what == "record" else ""
-        return f"{progress}sh on_device.sh {shlex.join([what, self.words.whose_names, *self.words.options])}"
+        asked = [what, self.words.whose_names, self.words.collect or "nobody", *self.words.options]
+        return f"{progress}sh on_device.sh {shlex.join(asked)}"
 
 
 # ---- the folder on the device

@@ -2,13 +2,14 @@
 
 import glob
 import os
+import re
 from typing import NamedTuple
 
 from connection import Stopped
 from fetch import ENDING, refuse
 
-USAGE = ("usage: record --adb [SERIAL] [--detach | --fetch] [--no-names] [OPTION].. [-- PROGRAM ARGUMENT..]; record"
-         " --help has the options")
+USAGE = ("usage: record --adb [SERIAL] [--detach | --fetch] [--no-names] [--collect[=NAME,..]] [OPTION].."
+         " [-- PROGRAM ARGUMENT..]; record --help has the options")
 
 
 class Words(NamedTuple):
@@ -18,6 +19,7 @@ class Words(NamedTuple):
     fetch: bool
     check: bool
     names: bool
+    collect: str  # whose garbage is collected before the end: names with commas between, `apps`, or nobody's
     options: list[str]  # for the recorder on the device, with the program
 
     @property
@@ -51,6 +53,15 @@ def take_out(options: list[str]) -> tuple[str, list[str]]:
     return out, others
 
 
+def take_collect(options: list[str]) -> tuple[str, list[str]]:
+    """Whose garbage --collect asks for, and the other options."""
+    asked = [word for word in options if word == "--collect" or word.startswith("--collect=")]
+    names = [word.removeprefix("--collect").removeprefix("=") or "apps" for word in asked]
+    if len(asked) > 1 or not all(re.fullmatch(r"[\w.:-]+(,[\w.:-]+)*", name, re.ASCII) for name in names):
+        raise Stopped("--collect takes nothing, or names of processes: --collect=com.example.one,com.example.two")
+    return "".join(names), [word for word in options if word not in asked]
+
+
 def kept_few(options: list[str]) -> list[str]:
     """The options of a flight recorder, which keeps at most 512 MiB, with the side lists, if nothing else is said."""
     own = {"--files": "4", "--size": "67108864"}
@@ -63,11 +74,12 @@ def read(words: list[str]) -> Words:
     options, program = split_program(words)
     own = {word for word in options if word in ("--detach", "--fetch", "--check", "--no-names")}
     out, others = take_out([word for word in options if word not in own])
-    if "--fetch" in own and (others or program or len(own) > 1) or "--help" in others:
+    collect, others = take_collect(others)
+    if "--fetch" in own and (others or program or collect or len(own) > 1) or "--help" in others:
         raise Stopped(USAGE)
     if "--detach" in own:
         others = kept_few(others)
-    return Words(serial, out, "--detach" in own, "--fetch" in own, "--check" in own, "--no-names" not in own,
+    return Words(serial, out, "--detach" in own, "--fetch" in own, "--check" in own, "--no-names" not in own, collect,
                  others + program)
 
 
