@@ -562,9 +562,11 @@ def oneway_space_full(s, others=0, got=0, call=False):
 @case("E5:1 W11:3 W3:1", "(the driver refused the one at ")
 @case("E5:1 W3:4", call=True)
 @case("E5:1 W3:4", other_receiver=True)
-def full_at_a_frozen(s, call=False, other_receiver=False):
+@case("E4:1 W3:4", kind=BR_FROZEN_REPLY)
+@case("E5:2 W11:4", "(the driver refused the one at 2012)", again=True)
+def full_at_a_frozen(s, call=False, other_receiver=False, kind=BR_FAILED_REPLY, again=False):
     """A client takes none of three oneway sends, and the driver refuses another one to it, or a call, or one to another
-    client. Then one more is taken."""
+    client. Then one more is taken, and maybe one more refused."""
     service, client = s.two()
     other = s.process(300, "other")
     client.main.gives(service.main, 1)
@@ -573,8 +575,11 @@ def full_at_a_frozen(s, call=False, other_receiver=False):
         service.main.sends(1, 7, ONE_WAY, bytes(1020), seen=False)
     refused = Sent(None, 7, 0 if call else ONE_WAY, bytes(1020), b"")
     service.main.writes(refused.record(BC_TRANSACTION, 2 if other_receiver else 1))
-    service.main.reads(record(BR_FAILED_REPLY))
+    service.main.reads(record(kind))
     service.main.sends(1, 7, ONE_WAY, bytes(4), seen=False)
+    if again:
+        service.main.writes(refused.record(BC_TRANSACTION, 1))
+        service.main.reads(record(kind))
     s.wait(300)
 
 

@@ -23,6 +23,7 @@ def of_each(due, **given):
 @case("H5:12", f"6 held at half of its time, 12 at the end; 12 of 12 {MAY_BE}", command="zygote64")
 @of_each("H5:12", gains=(3, 3, 3, 3))
 @case("H10:12", command="/system/bin/zygoted")
+@case("H10:12 H5:20", command="/system/bin/zygoted", beside=20)
 @case("H10:12", command="/system/bin/app\\x00zygote64")
 @case("H5:12", command="com.example.app", name="com.example.app")
 @case("H5:12", command="com.example.app.main", name="xample.app.main")
@@ -40,9 +41,10 @@ def of_each(due, **given):
 @case("H5:9", "4 held at half of its time, 9 at the end)", command="zygote64", gains=(2, 2, 3, 2))
 @case("H10:12", command="zygote64", collected=3, taken=True)
 @case("H5:12", command="zygote64", collected=3, taken=False)
-def garbage_waits(s, command, name="client", then=None, gains=(3, 3, 3, 3), collected=None, taken=True):
+def garbage_waits(s, command, name="client", then=None, gains=(3, 3, 3, 3), collected=None, taken=True,
+                  beside=0):
     """In each part of its time a client gets handles and uses none; in one part it lets go of another one, which it had
-    taken or not."""
+    taken or not. `beside`: at first it got so many in another way."""
     manager, _, server = with_server(s)
     client = s.process(500, name)
     client.is_called(command)
@@ -51,6 +53,8 @@ def garbage_waits(s, command, name="client", then=None, gains=(3, 3, 3, 3), coll
     if then:
         client.is_called(then)
     quarters, at = Quarters(s, client, manager), 20
+    for handle in range(200, 200 + beside):
+        client.main.is_given(server.main, handle, 7, **SERVER)
     for part, gained in enumerate(gains):
         quarters.lasts(part + 0.2)
         for handle in range(at, at + gained):

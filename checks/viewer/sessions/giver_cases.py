@@ -18,6 +18,7 @@ def takes_back(giver, holder, handles):
 @case("H5:9", "of those from others it keeps 0 of 4 from other 400", gains=(3, 2, 2, 2))
 @case("H13:12", gains=(3, 3, 3, 3), back=3)
 @case("H13:20", gains=(5, 5, 5, 5), back=5, back_in=3, uses=False)
+@case("H13:24", gains=(6, 6, 6, 6), back=6, back_in=3, uses=2)
 @case("H13:12 H4:1", twice=1)
 @case("H9:12", "of those from others it keeps 0 of 4 from other 400", gains=(3, 3, 3, 3), back=4)
 @case("H5:12", "of those from others it keeps 0 of 4 from other 400", gains=(4, 4, 4, 0), uses=False)
@@ -41,7 +42,7 @@ def giver_forgets(s, gains=(3, 3, 3, 3), back=0, back_in=0, twice=0, others=4, l
                   uses=True, lost=False, ends=False, ends_later=False, weakly=False):
     """In each part of its time a server gets objects from a client, and calls them. The client takes hardly any back;
     another process takes back all, or leaves some, or ends before the server lets go of them, or later. Or the server
-    keeps weak references, or takes one object twice."""
+    keeps weak references, or takes one object twice. It calls all, or every other one, or none."""
     manager, client, server = with_server(s)
     other, more = s.process(400, "other"), s.process(401, "other")
     for one in (other, more):
@@ -77,7 +78,7 @@ def giver_forgets(s, gains=(3, 3, 3, 3), back=0, back_in=0, twice=0, others=4, l
             for handle in range(200, 200 + left_of_more):
                 calls_back(more.main, server.main, handle)
         quarters.lasts(part + 0.8)
-        for handle in held if uses else ():
+        for handle in held[::int(uses)] if uses else ():
             server.main.asks(client.main, 8, handle, 0x9000 + 0x100 * handle)
     quarters.lasts(4)
     server.main.asks(manager.main, 1)

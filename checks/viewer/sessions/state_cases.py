@@ -207,7 +207,7 @@ def clear_not_confirmed(s, then, wait, ends=False, lost=False, thread=False):
         s.wait(300)
 
 
-@case("D10:1", "given by replies to code 5 of service 100 node 0x0 (the request is at ",
+@case("D10:1", "given by replies to code 5 of service 100 node 0x0 (the request is at 708)",
       "real clears with another cookie: 1 of - given by replies to code 5 of service 100 node 0x0 D10")
 @case("U6:1", cookie=0xD)
 @case("U6:1", asks=False)
