@@ -79,7 +79,7 @@ DELETE FROM refused_first WHERE id NOT IN (SELECT id FROM refused_first ORDER BY
 CREATE TEMP TABLE filling AS
 SELECT q.id, q.receiver, t.upid AS sender, 0 AS reply, r.flags & :TF_ONE_WAY AS oneway, r.code, n.upid AS about,
   n.ptr AS node, r.place, coalesce(d.place < q.place, 0) AS got
-FROM refused_first q JOIN node_of n ON n.upid = q.receiver JOIN raw_send s ON s.generation = n.generation
+FROM refused_first q CROSS JOIN node_of n ON n.upid = q.receiver JOIN raw_send s ON s.generation = n.generation
   AND s.place < q.place JOIN raw_record r ON r.place = s.place JOIN raw_thread t ON t.utid = s.utid
   LEFT JOIN raw_delivery d ON d.place = s.delivery LEFT JOIN raw_call c ON c.place = s.place
 WHERE s.refused IS NULL AND coalesce(d.freed_by > q.place, 1)
@@ -87,7 +87,7 @@ WHERE s.refused IS NULL AND coalesce(d.freed_by > q.place, 1)
 UNION ALL
 SELECT q.id, q.receiver, coalesce(p.upid, o.upid, t.upid), 1, 0, a.code, coalesce(o.upid, -t.upid),
   coalesce(o.ptr, a.handle), r.place, 1
-FROM refused_first q JOIN raw_thread t ON t.upid = q.receiver JOIN raw_delivery d ON d.utid = t.utid
+FROM refused_first q CROSS JOIN raw_thread t ON t.upid = q.receiver JOIN raw_delivery d ON d.utid = t.utid
   JOIN raw_record r ON r.place = d.place JOIN raw_record a ON a.place = d.call
   LEFT JOIN raw_send x ON x.place = d.send LEFT JOIN raw_thread p ON p.utid = x.utid
   LEFT JOIN raw_send s ON s.place = d.call LEFT JOIN node_of o ON o.generation = s.generation
