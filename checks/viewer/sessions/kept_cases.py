@@ -9,10 +9,10 @@ from checks.viewer.sessions.session import node_object
 SERVER = {"via": 1, "ptr": 0x9000}
 
 
-def calls_back(client, server, handle, code=4):
+def calls_back(client, server, handle, code=4, via=1, ptr=0x9000):
     """A client calls the server with an object, which the server takes by this handle."""
     body, listed = node_object(0x9000 + 0x100 * handle), offsets(0)
-    address = server.gets(client.sends(1, code, body=body, listed=listed), 0x9000, of_handle(2, handle))
+    address = server.gets(client.sends(via, code, body=body, listed=listed), ptr, of_handle(2, handle))
     server.writes(*each(BC_ACQUIRE, handle))
     client.answered(server.replies(address))
 
