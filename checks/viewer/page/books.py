@@ -221,8 +221,8 @@ def check_copies(folder: pathlib.Path, room: pathlib.Path, fail: Fail) -> None:
         compare(f"books, {name}", (status, told), (0, f"view: {due}\n" if due else ""), fail)
         compare(f"books, {name}, the page", says(room / f"copies-{name}.html", due), True, fail)
     for due in ("Already open when the recording began; by the driver's debugfs they then had: service 100 0 handles, 0"
-                " objects, 0 buffers, 0 calls made and 0 served; client 200 1 handle, 0 objects, 0 buffers, 0 calls made"
-                " and 0 served.",
+                " objects, 0 buffers, 0 calls made and 0 served; client 200 1 handle, 0 objects, 0 buffers, 0 calls"
+                " made and 0 served.",
                 AGREED):
         compare(f"books, the page says {due!r}", says(room / "copies-whole.html", due), True, fail)
     begin.write_text(texts[0], "utf-8")

@@ -52,8 +52,8 @@ def sessions_kept(s, kept, let_go, others=0):
 @case("H5:4", "4 of 4 given by replies to code 5 of server 300 node 0x9000 H5 ()", weakly=False)
 @case("H5:4 D1:4", "4 of 4 given by replies to code 5 of server 300 node 0x9000 H5 ()", again=True)
 @case("H10:12", "(6 held at half of its time, 12 at the end; held weakly, with a request for its death)", count=12)
-@case("H4:1", "(2 times, weakly, and let go of 0 times; handle 2, server 300 node 0x200; held weakly, with a request for"
-      " its death)", count=1, twice=True)
+@case("H4:1", "(2 times, weakly, and let go of 0 times; handle 2, server 300 node 0x200; held weakly, with a request"
+      " for its death)", count=1, twice=True)
 def linked_and_kept(s, count=4, weakly=True, asks=True, twice=False, again=False):
     """A client keeps weak references to objects, and asks for their deaths, or did so for objects that had these
     handles before."""
