@@ -117,7 +117,7 @@ def check_planted(folder: pathlib.Path, room: pathlib.Path, fail: Fail) -> None:
     compare("planted signs, status", (status, len(out.splitlines()) > 0), (0, True), fail)
     compare("planted signs, lines on standard error", [line.partition(b" ")[0] for line in err.split(b"\n")],
             [b"view:", b"view:", b"view:", b""], fail)
-    compare("planted signs, the line on the books", b"handle 1 1 by the report and 2 by the books" in err, True, fail)
+    compare("planted signs, the line on the books", b"handle 1 1 by the report and 2 by debugfs" in err, True, fail)
     clean("the groups", out, fail, "\n\t")
     clean("what is told of them", err, fail)
     status, out, err = ran(folder, room, *words, "--groups", "--columns", "--all")
