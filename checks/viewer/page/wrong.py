@@ -22,6 +22,7 @@ def programs_with(edit: Edit, folder: pathlib.Path, here: pathlib.Path) -> pathl
     edited(edit._replace(file=f"page/{edit.file}"), ROOT / "viewer", made / "viewer")
     for name in ("crates", "listing", "audit"):
         (made / name).symlink_to((folder / name).resolve())
+    (made / "packager").symlink_to(ROOT / "packager")  # which says what the loader takes
     return made
 
 
