@@ -3,7 +3,8 @@
 # libbinder with and without faults. It fetches AOSP's sources from Debian's registry, builds them, boots Debian's
 # kernels in QEMU, and plays aosp/plan.txt there. It is run by hand.
 #
-#     checks/run aosp [-- OPTION..]    fetches, builds, boots, compares; how long that takes was not measured yet
+#     checks/run aosp [-- OPTION..]    fetches, builds, boots, compares: ten minutes and more for a release, a kernel
+#                                      and one way to record
 #
 #     --room FOLDER      where packages and results are kept; by default a temporary folder that is removed
 #     --recorder FILE    a recorder that is already built; by default `./record` builds it
@@ -12,7 +13,7 @@
 #     --rust             only a kernel with the driver in Rust, which is built if there is none yet: rust_kernel.sh
 #     --only NAME        only this line of the plan; may be given several times
 #     --how HOW          only recordings made so: unrecorded, recorded, --redact or --stacks
-#     --limit SECONDS    how long a guest may take; by default 1800
+#     --limit SECONDS    how long a guest may take; by default 7200
 #     --store            also renews samples/aosp from the results of the newest kernel
 #
 # Each test is played unrecorded, recorded, with --redact and with --stacks; each scene with --redact and with --stacks.
@@ -23,7 +24,7 @@ set -euo pipefail
 here=$(readlink -f -- "${BASH_SOURCE[0]}")
 root=${here%/*/*/*}
 aosp=$root/checks/recorder/aosp check=aosp
-limit=1800 room='' recorder='' store='' how_only=''
+limit=7200 room='' recorder='' store='' how_only=''
 acceleration='-accel tcg,thread=single -cpu max'
 series=(6.1 newest)
 releases=(10 14)
