@@ -1,6 +1,7 @@
 -- H13: handles that a process keeps because the one that handed them over does not take them back.
 -- needs: database/schema.sql: finding, raw_generation, raw_record; nodes.sql: who; paths.sql: given, given_way, way;
---   ages.sql: process_life; ways.sql: kept_handle, kept_way, of_way; references.sql: growing, nearly_all
+--   ages.sql: process_life; rule.sql: lossy; ways.sql: kept_handle, kept_way, of_way; references.sql: growing,
+--   nearly_all
 -- makes: temporary tables: from_other, let_go_of_other, forgotten
 
 -- ---- the rules
@@ -25,7 +26,7 @@ FROM kept_way w JOIN way y ON y.id = w.way AND NOT y.reply
   JOIN given_way o ON (o.way, o.upid) = (w.way, w.upid) AND o.sender <> w.sender;
 -- One of them from which hardly any are kept takes back what it gave, if they are let go of while it lives. So the
 -- process lets go of what is taken back: of what came before the last :MANY of these, also the next collection of
--- garbage would have let go.
+-- garbage would have let go. Where frames of a giver are missing, it is not known how much it gave.
 CREATE TEMP TABLE let_go_of_other AS
 SELECT way, max(came) AS came
 FROM (
@@ -37,7 +38,8 @@ FROM (
     JOIN from_other o ON (o.way, o.sender) = (w.id, v.sender) JOIN raw_generation g ON g.id = v.generation
     JOIN raw_record r ON r.place = g.given_by JOIN raw_record e ON e.place = g.end
     JOIN process_life p ON p.upid = o.sender
-  WHERE o.n - o.kept >= :NEARLY_ALL * o.n AND g.acquired + g.increfs > 0 AND coalesce(e.seq <= p.ended_after, 1))
+  WHERE o.sender NOT IN (SELECT upid FROM lossy) AND w.sender NOT IN (SELECT upid FROM lossy)
+    AND o.n - o.kept >= :NEARLY_ALL * o.n AND g.acquired + g.increfs > 0 AND coalesce(e.seq <= p.ended_after, 1))
 WHERE nth = :MANY
 GROUP BY 1;
 -- Who has let go of the strong reference and keeps a weak one forgets that itself.

@@ -34,21 +34,23 @@ def takes_back(giver, holder, handles):
 @case("H13:12 H5:4", "of those from others it keeps 0 of 4 from other 400, 4 of 4 from other 401", left_of_more=4)
 @case("H13:12", "held by server 300; 6 held", uses=False)
 @case("H10:12", "of those from others it keeps 0 of 3 from other 400", uses=False, others=3)
-@case("M2:12", lost=True)
+@case("M2:12", lost="server")
+@case("H5:12", lost="client")
+@case("H5:12", lost="other")
 @case("H5:12", "of those from others it keeps 0 of 4 from other 400", ends=True)
 @case("H13:12", ends_later=True)
 @case("H5:12", weakly=True)
 def giver_forgets(s, gains=(3, 3, 3, 3), back=0, back_in=0, twice=0, others=4, left=0, when=3, code=4, left_of_more=0,
-                  uses=True, lost=False, ends=False, ends_later=False, weakly=False):
+                  uses=True, lost=None, ends=False, ends_later=False, weakly=False):
     """In each part of its time a server gets objects from a client, and calls them. The client takes hardly any back;
     another process takes back all, or leaves some, or ends before the server lets go of them, or later. Or the server
-    keeps weak references, or takes one object twice. It calls all, or every other one, or none."""
+    keeps weak references, or takes one object twice. Or a frame of one of them is lost. It calls all, or every other one, or none."""
     manager, client, server = with_server(s)
     other, more = s.process(400, "other"), s.process(401, "other")
     for one in (other, more):
         one.main.is_given(manager.main, 1, server_handle=3)
     if lost:
-        s.loses(server)
+        s.loses({"server": server, "client": client, "other": other}[lost])
     quarters, held, at = Quarters(s, server, manager), [], 20
     for part, gained in enumerate(gains):
         quarters.lasts(part + 0.2)
