@@ -2,7 +2,7 @@
 -- needs: database/schema.sql: finding, raw_call, raw_delivery, raw_record, raw_send, raw_thread; nodes.sql: node_of;
 --   counts.sql: buffer_path; ages.sql: ended, leaving, life, old; judging.py: counted
 -- after: calls.sql
--- makes: temporary tables: kept_path, kept_reply, freed_reply; indexes: kept_path_of
+-- makes: temporary tables: of_whole_path, kept_path, kept_reply, freed_reply; indexes: kept_path_of
 
 -- ---- what findings are called
 
@@ -13,18 +13,22 @@ UPDATE finding SET rule = 'T1' WHERE rule IS NULL AND section = 'buffers'
   AND (later = 0 AND finding.id IN (SELECT id FROM ended) OR finding.id IN (SELECT id FROM leaving));
 UPDATE finding SET rule = 'U1' WHERE rule IS NULL AND section = 'buffers' AND n_good >= :ENOUGH
   AND (coalesce(age <= longest, age_seq <= longest_seq) OR age <= :VERY_LONG AND age_seq <= longest_seq);
--- Nearly all of a path; or of the replies on it that one process got, which is the one to free them.
+-- Nearly all that one process got on a path, which is the one to free them; or nearly all of the replies of a path.
 UPDATE finding SET rule = 'U3'
-FROM (SELECT relation, code, about, node, NULL AS receiver FROM finding
-  WHERE section = 'buffers' AND rule IS NULL AND later > 0
-  GROUP BY 1, 2, 3, 4 HAVING count(*) >= :OFTEN AND count(*) >= :NEARLY_ALL * max(n_all)
-  UNION ALL
-  SELECT f.relation, f.code, f.about, f.node, f.upid FROM finding f JOIN buffer_path b
+FROM (SELECT f.relation, f.code, f.about, f.node, f.upid FROM finding f JOIN buffer_path b
     ON b.about = f.about AND b.node IS f.node AND b.code IS f.code AND b.relation = f.relation AND b.receiver = f.upid
   WHERE f.section = 'buffers' AND f.rule IS NULL AND f.later > 0
   GROUP BY 1, 2, 3, 4, 5 HAVING count(*) >= :OFTEN AND count(*) >= :NEARLY_ALL * max(b.n)) p
 WHERE rule IS NULL AND section = 'buffers' AND later > 0 AND p.relation = finding.relation AND p.code IS finding.code
-  AND p.about = finding.about AND p.node IS finding.node AND coalesce(p.receiver, finding.upid) = finding.upid;
+  AND p.about = finding.about AND p.node IS finding.node AND p.upid = finding.upid;
+CREATE TEMP TABLE of_whole_path AS
+SELECT f.id
+FROM finding f JOIN (SELECT relation, code, about, node FROM finding
+  WHERE section = 'buffers' AND coalesce(rule = 'U3', 1) AND later > 0
+  GROUP BY 1, 2, 3, 4 HAVING count(*) >= :OFTEN AND count(*) >= :NEARLY_ALL * max(n_all)) p
+  ON p.relation = f.relation AND p.code IS f.code AND p.about = f.about AND p.node IS f.node
+WHERE f.rule IS NULL AND f.section = 'buffers' AND f.later > 0;
+UPDATE finding SET rule = 'U3' WHERE id IN (SELECT id FROM of_whole_path);
 -- The longest of what the process freed itself tells, or that of the path.
 UPDATE finding SET rule = 'U2' FROM buffer_path b
 WHERE rule IS NULL AND section = 'buffers' AND later >= :OFTEN AND b.about = finding.about AND b.node IS finding.node

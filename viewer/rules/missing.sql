@@ -1,5 +1,6 @@
 -- M: what is no longer real, or not told at all, where frames are missing.
--- needs: database/schema.sql: finding, raw_record, raw_thread; nodes.sql: node_of; rule.sql: if_missing, lossy
+-- needs: database/schema.sql: finding, raw_record, raw_thread; nodes.sql: node_of; rule.sql: if_missing, lossy;
+--   buffers.sql: of_whole_path
 -- after: the rules
 -- makes: temporary tables: half_known
 
@@ -10,12 +11,13 @@ SELECT DISTINCT r.code, n.upid, n.ptr FROM (SELECT 1 FROM lossy LIMIT 1) CROSS J
   JOIN raw_thread t USING (utid) JOIN raw_record r USING (place) JOIN node_of n USING (generation)
 WHERE t.upid IN (SELECT upid FROM lossy);
 -- Of its own process; of a call also those of the process that it calls, where the call may wait for another one; and
--- of a call or a reply those of others on its path, and of a pool those of what calls it. A send with bad objects was
--- refused for these.
+-- of a call or a reply those of others on its path, and of a pool those of what calls it. Of the replies of a whole path
+-- any process may have got more. A send with bad objects was refused for these.
 UPDATE finding SET rule = m.becomes FROM if_missing m
 WHERE m.rule = finding.rule AND (upid IN (SELECT upid FROM lossy)
     OR section IN ('calls', 'books') AND target IN (SELECT upid FROM lossy) AND m.becomes = 'M2'
     OR section IN ('calls', 'books', 'buffers') AND m.becomes = 'M2'
       AND (finding.code, target, ptr) IN (SELECT code, upid, ptr FROM half_known)
-    OR section = 'pools' AND m.becomes = 'M2' AND upid IN (SELECT upid FROM half_known))
+    OR section = 'pools' AND m.becomes = 'M2' AND upid IN (SELECT upid FROM half_known)
+    OR finding.id IN (SELECT id FROM of_whole_path) AND EXISTS (SELECT 1 FROM lossy))
   AND NOT (m.becomes = 'M3' AND place IN (SELECT place FROM finding WHERE section = 'objects'));

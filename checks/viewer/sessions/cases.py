@@ -817,11 +817,16 @@ def small_replies(s, kept=(12, 12, 12), freed=(40, 40, 40), others=(), other_cod
 @case("U2:1", kept=1, good=3, held=50, wait=100)
 @case("U4:1", kept=1, good=3, held=50, wait=20)
 @case("U2:1 U6:1", kept=1, last=True, takes=0)
-def replies_to_several(s, kept, good=0, others=0, freed=4, takes=60, then=4, wait=200, held=0, last=False):
+@case("M2:3", kept=1, others=2, freed=0, lost=True)
+@case("U3:3", kept=3, freed=0, lost=True)
+def replies_to_several(s, kept, good=0, others=0, freed=4, takes=60, then=4, wait=200, held=0, last=False, lost=False):
     """A client keeps some replies, and frees others, at once. Each of some other clients keeps one, and another one
-    frees all, which takes long. Or that one keeps its last reply, too."""
+    frees all, which takes long. Or that one keeps its last reply, too, or a frame of it is lost."""
     service, client = s.two()
     slow = s.process(300, "slow")
+    slow.main.writes(ENTER)
+    if lost:
+        s.loses(slow)
     for at in range(kept + good):
         address = client.main.asks(service.main, free=False)
         if at >= kept:
