@@ -2,9 +2,9 @@
 the right statement.
 
 A case is judged once for all forms. Before a statement runs, each of its forms does, and is undone. A form that leaves
-what the statement leaves can't be told there. For a form that leaves something else a copy of this process goes on to
-the end with it, and looks at what comes of it. A view is looked at when all is judged, and judged again with each form
-that shows something else."""
+what the statement leaves can't be told there. For a form that leaves something else, which no form before it left, a
+copy of this process goes on to the end with it, and looks at what comes of it. A view is looked at when all is judged,
+and judged again with each form that shows something else."""
 
 import mmap
 import os
@@ -183,10 +183,16 @@ class Trying(Judged):
             forms = [(number, form) for number, form in of.forms
                      if self.told[number] == NOT_TOLD and not self.does_nothing(of, form)]
             due = self.left_by(statement, of, values) if forms else None
+            first: dict[str, int] = {}  # of the forms that leave the same
             for number, form in forms:
-                if self.left_by(form.wrong, of, values) != due and self.is_statement(number, form, values):
-                    if self.copied(number):
-                        return super().again(form.wrong, values)
+                left = self.left_by(form.wrong, of, values)
+                if left == due or not self.is_statement(number, form, values):
+                    continue
+                like = first.setdefault(repr(left), number)
+                if like != number:
+                    self.told[number] = self.told[like]
+                elif self.copied(number):
+                    return super().again(form.wrong, values)
         self.forget(changed_by(statement))
         return super().again(statement, values)
 
