@@ -16,7 +16,8 @@ from viewer.defects.seen import Defect, defects_of, kept_database
 CUT = "forgetful", "hello-stuck", "leaks", "sessions"
 
 # How a path begins with a name that is not known, and with one.
-LESS = (("reply to no call", "reply to "), ("handle", "handle, "), ("handle 0", "handle 0, "), ("cookie", "handle"))
+LESS = (("reply to no call", "reply to "), ("handle", "handle, "), ("handle", "given by "),
+        ("handle 0", "handle 0, "), ("cookie", "handle"))
 
 
 def recorded(folder: pathlib.Path, room: pathlib.Path, capture: pathlib.Path, side: pathlib.Path) -> dict[str, Defect]:
