@@ -292,12 +292,18 @@ def had_before(s, gains=(2, 2, 2, 2), lets_go=(2, 2, 2, 2), stays=0, passing=0, 
 @case("H4:45", gains=(21, 20, 2, 2))
 @case("H4:12", lost=True)
 @case("H15:12", has_side=False)
-def each_taken_twice(s, gains=(3, 3, 3, 3), lost=False):
-    """In each part of its time a client takes weak references twice of what it gets, and lets go of none."""
+@case("H15:12 H4:1 H5:1", others=True)
+def each_taken_twice(s, gains=(3, 3, 3, 3), lost=False, others=False):
+    """In each part of its time a client takes weak references twice of what it gets, and lets go of none. At first it
+    may take another one once, and one that came another way twice."""
     manager, client, server = with_server(s)
     if lost:
         s.loses(client)
     quarters, at = Quarters(s, client, manager), 20
+    if others:
+        client.main.is_given(server.main, 9, weakly=True, **SERVER)
+        client.main.is_given(server.main, 10, 6, weakly=True, **SERVER)
+        client.main.writes(*each(BC_INCREFS, 10))
     for part, gained in enumerate(gains):
         quarters.lasts(part + 0.2)
         for handle in range(at, at + gained):
