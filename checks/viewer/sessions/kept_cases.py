@@ -213,6 +213,8 @@ class Quarters:
 @case("H10:10", gains=(3, 3, 2, 2), passing=0, uses=False)
 @case("H5:9", gains=(3, 2, 2, 2), passing=0, uses=False)
 @case("H10:10 H5:2", gains=(3, 3, 3, 3), passing=0, uses=2)
+@case("H10:12 H5:10", gains=(6, 6, 5, 5), passing=0, uses=10)
+@case("H5:22", gains=(6, 6, 5, 5), passing=0, uses=11)
 @case("H5:12", gains=(3, 3, 3, 3), passing=0, uses=3)
 @case("H5:12", gains=(4, 4, 4, 0), passing=0, uses=False)
 @case("H5:12", "6 held at half of its time, 12 at the end", gains=(3, 3, 3, 3), passing=0)
