@@ -52,7 +52,8 @@ WHERE rule IS NULL AND section = 'buffers';
 -- After a reply to a caller that has ended, or that gets an error in place of it, the driver takes nothing more of the
 -- write: what it took ends with the reply.
 UPDATE finding SET said = iif(l.ended_after < q.seq, 'its reply at {other} went to a caller that had ended',
-    'its reply at {other} failed') || ': the driver takes nothing behind it in the same write, no BC_FREE_BUFFER either',
+    'its reply at {other} failed')
+    || ': the driver takes nothing behind it in the same write, no BC_FREE_BUFFER either',
   other = q.place
 FROM raw_call c JOIN raw_record q ON q.place = c.closer JOIN raw_delivery d ON d.place = c.place
   JOIN raw_send s ON s.place = d.send JOIN life l ON l.utid = s.utid LEFT JOIN raw_call m ON m.place = d.send

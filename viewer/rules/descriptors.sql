@@ -38,8 +38,8 @@ SELECT upid, a.fd AS low, d.fd AS high
 FROM lowest a JOIN lowest b USING (upid) JOIN lowest c USING (upid) JOIN lowest d USING (upid)
 WHERE (a.quarter, b.quarter, c.quarter, d.quarter) = (0, 1, 2, 3) AND a.fd < b.fd AND b.fd < c.fd AND c.fd < d.fd
   AND d.fd - a.fd >= :TOO_MANY AND d.fd - c.fd >= :GROWTH * (d.fd - a.fd);
--- How each descriptor of theirs came, and whether it is open at the end, as far as numbers tell: it is the last one with
--- a number below all those of the last quarter.
+-- How each descriptor of theirs came, and whether it is open at the end, as far as numbers tell: it is the last one
+-- with a number below all those of the last quarter.
 CREATE TEMP TABLE fd_by AS
 SELECT
   g.upid,
@@ -56,7 +56,8 @@ FROM rising z JOIN got_fd g USING (upid) JOIN delivery d USING (place)
 CREATE TEMP TABLE fd_path AS
 SELECT *, row_number() OVER (PARTITION BY upid ORDER BY n DESC, place) AS nth
 FROM (
-  SELECT upid, relation, code, about, node, count(*) AS came, sum(is_open) AS n, min(iif(is_open, place, NULL)) AS place,
+  SELECT upid, relation, code, about, node, count(*) AS came, sum(is_open) AS n,
+    min(iif(is_open, place, NULL)) AS place,
     (SELECT w.who FROM fd_by o JOIN who w ON w.upid = o.sender WHERE o.is_open AND o.upid = b.upid AND o.code IS b.code
       AND o.relation = b.relation AND o.about = b.about AND o.node IS b.node GROUP BY o.sender
       ORDER BY count(*) DESC, min(o.place) LIMIT 1) AS sender

@@ -27,8 +27,8 @@
 -- answer with an object: `getService`, `checkService`, and `getService2` of Android 15.
 CREATE TEMP TABLE in_vain AS
 SELECT m.place, m.upid, p.device, m.service, r.seq, r.utid, r.code, x.ts
-FROM to_manager m JOIN raw_record r USING (place) JOIN raw_record a ON a.place = m.closer JOIN raw_process p USING (upid)
-  LEFT JOIN side_time x ON x.seq = r.seq
+FROM to_manager m JOIN raw_record r USING (place) JOIN raw_record a ON a.place = m.closer
+  JOIN raw_process p USING (upid) LEFT JOIN side_time x ON x.seq = r.seq
 WHERE m.service NOTNULL AND m.objects = 0 AND m.verdict = 1 AND r.code BETWEEN 1 AND 3 AND a.offsets_size = 0
   AND NOT a.flags & :TF_STATUS_CODE;
 -- When a service was there: it was registered, or given to a process that asked for it.

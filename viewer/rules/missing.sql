@@ -11,8 +11,8 @@ SELECT DISTINCT r.code, n.upid, n.ptr FROM (SELECT 1 FROM lossy LIMIT 1) CROSS J
   JOIN raw_thread t USING (utid) JOIN raw_record r USING (place) JOIN node_of n USING (generation)
 WHERE t.upid IN (SELECT upid FROM lossy);
 -- Of its own process; of a call also those of the process that it calls, where the call may wait for another one; and
--- of a call or a reply those of others on its path, and of a pool those of what calls it. Of the replies of a whole path
--- any process may have got more. A send with bad objects was refused for these.
+-- of a call or a reply those of others on its path, and of a pool those of what calls it. Of the replies of a whole
+-- path any process may have got more. A send with bad objects was refused for these.
 UPDATE finding SET rule = m.becomes FROM if_missing m
 WHERE m.rule = finding.rule AND (upid IN (SELECT upid FROM lossy)
     OR section IN ('calls', 'books') AND target IN (SELECT upid FROM lossy) AND m.becomes = 'M2'

@@ -67,11 +67,13 @@ CREATE TEMP TABLE refused_first AS
 SELECT *, row_number() OVER (PARTITION BY upid, receiver, oneway ORDER BY place) AS nth
 FROM (
   SELECT f.id, f.upid, e.place, f.target AS receiver, r.flags & :TF_ONE_WAY AS oneway
-  FROM failure e JOIN finding f USING (id) JOIN raw_record r ON r.place = e.place LEFT JOIN refusal w ON w.place = e.place
+  FROM failure e JOIN finding f USING (id) JOIN raw_record r ON r.place = e.place
+    LEFT JOIN refusal w ON w.place = e.place
   WHERE e.refused AND f.rule = 'E5' AND f.target NOTNULL AND coalesce(w.errno = 28, r.flags & :TF_ONE_WAY)
   UNION ALL
   SELECT f.id, f.upid, w.place, f.upid, 0
-  FROM finding f JOIN raw_send s USING (place) JOIN raw_call c ON c.place = s.delivery JOIN refusal w ON w.place = c.closer
+  FROM finding f JOIN raw_send s USING (place) JOIN raw_call c ON c.place = s.delivery
+    JOIN refusal w ON w.place = c.closer
   WHERE f.rule = 'E6' AND w.errno = 28);
 DELETE FROM refused_first WHERE nth > 1;
 DELETE FROM refused_first WHERE id NOT IN (SELECT id FROM refused_first ORDER BY place LIMIT :NOTED);
@@ -120,7 +122,8 @@ UPDATE finding SET note = (
       counted(n, 'send') || ' from ' || (SELECT who FROM who w WHERE w.upid = i.upid), ', ')
   FROM (SELECT * FROM in_the_way w WHERE w.id = finding.id ORDER BY bytes DESC, upid LIMIT -1) i, refused_first q
   WHERE q.id = finding.id)
-  || (SELECT '; most by ' || iif(m.reply, 'replies to ', '') || call_words(m.code, short_name(m.interface), 0, m.method) || ', the largest has '
+  || (SELECT '; most by ' || iif(m.reply, 'replies to ', '')
+      || call_words(m.code, short_name(m.interface), 0, m.method) || ', the largest has '
       || counted(max(m.largest) OVER (), 'byte')
     FROM no_space m WHERE m.finding = finding.id ORDER BY m.bytes DESC, m.sender_upid LIMIT 1)
 WHERE id IN (SELECT id FROM in_the_way);
