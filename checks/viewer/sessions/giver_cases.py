@@ -44,7 +44,8 @@ def giver_forgets(s, gains=(3, 3, 3, 3), back=0, back_in=0, twice=0, others=4, l
                   uses=True, lost=None, ends=False, ends_later=False, weakly=False):
     """In each part of its time a server gets objects from a client, and calls them. The client takes hardly any back;
     another process takes back all, or leaves some, or ends before the server lets go of them, or later. Or the server
-    keeps weak references, or takes one object twice. Or a frame of one of them is lost. It calls all, or every other one, or none."""
+    keeps weak references, or takes one object twice. Or a frame of one of them is lost. It calls all, or every other
+    one, or none."""
     manager, client, server = with_server(s)
     other, more = s.process(400, "other"), s.process(401, "other")
     for one in (other, more):
