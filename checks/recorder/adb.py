@@ -253,10 +253,10 @@ app.wait()
 def zygote(device: Device, app: str, other: str) -> Iterator[Callable[[], list[str]]]:
     """While it is entered, the zygote is there. What it forked has written so far is returned."""
     told = device.room / "zygote"
-    with told.open("w") as out, subprocess.Popen(["zygote64", "-c", ZYGOTE], executable=sys.executable, stdout=out,
-                                                 env={**os.environ, "PYTHON": sys.executable, "APP": app,
-                                                      "OTHER": other},
-                                                 start_new_session=True) as program:
+    known = {**os.environ, "PYTHON": sys.executable, "APP": app, "OTHER": other}
+    with told.open("w", encoding="utf-8") as out, subprocess.Popen(
+            ["zygote64", "-c", ZYGOTE], executable=sys.executable, stdout=out, env=known,
+            start_new_session=True) as program:
         device.wait_until("the zygote", lambda: set(told.read_text("utf-8").split()) == {"app", "other"})
         try:
             yield lambda: sorted(told.read_text("utf-8").split())
