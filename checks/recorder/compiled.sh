@@ -3,6 +3,7 @@
 # that the verifier of this machine's kernel passes the programs for the kernel, those for older kernels too. It verifies
 # them with the places of fields of this kernel, and of each kernel whose BTF is in systems/: a field that one of them
 # calls differently is refused. What an older verifier refuses is seen on older kernels only: `checks/run driver`.
+# So does cost/opens.c, which runs some of these programs, but is played by hand only.
 #
 #     checks/run compiled
 #
@@ -59,6 +60,8 @@ done
 if [[ -x $room/${machines[0]}/record ]]; then
   "$room/${machines[0]}/record" --help >"$room/help"
   for programs in record older; do verify "$room/${machines[0]}/$programs.bpf.o"; done
+  gcc -std=gnu11 -Wall -Wextra -Werror -fsyntax-only "-I$root/recorder" "-I$here/scenarios" \
+    -isystem "$room/${machines[0]}" "$here/cost/opens.c" || status=1
 fi
 if ((${#untried[@]})); then printf '%s\n' "${untried[@]}" | sort -u; fi
 exit "$status"

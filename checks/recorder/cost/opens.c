@@ -3,6 +3,7 @@
  * and three times with the two programs of the recorder, and writes a line as those of calls for each. */
 #include "common.h"
 #include "mark.h"
+#include "messages.h"
 #include <bpf/libbpf.h>
 #include <fcntl.h>
 #include <stdio.h>
