@@ -4,6 +4,8 @@
 #include <stdlib.h>
 #include <string.h>
 
+#define COUNT(array) (sizeof(array) / sizeof *(array))
+
 /* A code word that docs/COMMANDS.md lists. The words are not those of linux/android/binder.h: the header of the machine
  * that builds may be older than the driver, and then lists fewer. */
 struct listed {
@@ -60,21 +62,27 @@ static const struct listed returns_listed[] = {
 	{ 0, 0 },
 };
 
-/* The listed words that have the letter of this one; 0 ends them. */
-static const struct listed *listed_beside(u32 word)
+/* The first listed word that has the letter and the number of this one, or one after which there is none; 0 ends them.
+ * The numbers rise from 0 on, and each one has a word: so none of the first N words has the number N. */
+static const struct listed *listed_from(u32 word)
 {
-	return _IOC_TYPE(word) == 'c' ? commands_listed : returns_listed;
+	u32 number = _IOC_NR(word), is_command = _IOC_TYPE(word) == 'c';
+	u32 count = is_command ? COUNT(commands_listed) : COUNT(returns_listed);
+	const struct listed *row = is_command ? commands_listed : returns_listed;
+	row += number < count ? number : count - 1;
+	while (row->word && _IOC_NR(row->word) < number)
+		row++;
+	return row;
 }
 
 /* A number that is listed must have a listed size; any other number may have any size. */
 static int is_listed_or_opaque(u32 word)
 {
-	int is_number = 0;
-	for (const struct listed *row = listed_beside(word); row->word; row++) {
+	const struct listed *row = listed_from(word);
+	int is_number = row->word && _IOC_NR(row->word) == _IOC_NR(word);
+	for (; row->word && _IOC_NR(row->word) == _IOC_NR(word); row++)
 		if (row->word == word)
 			return 1;
-		is_number |= _IOC_NR(row->word) == _IOC_NR(word);
-	}
 	return !is_number;
 }
 
@@ -100,7 +108,7 @@ int records_fill(const u8 *commands, u64 bytes, u32 direction)
 static int has_data(u32 word, const u8 *payload)
 {
 	struct binder_transaction_data data;
-	const struct listed *row = listed_beside(word);
+	const struct listed *row = listed_from(word);
 	while (row->word && row->word != word)
 		row++;
 	if (!row->carries)

@@ -2,10 +2,10 @@
 #include "codes.h"
 #include "met.h"
 #include "parts.h"
+#include "pool.h"
 #include "redact.h"
 #include "side.h"
 #include "stacks.h"
-#include <stdlib.h>
 #include <string.h>
 
 #define FRAME_HEAD 32u
@@ -25,10 +25,14 @@ u64 frame_entries_left_out(void)
 
 struct frame *frame_make(u64 number)
 {
-	struct frame *frame = allocate(sizeof *frame);
-	frame->number = number;
-	frame->memory = sizeof *frame;
+	struct frame *frame = pool_take(sizeof *frame);
+	*frame = (struct frame){ .number = number, .memory = pool_room(sizeof *frame) };
 	return frame;
+}
+
+static u64 bytes_of(const struct entry *entry)
+{
+	return sizeof *entry + (u64)entry->data + entry->offsets;
 }
 
 void frame_free(struct frame *frame)
@@ -37,14 +41,14 @@ void frame_free(struct frame *frame)
 		return;
 	for (struct entry *entry = frame->entries, *next; entry; entry = next) {
 		next = entry->next;
-		free(entry);
+		pool_give(entry, bytes_of(entry));
 	}
 	for (struct note *note = frame->notes, *next; note; note = next) {
 		next = note->next;
-		free(note);
+		pool_give(note, sizeof *note);
 	}
-	free(frame->commands);
-	free(frame);
+	pool_give(frame->commands, frame->room);
+	pool_give(frame, sizeof *frame);
 }
 
 /* Makes a new, empty entry for the record. It replaces an entry that the record has. Mostly it is the last one. */
@@ -55,17 +59,17 @@ static struct entry *new_entry(struct frame *frame, u32 record, u32 data, u32 of
 	while (*place && (*place)->record < record)
 		place = &(*place)->next;
 	old = *place;
-	struct entry *entry = allocate(sizeof *entry + (u64)data + offsets);
+	struct entry *entry = pool_take(sizeof *entry + (u64)data + offsets);
 	*entry = (struct entry){ .next = old, .record = record, .data = data, .offsets = offsets };
 	if (old && old->record == record) {
 		entry->next = old->next;
-		frame->memory -= sizeof *old + (u64)old->data + old->offsets;
-		free(old);
+		frame->memory -= pool_room(bytes_of(old));
+		pool_give(old, bytes_of(old));
 	}
 	*place = entry;
 	if (!entry->next)
 		frame->last_entry = entry;
-	frame->memory += sizeof *entry + (u64)data + offsets;
+	frame->memory += pool_room(bytes_of(entry));
 	return entry;
 }
 
@@ -75,6 +79,22 @@ static struct entry *find_entry(const struct frame *frame, u32 record)
 	while (entry && entry->record < record)
 		entry = entry->next;
 	return entry && entry->record == record ? entry : NULL;
+}
+
+/* Makes room for the commands of one more chunk. Most frames have one. */
+static void make_room(struct frame *frame, u64 count)
+{
+	u64 bytes = frame->bytes + count;
+	if (bytes <= frame->room)
+		return;
+	u64 room = pool_room(frame->bytes ? 2 * bytes : bytes);
+	u8 *larger = pool_take(room);
+	if (frame->bytes)
+		memcpy(larger, frame->commands, frame->bytes);
+	pool_give(frame->commands, frame->room);
+	frame->commands = larger;
+	frame->memory += room - frame->room;
+	frame->room = room;
 }
 
 int frame_add_chunk(struct frame *frame, const struct chunk *chunk)
@@ -88,10 +108,9 @@ int frame_add_chunk(struct frame *frame, const struct chunk *chunk)
 		frame->is_broken = 1;
 		return chunk->next == 0;
 	}
-	frame->commands = resize(frame->commands, frame->bytes + count);
+	make_room(frame, count);
 	memcpy(frame->commands + frame->bytes, bytes, count);
 	frame->bytes += count;
-	frame->memory += count;
 	frame->expected = chunk->next;
 	return chunk->next == 0;
 }
@@ -110,15 +129,14 @@ void frame_add_piece(struct frame *frame, const struct piece *piece)
 
 void frame_add_note(struct frame *frame, u32 record, u32 reason)
 {
-	struct note *note = allocate(sizeof *note);
-	note->record = record;
-	note->reason = reason;
+	struct note *note = pool_take(sizeof *note);
+	*note = (struct note){ .record = record, .reason = reason };
 	if (frame->last_note)
 		frame->last_note->next = note;
 	else
 		frame->notes = note;
 	frame->last_note = note;
-	frame->memory += sizeof *note;
+	frame->memory += pool_room(sizeof *note);
 }
 
 static int is_whole(const struct entry *entry, u64 consumed)
@@ -179,7 +197,7 @@ static void write_left_out(const struct frame *frame, u32 record, u64 consumed)
 static void write_lines(const struct frame *frame, u64 consumed, int attachments_left_out)
 {
 	unsigned long long number = frame->number;
-	side_line(frame->time, "frame %llu", number);
+	side_frame(frame->time, number);
 	if (frame->stack)
 		stacks_tell_call(frame->time, number, frame->stack);
 	if (frame->is_late)

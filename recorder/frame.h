@@ -24,14 +24,14 @@ struct frame {
 	u32 direction;
 	struct who who;
 	u8 *commands;
-	u64 bytes;
+	u64 bytes, room;		/* of the commands: how many there are, and how many were taken for them */
 	u32 expected;			/* where the next chunk begins */
 	int is_broken;			/* a chunk is missing */
 	int is_late;			/* the commands were read late */
 	u32 stack;			/* of its call, as stacks.h numbers it; 0 if there is none */
 	struct entry *entries, *last_entry;	/* in the order of their records */
 	struct note *notes, *last_note;
-	u64 memory;
+	u64 memory;			/* what all of it takes */
 };
 
 struct frame *frame_make(u64 number);

@@ -73,12 +73,17 @@ static void add_waiting(const char *text, u64 bytes)
 	waiting_bytes += bytes;
 }
 
-void side_text(const char *text)
+static void add(const char *text, u64 bytes)
 {
 	if (waits)
-		add_waiting(text, strlen(text));
+		add_waiting(text, bytes);
 	else
-		file_add(&side, text, strlen(text));
+		file_add(&side, text, bytes);
+}
+
+void side_text(const char *text)
+{
+	add(text, strlen(text));
 }
 
 void side_wait(void)
@@ -111,6 +116,32 @@ void side_line(u64 time, const char *format, ...)
 	va_end(arguments);
 	strcat(line, "\n");
 	side_text(line);
+}
+
+/* Puts the digits of a number before `end`, two at a time. Returns where they begin. */
+static char *digits_before(char *end, u64 number)
+{
+	static const char pairs[] = "00010203040506070809101112131415161718192021222324252627282930313233343536373839"
+				    "40414243444546474849505152535455565758596061626364656667686970717273747576777879"
+				    "8081828384858687888990919293949596979899";
+	for (; number >= 100; number /= 100)
+		memcpy(end -= 2, pairs + 2 * (number % 100), 2);
+	if (number >= 10)
+		return memcpy(end - 2, pairs + 2 * number, 2);
+	*--end = (char)('0' + number);
+	return end;
+}
+
+/* There is one for each frame, so it is made without vsnprintf. */
+void side_frame(u64 time, u64 number)
+{
+	static const char word[] = " frame ";
+	char line[64], *end = line + sizeof line, *begin = end - 1;
+	*begin = '\n';
+	begin = digits_before(begin, number) - (sizeof word - 1);
+	memcpy(begin, word, sizeof word - 1);
+	begin = digits_before(begin, time);
+	add(begin, (u64)(end - begin));
 }
 
 int side_flush(void)

@@ -13,6 +13,8 @@ void side_remove(void);
 #define LONGEST_LINE 2048
 /* Adds a line of less than LONGEST_LINE bytes: the time, a space, and the rest. */
 void side_line(u64 time, const char *format, ...) __attribute__((format(printf, 2, 3)));
+/* Adds the line of a frame: the time and the number. */
+void side_frame(u64 time, u64 number);
 /* Adds text: whole lines, as they are. */
 void side_text(const char *text);
 /* From now on what is added waits, until it is let go: other lines come before it. */
