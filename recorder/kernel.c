@@ -378,6 +378,13 @@ u64 kernel_stacks_empty(void)
 	return program->bss->stacks_empty;
 }
 
+/* Whether the program runs while frames are recorded. */
+static int is_for_frames(const struct bpf_program *each)
+{
+	return bpf_program__fd(each) >= 0 && each != program->progs.meet_openings &&
+	       each != program->progs.look_at_preemption;
+}
+
 /* Kernels before 6.7 do not count what they miss at tracepoints: calls of which only a part was seen show it too. */
 u64 kernel_runs_missed(void)
 {
@@ -386,7 +393,7 @@ u64 kernel_runs_missed(void)
 	bpf_object__for_each_program(each, program->obj) {
 		struct bpf_prog_info info = { 0 };
 		u32 length = sizeof info;
-		if (bpf_program__fd(each) >= 0 && !bpf_obj_get_info_by_fd(bpf_program__fd(each), &info, &length))
+		if (is_for_frames(each) && !bpf_obj_get_info_by_fd(bpf_program__fd(each), &info, &length))
 			missed += info.recursion_misses;
 	}
 	return missed > program->bss->half_calls ? missed : program->bss->half_calls;

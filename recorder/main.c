@@ -35,6 +35,8 @@
 #define FLUSH_EVERY (250u * MILLISECOND)
 #define TELL_EVERY (1000u * MILLISECOND)
 #define LOOK_EVERY (2u * MILLISECOND)
+#define LONGEST_PAUSE (16u * MILLISECOND)
+#define RING_OF_LONGEST_PAUSE (64u << 20)	/* some 4 GB a second would fill such a ring meanwhile */
 #define FEW_MESSAGES 256
 #define ROOM_FOR_LINES 16384		/* bytes */
 #define LAST_WAIT (1000u * MILLISECOND)		/* for frames that are not whole when the recording ends */
@@ -60,6 +62,16 @@ static void pause_for(u64 nanoseconds)
 {
 	struct timespec time = { .tv_nsec = (long)nanoseconds };
 	nanosleep(&time, NULL);
+}
+
+/* How long the ring may fill before it is looked at again. A process of which a stack came is looked at at once: what it
+ * has mapped can't be read after it has ended. */
+static u64 pause_of(const struct options *options)
+{
+	u64 pause = LONGEST_PAUSE * options->ring / RING_OF_LONGEST_PAUSE;
+	if (pause > LONGEST_PAUSE)
+		pause = LONGEST_PAUSE;
+	return options->stacks || pause < LOOK_EVERY ? LOOK_EVERY : pause;
 }
 
 /* Creates the files, or ends; then no file is left. */
@@ -126,7 +138,7 @@ static void tell_progress(void)
 }
 
 /* Records until the program ends or a signal comes. Returns 0, or the errno of a write that failed. */
-static int record(struct ring *ring)
+static int record(struct ring *ring, u64 pause)
 {
 	/* A caller may show the progress on a terminal that the recorder does not see. */
 	int is_terminal = isatty(STDERR_FILENO) || getenv("RECORD_PROGRESS"), error = 0;
@@ -148,7 +160,7 @@ static int record(struct ring *ring)
 		if (program_is_there() && program_has_ended())
 			break;
 		if (count < FEW_MESSAGES)
-			pause_for(LOOK_EVERY);
+			pause_for(pause);
 	}
 	if (is_terminal)
 		fprintf(stderr, "\r\033[K");
@@ -336,7 +348,7 @@ int main(int count, char **words)
 		return check(&options, &ring);
 	load(&options, &ring);
 	begin(&options, for_ready);
-	int error = record(&ring);
+	int error = record(&ring, pause_of(&options));
 	if (error)
 		books_drop_names();
 	else
