@@ -1,0 +1,120 @@
+/* heard OUT BYTES CALLS: gives the recorder's loader the messages of so many calls, each with BYTES of data and 4 bytes
+ * of answer, as cost/calls.c makes them. See heard. */
+#include "frame.h"
+#include "kit.h"
+#include "names.h"
+#include "parts.h"
+#include "redact.h"
+#include "side.h"
+#include "window.h"
+#include <linux/android/binder.h>
+#include <stdlib.h>
+#include <string.h>
+
+enum { CLIENT = 1, SERVICE, MOST_DATA = 1 << 16, ANSWER = 4, RECORD = 4 + sizeof(struct binder_transaction_data) };
+#define CALLS_AT_ONCE 8			/* of which the messages are in the ring together */
+
+static u64 last;			/* the number that was taken last */
+static union {
+	u8 bytes[sizeof(struct piece) + MOST_DATA];
+	struct chunk chunk;
+	struct piece piece;
+} message;
+static u8 *end;				/* of the commands in `message` */
+
+static void command(u32 word, const void *payload, u32 bytes)
+{
+	memcpy(end, &word, sizeof word);
+	if (bytes)
+		memcpy(end + sizeof word, payload, bytes);
+	end += sizeof word + bytes;
+}
+
+static void begin_commands(void)
+{
+	end = (u8 *)(&message.chunk + 1);
+}
+
+static void carry(u32 word, u64 data)
+{
+	struct binder_transaction_data made = { .data_size = data };
+	command(word, &made, sizeof made);
+}
+
+static void free_buffer(void)
+{
+	u64 address = 0;
+	command(BC_FREE_BUFFER, &address, sizeof address);
+}
+
+/* The frame of the commands, with the data of its last record. */
+static void hear(u32 direction, u32 thread, u32 data)
+{
+	u32 commands = (u32)(end - (u8 *)(&message.chunk + 1));
+	message.chunk = (struct chunk){ .head = head_of(MESSAGE_CHUNK, direction, ++last, thread),
+		.commands = commands, .next = direction == DIRECTION_WRITE ? commands : 0 };
+	window_hear(&message, sizeof message.chunk + commands);
+	for (u32 at = 0, bytes; at < data; at += bytes) {
+		bytes = data - at < CHUNK ? data - at : CHUNK;
+		message.piece = (struct piece){ .head = head_of(MESSAGE_PIECE, direction, last, thread),
+			.record = commands - RECORD, .data = data, .at = at, .bytes = bytes };
+		window_hear(&message, sizeof message.piece + bytes);
+	}
+	if (direction == DIRECTION_READ)
+		return;
+	struct event event = { .head = head_of(MESSAGE_WRITTEN, direction, last, thread), .written = { commands } };
+	window_hear(&event, sizeof event);
+}
+
+static void call(u32 bytes)
+{
+	begin_commands();
+	free_buffer();
+	carry(BC_TRANSACTION, bytes);
+	hear(DIRECTION_WRITE, CLIENT, bytes);
+	begin_commands();
+	command(BR_NOOP, NULL, 0);
+	carry(BR_TRANSACTION, bytes);
+	hear(DIRECTION_READ, SERVICE, bytes);
+	begin_commands();
+	carry(BC_REPLY, ANSWER);
+	hear(DIRECTION_WRITE, SERVICE, ANSWER);
+	begin_commands();
+	command(BR_NOOP, NULL, 0);
+	command(BR_TRANSACTION_COMPLETE, NULL, 0);
+	hear(DIRECTION_READ, SERVICE, 0);
+	begin_commands();
+	command(BR_NOOP, NULL, 0);
+	command(BR_TRANSACTION_COMPLETE, NULL, 0);
+	carry(BR_REPLY, ANSWER);
+	hear(DIRECTION_READ, CLIENT, ANSWER);
+	begin_commands();
+	free_buffer();
+	hear(DIRECTION_WRITE, SERVICE, 0);
+}
+
+/* What is counted. */
+__attribute__((noinline)) void hear_calls(u32 bytes, long calls);
+void hear_calls(u32 bytes, long calls)
+{
+	for (long left = calls; left > 0; left -= CALLS_AT_ONCE) {
+		for (int i = 0; i < CALLS_AT_ONCE; i++)
+			call(bytes);
+		window_settle();
+	}
+}
+
+int main(int count, char **words)
+{
+	if (count != 4 || strtoul(words[2], NULL, 10) > MOST_DATA)
+		fail("heard OUT BYTES CALLS");
+	u32 bytes = (u32)strtoul(words[2], NULL, 10);
+	redact_begin(0);
+	if (parts_begin(words[1], 1u << 28, 0))
+		fail("%s can't be written", words[1]);
+	names_opening(1, now(), 0, 100, 1, "heard\0\0\0\0\0\0\0\0\0\0", MET_FROM_START);
+	names_thread(CLIENT, 101, 100, 1, "client\0\0\0\0\0\0\0\0\0");
+	names_thread(SERVICE, 102, 100, 1, "service\0\0\0\0\0\0\0\0");
+	hear_calls(bytes, strtol(words[3], NULL, 10));
+	return window_lost() || parts_end();
+}

@@ -1,0 +1,50 @@
+"""Counts the instructions that the recorder's loader takes for a call, and compares them with a ceiling.
+
+    checks/run heard [-- --table]
+
+It builds the parts of the recorder that need no kernel, as `recorder/build.sh` compiles them, and gives them the
+messages of calls as from the ring (heard.c): a call is two writes and two reads of its client and its service, and a
+write and a read that free the buffer and wait. valgrind counts the instructions of the calls alone. What the loader
+takes of the kernel, and what it takes each time it looks into the ring, is not in it; `checks/run cost` counts that
+too, in a guest.
+
+A ceiling is some 3 percent above what was counted, on x86-64 with the C library of Debian 12. So a call of malloc or of
+printf for each message is seen. With --table a table is printed.
+"""
+
+import argparse
+import pathlib
+import re
+import subprocess
+
+from checks.kit.checking import FLAG, Fail, check, row
+from checks.kit.programs import CHECKS
+
+# How many instructions a call may take, by the bytes of its data.
+CEILINGS = {128: 11_100, 65_536: 92_000}
+CALLS = 400
+
+
+def counted(program: pathlib.Path, size: int, room: pathlib.Path) -> int:
+    """How many instructions the loader takes for a call."""
+    counts = room / f"{size}.counts"
+    subprocess.run(["valgrind", "--quiet", "--tool=callgrind", "--toggle-collect=hear_calls",
+                    f"--callgrind-out-file={counts}", program, room / f"{size}", str(size), str(CALLS)], check=True)
+    totals = re.search(r"^totals: (\d+)$", counts.read_text("utf-8"), re.MULTILINE)
+    return int(totals[1]) // CALLS if totals else 0
+
+
+def judge(given: argparse.Namespace, room: pathlib.Path, fail: Fail) -> None:
+    subprocess.run([CHECKS / "recorder/build.sh", "heard", room, "-O2"], check=True)
+    if given.table:
+        row("data, bytes", "instructions for a call", "ceiling")
+    for size, ceiling in CEILINGS.items():
+        each = counted(room / "heard", size, room)
+        if given.table:
+            row(f"{size:,}", f"{each:,}", f"{ceiling:,}")
+        if not 0 < each <= ceiling:
+            fail(f"a call with {size} bytes: expected {ceiling} instructions of the loader or less, came {each}")
+
+
+if __name__ == "__main__":
+    check(judge, table=FLAG)
