@@ -184,50 +184,51 @@ CREATE TABLE raw_generation(id INTEGER PRIMARY KEY, upid INTEGER NOT NULL, handl
 -- and if there is a bad object, everything after the last good one. If both sizes are 0 it is the sum of no bytes, with
 -- or without an entry; otherwise a record without an entry has the sum 0.
 -- Candidates of a delivery are the sends of its key that come before it; of calls only those that are not closed before
--- it. One that is refused is a candidate only if a frame is missing before it, since the error may then be that of
--- another send. The send of the delivery is none of these:
+-- it. One that is refused is a candidate only if a frame is missing before the send, since the error may then be that
+-- of another send. The send of the delivery is none of these:
 -- 1. one that is sure to be that of another delivery
--- 2. one whose generation is known to mean another node; one of the process of the delivery, as no process has a handle
---    of its own node; and one whose process has at that time another generation that is known to mean the node, as no
---    process has two handles of a node. Two generations of a process are there at a time if each begins before the
---    other one ends
+-- 2. one whose generation is known to mean another node. Of those of which no node is known: one of the process of the
+--    delivery, as no process has a handle of its own node; and one whose process has at that time another generation
+--    that is known to mean the node, as no process has two handles of a node. Two generations of a process are there at
+--    a time if each begins before the other one ends. Of a process and a node the first 16 such others are asked
 -- 3. a call that ranks behind another one. The rank of a call is 1 if it and the served call do not lie as they should,
 --    and 2 more if sender_pid is not as it should be
--- 4. a oneway one that was sent after another candidate of its generation that is not refused, and from which no
---    delivery before may have come. The driver delivers what is sent to a node in the order in which it took it. It
---    took one send after another one if one thread made both, or if the earlier one was confirmed before the later one.
---    With TF_UPDATE_TXN nothing is said, as the driver drops an earlier send for a later one. This rule is for
---    deliveries by 'All sends are there' alone
--- What is left are those that it may have come from. They are looked for among the first 64 candidates, in this order:
--- those that are known to go to the node and that no guess has taken, those of which no node is known, and then the two
--- kinds that a guess has taken.
+-- 4. a oneway one that the driver took after the first fresh one. Fresh is a candidate that is not refused and from
+--    which no delivery before may have come. The driver delivers what is sent to a node in the order in which it took
+--    it. It took one send after another one if one thread made both, or if the earlier one was confirmed before the
+--    later one. With TF_UPDATE_TXN nothing is said, as the driver drops an earlier send for a later one. This rule is
+--    for deliveries by 'All sends are there' alone, and only if all that the rules before leave are of one generation
+-- What is left are those that it may have come from. They are looked for among the first 64 candidates, without those
+-- that are known to go to another node, in this order: those that are known to go to the node and that no guess has
+-- taken, those of which no node is known, and then the two kinds that a guess has taken.
 -- When a pair is certain:
 --    All sends are there: the send must be in the capture, all candidates were looked at, the least rank is 0, and all
 --    that the delivery may have come from are of one generation. If it is only one, the pair is sure.
---    It must have come: a call that is answered was delivered. If no frame is missing between them, if at each delivery
---    all candidates of its key were looked at, and if only one delivery may have come from it, with rank 0, and from no
---    other one that must have come so, the pair is sure.
+--    It must have come: a call that is answered was delivered. If no frame is missing between the call and the answer,
+--    if at each delivery all candidates of its key were looked at, and if only one delivery may have come from it, with
+--    rank 0, and from no other one that must have come so, the pair is sure.
 -- Any other pair is a guess: certain is 0. fits is how many it may have come from; 1 more if its send need not be in
 -- the capture, if not all were looked at, or if the least rank is not 0. It takes the best one that no other one has
 -- taken: those first that were known to go to the node before a frame was missing; none that is refused, or was known
 -- to go to another node; then the first of oneway sends, and of calls the one whose closer has the least place, an open
 -- one last. If all are of one generation, the choice is the same, and certain is 1.
 -- A send that was taken by guess stays a candidate of later deliveries, and so do all that might have been taken in its
--- place. Only when as many deliveries came from them as there are such sends of the key, and a closed call counts as
--- one that came, none of them is a candidate any more. Deliveries that must have another send, or whose send need not
--- be in the capture, do not count here.
+-- place. If the send must be in the capture, all candidates were looked at and the least rank is 0, and the pair is not
+-- sure, all that the delivery may have come from are in doubt, and one of them came. When as many came as there are
+-- sends of the key in doubt, none of them is a candidate any more. A call in doubt that is closed counts as one that
+-- came: it is not in doubt any more, and one fewer came. A send in doubt whose pair becomes sure is only not in doubt.
 -- The send of a delivery must be in the capture if one of these holds:
---    No frame is missing before the delivery, and nothing shows that its process is older than the capture. It is older
---    if a read is the first frame of one of its threads, or if a thread that wrote neither BC_ENTER_LOOPER nor
---    BC_REGISTER_LOOPER gets a oneway transaction, or a call while it is in no other one.
---    Before the delivery, and after the last frame that is missing, its process was told by BR_INCREFS or BR_ACQUIRE
---    that there are references to the node now, and that thread has a frame before this one since. Then the first
---    handle of the node was made since, and no send from before is a candidate.
--- A generation is known to mean a node if all that was learnt of it says so. It is learnt only while no frame is
--- missing since its begin: by a certain pair, that its target means the node of the delivery; and by a sure pair, or
--- the sure pair of a reply, of each object that it hands over. If that is a BINDER for one side and a HANDLE for the
--- other, the generation of the handle means the node of the BINDER; if it is a HANDLE for both, their generations mean
--- the same. So for WEAK_BINDER and WEAK_HANDLE.
+--    No frame is missing before the delivery, and nothing in the whole capture shows that its process is older. It is
+--    older if a read is the first frame of one of its threads, or if a thread that has not yet written BC_ENTER_LOOPER
+--    or BC_REGISTER_LOOPER gets a oneway transaction, or a call while it is in no other one.
+--    Before the delivery, and after the last frame that is missing, a thread of its process was told by BR_INCREFS or
+--    BR_ACQUIRE that there are references to the node now, and had another frame between the missing one and that. Then
+--    the first handle of the node was made since the missing one, and no send from before it is a candidate.
+-- A generation is known to mean a node if all that was learnt of it says so. It is learnt, and known, only where no
+-- frame is missing since its begin: by a delivery for which all that are left are of one generation and certain is 1,
+-- that this generation means the node; and by a sure pair, or the sure pair of a reply, of each object that it hands
+-- over. If that is a BINDER for one side and a HANDLE for the other, the generation of the handle means the node of the
+-- BINDER; if it is a HANDLE for both, their generations mean the same. So for WEAK_BINDER and WEAK_HANDLE.
 -- The capture is walked up to five times, the first time without oneway transactions, until a walk brings nothing new.
 -- Sure pairs are kept; what is learnt on a walk is known on the next one, and guesses are those of the last one.
 -- How the calls should lie matters for calls alone, not for oneway transactions. Let c be the row of raw_call of the
