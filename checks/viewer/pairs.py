@@ -1,14 +1,14 @@
 #!/usr/bin/env python3
 """Checks the pairs of sends and deliveries that `./listing` finds, on sessions of a made-up driver.
 
-    checks/run pairs                    a few sessions of each kind
+    checks/run pairs                    16 sessions of each kind, and 48 of those with lost frames or begun in mid-life
     checks/run pairs -- --sessions N    N sessions of each kind, and prints a table of what came of their deliveries
     checks/run pairs -- --only KIND     sessions of this kind alone, such as `ticks cut`
 
 kit/simulated.py has the driver. In some sessions frames are lost, and some begin in mid-life. No pair that raw_send
 marks as certain may have another process or another generation than the send that was delivered, and where fits is 1 it
-is that very send. Of the pairs of whole sessions most must be certain. If all is well it prints nothing without
---sessions. Otherwise it prints what is wrong, and ends with status 1.
+is that very send. Of the pairs of whole sessions most must be certain, and of the guesses of each way most must be
+right. If all is well it prints nothing without --sessions. Otherwise it prints what is wrong, and ends with status 1.
 """
 
 import argparse
@@ -27,10 +27,11 @@ from checks.kit.rows import rows_of
 from checks.kit.simulated import Driver, Habits, Truth, began, capture_of
 from viewer.database.programs import build_programs
 
-FRAMES, SESSIONS = 900, 16
+FRAMES = 900
 
-# Of the deliveries of whole sessions so many hundredths must be in a pair that is certain.
-CERTAIN = 90
+# Of the deliveries of whole sessions so many hundredths must be in a pair that is certain. Of those in no such pair
+# whose send is in the capture, so many must have their send by a guess.
+CERTAIN, GUESSED = 90, 80
 
 # The weights are those of simulated.ACTS.
 SCENES = {
@@ -40,7 +41,8 @@ SCENES = {
     "rushed": Habits((2, 4, 3, 2, 4, 2, 2, 5, 0), rests=(2, 20), works=(0, 30), nests=30),
 }
 MANAGER = Habits((1, 0, 0, 0, 0, 0, 0, 0, 0), nests=0, registers=False, listens=False)
-WAYS = "whole", "cut", "lost"
+# How a session comes into the capture, and how many sessions of each scene come so.
+WAYS = {"whole": 16, "cut": 48, "lost": 48}
 OUTCOMES = "certain", "right", "wrong", "none", "unsent", "false"
 
 
@@ -129,10 +131,11 @@ def judge(given: argparse.Namespace, room: pathlib.Path, fail: Fail) -> None:
     kinds = [kind for kind in (Kind(scene, way) for way in WAYS for scene in SCENES) if given.only in str(kind)]
     if given.sessions:
         row("sessions", *OUTCOMES)
+    of_way: dict[str, Counter] = {}
     with ProcessPoolExecutor(os.cpu_count()) as pool:
         for kind in kinds:
             total: Counter = Counter()
-            seeds = range(given.sessions or SESSIONS)
+            seeds = range(given.sessions or WAYS[kind.way])
             for seed, (counts, faults) in enumerate(pool.map(judged, repeat(room), repeat(kind), seeds)):
                 total += counts
                 for what in faults[:3]:
@@ -141,6 +144,11 @@ def judge(given: argparse.Namespace, room: pathlib.Path, fail: Fail) -> None:
                 row(kind, *(total[what] for what in OUTCOMES))
             if kind.way == "whole" and total["certain"] * 100 < CERTAIN * total.total():
                 fail(f"{kind}: only {total['certain']} of {total.total()} are certain")
+            of_way[kind.way] = of_way.get(kind.way, Counter()) + total
+    for way, total in of_way.items():
+        guesses = sum(total[what] for what in ("right", "wrong", "none"))
+        if total["right"] * 100 < GUESSED * guesses:
+            fail(f"{way}: only {total['right']} of {guesses} guesses are right")
 
 
 if __name__ == "__main__":
