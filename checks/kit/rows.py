@@ -5,7 +5,7 @@ import pathlib
 import sqlite3
 import struct
 from contextlib import closing
-from typing import Iterator
+from typing import Iterable, Iterator
 
 from viewer.database import raw_tables
 
@@ -37,3 +37,16 @@ def rows_of(path: pathlib.Path) -> Iterator[dict[str, int | str]]:
                     row[name] = data[at:at + value].decode("ascii")
                     at += value
         yield row
+
+
+def encoded(table: str, rows: Iterable[list[int | str | None]]) -> bytes:
+    """The file of a table with these rows, of which each has a value, or None, for each column."""
+    made = bytearray()
+    for row in rows:
+        made += struct.pack("<Q", sum(1 << number for number, value in enumerate(row) if value is not None))
+        for value in row:
+            if isinstance(value, str):
+                made += struct.pack("<Q", len(value)) + value.encode("ascii")
+            elif value is not None:
+                made += struct.pack("<Q", value % 2**64)
+    return bytes(made)

@@ -1,0 +1,163 @@
+"""Compares the raw tables that `./listing --tables` writes with a second reading in Python.
+
+    checks/run tables_again                  all stored captures, and a share of those that are made
+    checks/run tables_again -- --all         all that are made too: 2,000 changed ones and 200 of made-up traffic
+    checks/run tables_again -- CASE..        these alone, as `stored/leaks`, `changed/17`, `made`
+    checks/run tables_again -- --show CASE   prints the capture's files, and each row that differs
+
+kit/tables/ has the reading, written from docs/DATABASE.md, viewer/database/schema.sql and docs/COMMANDS.md alone. Each
+row of each of the fourteen tables must be the same, column by column, and the status must be 2 exactly if the capture
+is malformed. A changed capture is a stored one of which bytes or frames are changed, cut, lost or joined with those of
+another one, in one file or in several. A made one is of kit/simulated.py or of kit/traffic.py. A case is always the
+same capture.
+"""
+
+import argparse
+import itertools
+import os
+import pathlib
+import random
+import shutil
+import subprocess
+from concurrent.futures import ProcessPoolExecutor
+from functools import cache
+from typing import Iterator
+
+from checks.hostile.mutations import changed_capture
+from checks.kit.captures import HEADER_2
+from checks.kit.checking import FLAG, Fail, check
+from checks.kit.frames import frames_of
+from checks.kit.programs import LISTING, ROOT
+from checks.kit.rows import columns_of_tables, encoded, rows_of
+from checks.kit.tables.reading import Row, tables_of
+from checks.kit.traffic import frames
+from checks.viewer.pairs import SCENES, WAYS, Kind, played
+from viewer.database.programs import build_programs
+
+CHANGED, MADE = 2000, 200
+# Of those that are made `.ci/run` takes each so many-th.
+SHARE = 5
+# One of so many made captures is of kit/traffic.py; it has so many frames.
+TRAFFIC, FRAMES = 5, 400
+
+STORED = {f"stored/{'/'.join(path.relative_to(ROOT).parts[1:])}": path for folder in ("samples", "crates")
+          for path in sorted((ROOT / folder).rglob("*.cap"))}
+
+
+def names(all_of_them: bool) -> list[str]:
+    step = 1 if all_of_them else SHARE
+    return [*STORED, *(f"changed/{number}" for number in range(0, CHANGED, step)),
+            *(f"made/{number}" for number in range(0, MADE, step))]
+
+
+# ---- captures
+
+
+@cache
+def stored() -> tuple[list[bytes], list[bytes]]:
+    """The stored captures: those of a real driver, and small ones."""
+    of_driver = [name for name in STORED if name.startswith("stored/driver/")]
+    return [STORED[name].read_bytes() for name in of_driver], [
+        path.read_bytes() for name, path in STORED.items() if name not in of_driver]
+
+
+def lost(chance: random.Random, capture: bytes) -> bytes:
+    """Without some of its frames, whose sequences are left out."""
+    kept, left_out = [capture[:16]], 0
+    for one in frames_of(capture):
+        left_out = max(left_out - 1, chance.choice((0,) * 20 + (1, 1, 2, 10)))
+        if not left_out:
+            kept.append(capture[one.place:one.end])
+    return b"".join(kept)
+
+
+def changed(number: int) -> list[bytes]:
+    """The files of a changed capture."""
+    chance = random.Random(f"changed {number}")
+    capture = changed_capture(chance, *(chance.choice(chance.choice(stored())) for _ in range(2)))
+    if chance.random() < 0.5:
+        capture = lost(chance, capture)
+    if chance.random() < 0.8 or len(capture) < 16:
+        return [capture]
+    ends = [one.end for one in frames_of(capture)] or [16]
+    cuts = sorted(chance.choice(ends) if chance.random() < 0.9 else chance.randint(16, len(capture))
+                  for _ in range(chance.randint(1, 3)))
+    return [capture[:cuts[0]], *(HEADER_2 + capture[begin:end] for begin, end in zip(cuts, [*cuts[1:], len(capture)]))]
+
+
+def made(number: int) -> list[bytes]:
+    """The file of a capture of made-up traffic."""
+    if number % TRAFFIC == 0:
+        at = number // TRAFFIC
+        begin = at // 3 * FRAMES
+        return [HEADER_2 + b"".join(itertools.islice(frames(at % 3 + 1), begin, begin + FRAMES))]
+    kinds = list(itertools.product(SCENES, WAYS))
+    return [played(Kind(*kinds[number % len(kinds)]), 1000 + number).capture]
+
+
+def files_of(name: str) -> list[bytes]:
+    kind, _, number = name.partition("/")
+    if kind == "stored":
+        return [STORED[name].read_bytes()]
+    return changed(int(number)) if kind == "changed" else made(int(number))
+
+
+# ---- comparing
+
+
+def written(room: pathlib.Path, parts: list[bytes]) -> tuple[int, pathlib.Path]:
+    """The status of the program on a capture in these files, and the folder with its tables."""
+    files, folder = [], room / "tables"
+    folder.mkdir(parents=True)
+    for number, part in enumerate(parts):
+        files.append(room / f"{number}.cap")
+        files[-1].write_bytes(part)
+    return subprocess.run([LISTING, "--tables", folder, *files], stdout=subprocess.DEVNULL, stderr=subprocess.DEVNULL,
+                          timeout=120).returncode, folder
+
+
+def differing(path: pathlib.Path, due: list[Row]) -> Iterator[str]:
+    """The rows of a table that differ: of each the place or the number, and the columns."""
+    columns = list(columns_of_tables()[path.stem])
+    wanted = [{name: value if isinstance(value, str) else value % 2**64
+               for name, value in zip(columns, row) if value is not None} for row in due]
+    for number, (one, other) in enumerate(itertools.zip_longest(rows_of(path), wanted)):
+        if one is None or other is None:
+            yield f"row {number}: {'only the reading' if one is None else 'only the program'} has {one or other}"
+        elif one != other:
+            yield f"row {number} ({columns[0]} {one[columns[0]]}): " + ", ".join(
+                f"{name} is {one.get(name)}, and {other.get(name)} by the reading"
+                for name in columns if one.get(name) != other.get(name))
+
+
+def compared(room: pathlib.Path, name: str, most: int) -> list[str]:
+    """What differs of a case: of each table at most so many rows."""
+    parts = files_of(name)
+    status, folder = written(room / name, parts)
+    tables = tables_of(parts)
+    wrong = []
+    if status != (0 if tables["capture"][0][8] is None else 2):
+        wrong.append(f"{name}: ends with status {status}")
+    came = {path.stem for path in folder.glob("*.rows")}
+    if came != set(tables):
+        wrong.append(f"{name}: has the tables {sorted(came)}")
+    for table in sorted(came & set(tables)):
+        path = folder / f"{table}.rows"
+        if path.read_bytes() != encoded(table, tables[table]):
+            wrong += [f"{name}, {table}: {what}" for what in itertools.islice(differing(path, tables[table]), most)]
+    shutil.rmtree(room / name)
+    return wrong
+
+
+def judge(given: argparse.Namespace, room: pathlib.Path, fail: Fail) -> None:
+    build_programs(ROOT)
+    cases = given.cases if given.named else names(given.all)
+    with ProcessPoolExecutor(os.cpu_count()) as pool:
+        for wrong in pool.map(compared, itertools.repeat(room), cases, itertools.repeat(1000 if given.show else 1),
+                              chunksize=8):
+            for what in wrong:
+                fail(what)
+
+
+if __name__ == "__main__":
+    check(judge, lambda: names(True), all=FLAG, show=FLAG)
