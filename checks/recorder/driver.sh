@@ -24,6 +24,7 @@
 #     --kvm              uses KVM, and not QEMU's own translator
 #     --arm64            also plays a few scenarios on Debian's kernel for arm64, with a recorder built for it
 #     --arm64-alone      plays nothing else
+#     --arm64-whole      plays nothing else, and there all scenarios
 #     --sanitize         runs the recorder under the address and undefined-behaviour sanitizers; they must find nothing
 #     --store            also renews samples/driver from the results of the newest kernel; with --rust some of them, as
 #                        NAME-rust
@@ -38,7 +39,7 @@ here=$(readlink -f -- "${BASH_SOURCE[0]}")
 root=${here%/*/*/*}
 scenarios=$root/checks/recorder/scenarios check=driver
 limit=900 flight=20 room= recorder= auditor= built= append= rename= words_of_recorder=
-store= arm64= rust= sanitize= blind= aosp=
+store= arm64= rust= sanitize= blind= aosp= plans_of_arm64=plan-arm64.txt
 # One thread for all processors: with a thread for each, the kernel 6.12 died of a breakpoint that it had removed.
 acceleration='-accel tcg,thread=single -cpu max'
 series=(6.1 6.12 newest 5.10)
@@ -73,6 +74,7 @@ while (($#)); do
   --kvm) acceleration='-accel kvm -cpu host' ;;
   --arm64) arm64=too ;;
   --arm64-alone) arm64=alone ;;
+  --arm64-whole) arm64=alone plans_of_arm64='plan.txt plan-clients.txt' ;;
   --sanitize) sanitize=1 ;;
   --store) store=1 ;;
   --blind) blind=$2 && shift ;;
@@ -131,6 +133,7 @@ take_programs() { # CHECKOUT
 
 # ---- the guest
 
+# Compilers for arm64 keep frame pointers, unless they are told to omit them.
 build_programs() {
   local compiler_of_32 flags=(-O2 -Wall -Wextra -Werror) source=(
     "$scenarios"/{scenarios,raw,send,processes,service,calls,held,ends,odd,many,faults,gaps,greedy,clients,crowd}.c
@@ -138,7 +141,7 @@ build_programs() {
   programs=$room/programs-$architecture
   mkdir -p -- "$programs"
   "$compiler" "${flags[@]}" -shared -fPIC -o "$programs/witness.so" "$scenarios/witness.c" -lpthread
-  "$compiler" "${flags[@]}" -o "$programs/scenarios" "${source[@]}" -lpthread
+  "$compiler" "${flags[@]}" -fomit-frame-pointer -o "$programs/scenarios" "${source[@]}" -lpthread
   "$compiler" "${flags[@]}" -fno-omit-frame-pointer -Wl,--build-id -o "$programs/scenarios.framed" "${source[@]}" \
     -lpthread
   "$compiler" "${flags[@]}" -static -o "$programs/scenarios.static" "${source[@]}" -lpthread
@@ -153,18 +156,18 @@ build_programs() {
 # libgbinder of Debian sid, what it needs, and a service and a client on it: a library that was not written for the
 # checks.
 build_clients() {
-  local folder=$room/packages-clients library
+  local folder=$room/packages-clients-$architecture library clients=$room/clients-$architecture
   if [[ ! -e $folder/opened ]]; then
     use_lists sid && open_packages "$folder" lib{gbinder,glibutil}{1,-dev} libglib2.0-{0t64,dev} libgio-2.0-dev \
       libc6 libatomic1 libffi8 libpcre2-8-0 || return 1
   fi
-  library=$folder/usr/lib/x86_64-linux-gnu
-  mkdir -p -- "$room/clients"
-  cp -L -- "$library"/{ld-linux-x86-64,libc,libm,libatomic}.so.[126] "$library"/lib{gbinder,glibutil}.so.1 \
-    "$library"/lib{glib,gobject}-2.0.so.0 "$library"/libffi.so.8 "$library"/libpcre2-8.so.0 "$room/clients/"
-  gcc -O2 -Wall -Wextra -Werror -isystem "$folder/usr/include/gbinder" -isystem "$folder/usr/include/gutil" \
+  library=$folder/usr/lib/$machine-linux-gnu
+  mkdir -p -- "$clients"
+  cp -L -- "$library/${loader##*/}" "$library"/{libc,libm,libatomic}.so.[16] "$library"/lib{gbinder,glibutil}.so.1 \
+    "$library"/lib{glib,gobject}-2.0.so.0 "$library"/libffi.so.8 "$library"/libpcre2-8.so.0 "$clients/"
+  "$compiler" -O2 -Wall -Wextra -Werror -isystem "$folder/usr/include/gbinder" -isystem "$folder/usr/include/gutil" \
     -isystem "$folder/usr/include/glib-2.0" -isystem "$library/glib-2.0/include" -L"$library" \
-    -Wl,--allow-shlib-undefined -o "$room/clients/gbinder" "$scenarios/gbinder.c" -lgbinder -lglibutil -lglib-2.0
+    -Wl,--allow-shlib-undefined -o "$clients/gbinder" "$scenarios/gbinder.c" -lgbinder -lglibutil -lglib-2.0
 }
 
 # What the kernel needs to reach the disk, and the driver.
@@ -185,8 +188,8 @@ make_initramfs() { # KERNEL PLAN TO
     for file in $(ldd "$recorder" | awk '$3 ~ /^\// { print $3 }'); do cp -- "$file" "$top/lib/"; done
   fi
   cp -- "$busybox" "$top/bin/busybox"
-  if [[ $machine == x86_64 ]]; then
-    cp -r -- "$room/clients" "$top/clients"
+  if [[ -e $room/clients-$architecture ]]; then
+    cp -r -- "$room/clients-$architecture" "$top/clients"
     mkdir -- "$top/etc"
     printf '[Protocol]\n/dev/binder = aidl2\n[ServiceManager]\n/dev/binder = aidl2\n' >"$top/etc/gbinder.conf"
   fi
@@ -224,7 +227,7 @@ boot() { # KERNEL PLAN OUT WORDS
 
 # Whether it is a scenario that the driver of this kernel can't play.
 lacks() { # KERNEL NAME
-  [[ $1 == 5.10 && $2 == freeze ]]	# BINDER_FREEZE is of 5.12
+  [[ $1 == 5.10 && $2 =~ ^(freeze|pending)$ ]]	# BINDER_FREEZE is of 5.12
 }
 
 plan() { # KERNEL PLAN..: prints the lines of the plans that --only leaves, and that the kernel can play
@@ -323,6 +326,11 @@ if [[ -n $arm64 ]]; then
   fetch_kernel "$one" || stop "the registry has no kernel ${series[0]} for arm64"
   build_programs
   build_recorder_for_arm64 || stop 'the recorder for arm64 was not built'
-  try plan-arm64.txt "arm64-${series[0]}" "$append" ''
+  if [[ $plans_of_arm64 == plan-arm64.txt ]]; then
+    whole=
+  else
+    build_clients || stop 'the clients on libgbinder were not built for arm64'
+  fi
+  try "$plans_of_arm64" "arm64-${series[0]}" "$append" "$whole"
 fi
 exit "$status"

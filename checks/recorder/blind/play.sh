@@ -17,7 +17,7 @@ blind_series=()
 
 build_sessions() {
   programs=$room/programs-$blind
-  rm -rf -- "$programs" && mkdir -p -- "$programs" "$room/clients"
+  rm -rf -- "$programs" && mkdir -p -- "$programs"
   # So a source of a set finds ../scenarios/raw.h, wherever the set is.
   gcc -O2 -Wall -Wextra -Werror -static -I"$root/checks/recorder/blind" -o "$programs/blind" "$sessions"/*.c \
     "$scenarios"/{raw,send,processes}.c -lpthread
