@@ -8,8 +8,8 @@
 kit/tables/ has the reading, written from docs/DATABASE.md, viewer/database/schema.sql and docs/COMMANDS.md alone. Each
 row of each of the fourteen tables must be the same, column by column, and the status must be 2 exactly if the capture
 is malformed. A changed capture is a stored one of which bytes or frames are changed, cut, lost or joined with those of
-another one, in one file or in several. A made one is of kit/simulated.py or of kit/traffic.py. A case is always the
-same capture.
+another one, in one file or in several. A made one is of kit/simulated.py, of kit/traffic.py, or of many transactions
+that are alike. A case is always the same capture.
 """
 
 import argparse
@@ -24,7 +24,8 @@ from functools import cache
 from typing import Iterator
 
 from checks.hostile.mutations import changed_capture
-from checks.kit.captures import HEADER_2
+from checks.kit.captures import (BC_REPLY, BC_TRANSACTION, BR_FAILED_REPLY, BR_REPLY, BR_TRANSACTION,
+                                 BR_TRANSACTION_COMPLETE, ENTER, HEADER_2, frame, record, transaction)
 from checks.kit.checking import FLAG, Fail, check
 from checks.kit.frames import frames_of
 from checks.kit.programs import LISTING, ROOT
@@ -36,9 +37,9 @@ from viewer.database.programs import build_programs
 
 CHANGED, MADE = 2000, 200
 # Of those that are made `.ci/run` takes each so many-th.
-SHARE = 5
-# One of so many made captures is of kit/traffic.py; it has so many frames.
-TRAFFIC, FRAMES = 5, 400
+SHARE = 4
+# A made capture of kit/traffic.py has so many frames, and one of a crowd so many calls.
+FRAMES, CROWD = 400, 100
 
 STORED = {f"stored/{'/'.join(path.relative_to(ROOT).parts[1:])}": path for folder in ("samples", "crates")
           for path in sorted((ROOT / folder).rglob("*.cap"))}
@@ -85,14 +86,55 @@ def changed(number: int) -> list[bytes]:
     return [capture[:cuts[0]], *(HEADER_2 + capture[begin:end] for begin, end in zip(cuts, [*cuts[1:], len(capture)]))]
 
 
+def session(chance: random.Random) -> bytes:
+    """A session of the made-up driver, other ones than `pairs` plays."""
+    return played(Kind(chance.choice(list(SCENES)), chance.choice(list(WAYS))), chance.randrange(1000, 2000)).capture
+
+
+def traffic(chance: random.Random) -> bytes:
+    begin = chance.randrange(20) * FRAMES
+    return HEADER_2 + b"".join(itertools.islice(frames(chance.randint(1, 3)), begin, begin + FRAMES))
+
+
+def talk(client: int, handle: int, entered: float, chance: random.Random) -> Iterator[tuple[int, int, bytes]]:
+    """A transaction that is like the others of a crowd: for each frame its direction, its thread, and its record."""
+    oneway, server = chance.random() < 0.2, 1000 + client
+    fields = {"code": 1, "flags": int(oneway)}
+    yield 1, client, transaction(BC_TRANSACTION, target=handle, **fields)
+    yield 2, client, record(chance.choice((BR_TRANSACTION_COMPLETE,) * 20 + (BR_FAILED_REPLY,)))
+    if chance.random() < entered:
+        yield 1, server, ENTER
+    yield 2, server, transaction(BR_TRANSACTION, target=16 * handle, buffer=4096 * client, **fields,
+                                 sender=chance.choice((0, 0, client % 3, 7)))
+    if not oneway:
+        yield 1, server, transaction(BC_REPLY)
+        yield 2, client, transaction(BR_REPLY, buffer=4096)
+
+
+def crowd(chance: random.Random) -> bytes:
+    """Transactions of which more are alike than are looked at for one delivery, of three processes to one."""
+    capture, sequence, handles = [HEADER_2], 0, chance.randint(1, 2)
+    # In some of them a frame is missing now and then, or some threads began to take calls before the capture.
+    steps, entered = chance.choice(((1,), (1,) * 200 + (3,))), chance.choice((1, 1, 0.9))
+    talks = [talk(number, chance.randint(1, handles), entered, chance) for number in range(CROWD)]
+    while talks:
+        # Most are sent before the first one comes.
+        at = chance.randrange(len(talks)) if sequence > 2 * CROWD else sequence % len(talks)
+        it = next(talks[at], None)
+        if it is None:
+            del talks[at]
+            continue
+        direction, thread, made_record = it
+        sequence += chance.choice(steps)
+        process = 1 + thread % 3 if thread < 1000 else 100
+        capture.append(frame(direction, sequence, process, thread, [made_record]))
+    return b"".join(capture)
+
+
 def made(number: int) -> list[bytes]:
     """The file of a capture of made-up traffic."""
-    if number % TRAFFIC == 0:
-        at = number // TRAFFIC
-        begin = at // 3 * FRAMES
-        return [HEADER_2 + b"".join(itertools.islice(frames(at % 3 + 1), begin, begin + FRAMES))]
-    kinds = list(itertools.product(SCENES, WAYS))
-    return [played(Kind(*kinds[number % len(kinds)]), 1000 + number).capture]
+    chance = random.Random(f"made {number}")
+    return [chance.choices((session, traffic, crowd), (7, 2, 1))[0](chance)]
 
 
 def files_of(name: str) -> list[bytes]:
