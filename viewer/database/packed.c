@@ -1,7 +1,8 @@
 /*
  * Packed rows as tables of SQLite, which are read only. A row is found by the first column, or between two values of
- * it, by binary search in the list of blocks, and then row after row in the block. The file is mapped: it belongs to who
- * opens the database, and nobody else writes it. packed.h has its form.
+ * it, by binary search in the list of blocks, and then row after row in the block. Rows of which other columns are not
+ * equal to what is asked for are passed over here, which takes less time than SQLite takes for a row. The file is
+ * mapped: it belongs to who opens the database, and nobody else writes it. packed.h has its form.
  */
 #include <fcntl.h>
 #include <stdlib.h>
@@ -15,8 +16,14 @@
 /* So many stretches of a file are kept in memory, of so many bytes: about as much as the system maps at a time. */
 enum { STRETCH = 16, MOST_STRETCHES = 1024 };
 
-/* How a table is looked at: bits of the number by which SQLite hands a plan from best_plan to look_up. */
-enum { EQUAL = 1, FROM = 2, UP_TO = 4, FALLING = 8 };
+/*
+ * How a table is looked at: bits of the number by which SQLite hands a plan from best_plan to look_up. Above them the
+ * number has for each filter a column, and whether that has to be one of several values.
+ */
+enum { EQUAL = 1, FROM = 2, UP_TO = 4, FALLING = 8, BITS_OF_KEY = 4, BITS_OF_FILTER = 7, SEVERAL = 64 };
+
+/* So many other columns are looked at, each for so many values: more are left to SQLite. */
+enum { MOST_FILTERS = 3, MOST_VALUES = 16 };
 
 /*
  * What SQLite takes a table of its own to have, and about what it reckons for a look at all of it and for one row, so
@@ -38,7 +45,16 @@ struct row {
 	const unsigned char *rest, *next;
 };
 
-/* A cursor is at a row of a block, or at the end. Columns are taken from the row when one is asked for. */
+/* A column, and what it has to be. */
+struct filter {
+	int column, values;
+	int64_t value[MOST_VALUES];
+};
+
+/*
+ * A cursor is at a row of a block, or at the end. Columns are taken from the row when one is asked for: that one, and
+ * those before it. `left` has those that are there and were not taken yet, and `at` is where they are.
+ */
 struct cursor {
 	sqlite3_vtab_cursor base;
 	struct table *table;
@@ -47,8 +63,11 @@ struct cursor {
 	struct row row;
 	int64_t least, most;				/* of the rows that are asked for */
 	int falls, is_at_end, is_taken;
-	uint64_t mask;
+	const unsigned char *at;
+	uint64_t mask, left;
 	int64_t values[MOST_COLUMNS];
+	int filters;
+	struct filter filter[MOST_FILTERS];
 };
 
 /* ---- a file */
@@ -115,21 +134,29 @@ static const unsigned char *take_signed(const unsigned char *at, const unsigned 
 	return at;
 }
 
-/* Takes the columns of the row where the cursor is. */
-static int take_columns(struct cursor *cursor)
+/* Takes the mask of the row where the cursor is. */
+static int take_mask(struct cursor *cursor)
 {
-	if (cursor->is_taken)
-		return SQLITE_OK;
-	const unsigned char *at = take_number(cursor->row.rest, cursor->row.next, &cursor->mask);
-	if (!at || cursor->mask >> cursor->table->columns)
+	cursor->at = take_number(cursor->row.rest, cursor->row.next, &cursor->mask);
+	if (!cursor->at || cursor->mask >> cursor->table->columns)
 		return SQLITE_CORRUPT;
+	cursor->left = cursor->mask & ~(uint64_t)1;
 	cursor->values[0] = cursor->row.key;
-	for (uint64_t left = cursor->mask & ~(uint64_t)1; left; left &= left - 1) {
-		at = take_signed(at, cursor->row.next, &cursor->values[__builtin_ctzll(left)]);
-		if (!at)
-			return SQLITE_CORRUPT;
-	}
 	cursor->is_taken = 1;
+	return SQLITE_OK;
+}
+
+/* Takes the columns of the row where the cursor is, up to this one. */
+static int take_columns(struct cursor *cursor, int column)
+{
+	if (!cursor->is_taken && take_mask(cursor))
+		return SQLITE_CORRUPT;
+	for (uint64_t due = cursor->left & (((uint64_t)2 << column) - 1); due; due &= due - 1) {
+		cursor->at = take_signed(cursor->at, cursor->row.next, &cursor->values[__builtin_ctzll(due)]);
+		if (!cursor->at)
+			return SQLITE_CORRUPT;
+		cursor->left &= cursor->left - 1;
+	}
 	return SQLITE_OK;
 }
 
@@ -175,15 +202,22 @@ static int begins_by(const struct table *table, size_t block, int64_t key)
 }
 
 /*
- * The number of the last block that begins at or before a key; 0 if none does. Mostly it is the one that is unpacked,
- * or the next one, since who looks up many rows does so in their order.
+ * The number of the last block that begins at or before a key; 0 if none does. Who looks up many rows mostly does so in
+ * their order: so it is looked for near the one where the cursor is, in steps that grow, and then between two steps.
  */
 static size_t block_of(const struct cursor *cursor, const struct table *table, int64_t key)
 {
-	for (size_t near = cursor->block; cursor->block_end && near <= cursor->block + 1; near++)
-		if (begins_by(table, near, key) && !begins_by(table, near + 1, key))
-			return near;
-	size_t low = 0, high = table->blocks;
+	size_t low = cursor->block, high = low + 1, step;
+	for (step = 1; low && !begins_by(table, low, key); step *= 2) {
+		high = low;
+		low -= step < low ? step : low;
+	}
+	for (; begins_by(table, high, key); step *= 2) {
+		low = high;
+		high += step;
+	}
+	if (high > table->blocks)
+		high = table->blocks;
 	while (high - low > 1) {
 		size_t middle = low + (high - low) / 2;
 		if (table->block[middle].first <= key)
@@ -238,7 +272,9 @@ static int go_up(struct cursor *cursor)
 /* Goes to the last row that has at most this key, or else to the first row of the table. */
 static int find_last(struct cursor *cursor, int64_t key)
 {
-	int status = go_to_block(cursor, block_of(cursor, cursor->table, key));
+	size_t block = block_of(cursor, cursor->table, key);
+	int is_ahead = cursor->block_end && block == cursor->block && cursor->row.key <= key;
+	int status = is_ahead ? SQLITE_OK : go_to_block(cursor, block);
 	return status ? status : go_up_to(cursor, key);
 }
 
@@ -251,13 +287,53 @@ static int go_down(struct cursor *cursor)
 	return status ? status : cursor->row.key < key ? arrive(cursor) : end_here(cursor);
 }
 
-static int go_on(sqlite3_vtab_cursor *base)
+static int has_value(const struct cursor *cursor, const struct filter *filter)
 {
-	struct cursor *cursor = (struct cursor *)base;
+	int at = 0;
+	while (at < filter->values && filter->value[at] != cursor->values[filter->column])
+		at++;
+	return at < filter->values;
+}
+
+/* Sees whether the row where the cursor is passes all filters. A column that it does not have is equal to nothing. */
+static int see_whether_passes(struct cursor *cursor, int *passes)
+{
+	*passes = 1;
+	for (int number = 0; *passes && number < cursor->filters; number++) {
+		const struct filter *filter = &cursor->filter[number];
+		int status = take_columns(cursor, filter->column);
+		if (status)
+			return status;
+		*passes = cursor->mask >> filter->column & 1 && has_value(cursor, filter);
+	}
+	return SQLITE_OK;
+}
+
+static int go_to_next(struct cursor *cursor)
+{
 	return cursor->falls ? go_down(cursor) : go_up(cursor);
 }
 
-/* Goes to the first row that is asked for: of the least key, or if they fall of the greatest. */
+/* Goes on until a row passes. */
+static int go_to_passing(struct cursor *cursor)
+{
+	for (;;) {
+		int passes, status = cursor->is_at_end ? SQLITE_OK : see_whether_passes(cursor, &passes);
+		if (status || cursor->is_at_end || passes)
+			return status;
+		status = go_to_next(cursor);
+		if (status)
+			return status;
+	}
+}
+
+static int go_on(sqlite3_vtab_cursor *base)
+{
+	int status = go_to_next((struct cursor *)base);
+	return status ? status : go_to_passing((struct cursor *)base);
+}
+
+/* Goes to the first row between the keys that are asked for: of the least key, or if they fall of the greatest. */
 static int go_to_first(struct cursor *cursor)
 {
 	if (!cursor->table->blocks || cursor->least > cursor->most)
@@ -288,6 +364,35 @@ static void narrow(struct cursor *cursor, sqlite3_value *value, int how)
 	}
 }
 
+/* Adds a value to those of a filter. Returns whether it could: of what is no whole number SQLite sees to it. */
+static int add_value(struct filter *filter, sqlite3_value *value)
+{
+	int type = sqlite3_value_numeric_type(value);
+	if (type == SQLITE_NULL)
+		return 1;
+	if (type != SQLITE_INTEGER || filter->values == MOST_VALUES)
+		return 0;
+	filter->value[filter->values++] = sqlite3_value_int64(value);
+	return 1;
+}
+
+/* Adds a filter by what a column has to be, unless that can't be looked at here. */
+static void add_filter(struct cursor *cursor, int plan, sqlite3_value *asked)
+{
+	struct filter *filter = &cursor->filter[cursor->filters];
+	filter->column = plan & (SEVERAL - 1);
+	filter->values = 0;
+	if (!(plan & SEVERAL)) {
+		cursor->filters += add_value(filter, asked);
+		return;
+	}
+	sqlite3_value *value;
+	int status = sqlite3_vtab_in_first(asked, &value);
+	while (status == SQLITE_OK && value && add_value(filter, value))
+		status = sqlite3_vtab_in_next(asked, &value);
+	cursor->filters += status == SQLITE_DONE;
+}
+
 static int look_up(sqlite3_vtab_cursor *base, int plan, const char *name, int count, sqlite3_value **values)
 {
 	(void)name, (void)count;
@@ -297,7 +402,11 @@ static int look_up(sqlite3_vtab_cursor *base, int plan, const char *name, int co
 	for (int how = EQUAL; how <= UP_TO; how <<= 1)
 		if (plan & how)
 			narrow(cursor, *values++, how);
-	return go_to_first(cursor);
+	cursor->filters = 0;
+	for (plan >>= BITS_OF_KEY; plan; plan >>= BITS_OF_FILTER)
+		add_filter(cursor, plan & ((1 << BITS_OF_FILTER) - 1), *values++);
+	int status = go_to_first(cursor);
+	return status ? status : go_to_passing(cursor);
 }
 
 /* Which bit of a plan a comparison of the key is; 0 of one that is not looked at here. */
@@ -313,6 +422,22 @@ static int bit_of(const struct sqlite3_index_constraint *compared)
 	}
 }
 
+/* Asks for the values that columns other than the key have to be equal to. */
+static void plan_filters(sqlite3_index_info *asked, int given)
+{
+	int shift = BITS_OF_KEY;
+	for (int number = 0; number < asked->nConstraint && shift < BITS_OF_KEY + MOST_FILTERS * BITS_OF_FILTER; number++) {
+		const struct sqlite3_index_constraint *compared = &asked->aConstraint[number];
+		if (!compared->usable || compared->iColumn <= 0 || compared->op != SQLITE_INDEX_CONSTRAINT_EQ)
+			continue;
+		int several = sqlite3_vtab_in(asked, number, 1) ? SEVERAL : 0;
+		asked->aConstraintUsage[number].argvIndex = ++given;
+		asked->idxNum |= (compared->iColumn | several) << shift;
+		shift += BITS_OF_FILTER;
+	}
+}
+
+/* Filters count for nothing in what a plan is reckoned to take: so no plan is made for their sake. */
 static int best_plan(sqlite3_vtab *table, sqlite3_index_info *asked)
 {
 	(void)table;
@@ -338,6 +463,8 @@ static int best_plan(sqlite3_vtab *table, sqlite3_index_info *asked)
 		asked->orderByConsumed = 1;
 		asked->idxNum |= asked->aOrderBy[0].desc ? FALLING : 0;
 	}
+	if (!at[EQUAL])
+		plan_filters(asked, given);
 	return SQLITE_OK;
 }
 
@@ -349,7 +476,7 @@ static int is_at_end(sqlite3_vtab_cursor *cursor)
 static int give_column(sqlite3_vtab_cursor *base, sqlite3_context *to, int column)
 {
 	struct cursor *cursor = (struct cursor *)base;
-	int status = take_columns(cursor);
+	int status = take_columns(cursor, column);
 	if (status == SQLITE_OK && cursor->mask >> column & 1)
 		sqlite3_result_int64(to, cursor->values[column]);
 	return status;

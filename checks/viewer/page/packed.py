@@ -1,5 +1,6 @@
 """Packed tables: rows that stay in files, in which SQLite finds them."""
 
+import itertools
 import pathlib
 import re
 import sqlite3
@@ -14,7 +15,7 @@ from viewer.database.sqlite import open_database
 from viewer.files import Stopped
 
 # What is asked of a table, with the name of its first column: all rows, one, some, the last one, those that fall, and
-# what is no number.
+# what is no number; and by another column.
 ASKED = ("SELECT * FROM {table}", "SELECT * FROM {table} WHERE {key} = {middle}",
          "SELECT * FROM {table} WHERE {key} > {middle} AND {key} <= {middle} + 500",
          "SELECT * FROM {table} WHERE {key} IN ({middle}, 1, -1)", "SELECT max({key}), min({key}) FROM {table}",
@@ -25,7 +26,22 @@ ASKED = ("SELECT * FROM {table}", "SELECT * FROM {table} WHERE {key} = {middle}"
          "SELECT count(*) FROM {table} WHERE {key} >= {middle} + 0.5",
          "SELECT count(*) FROM {table} WHERE {key} = NULL",
          "SELECT count(*) FROM {table} WHERE {key} < NULL", "SELECT a.{key}, b.* FROM {table} a LEFT JOIN {table} b"
-         " ON b.{key} = a.{key} + 4 ORDER BY a.{key}")
+         " ON b.{key} = a.{key} + 4 ORDER BY a.{key}",
+         "SELECT * FROM {table} WHERE {other} = {value}",
+         "SELECT * FROM {table} WHERE {other} IN (-1, {value}, NULL, 'a')",
+         "SELECT * FROM {table} WHERE {other} IN (-1, {value}) ORDER BY {key} DESC",
+         "SELECT * FROM {table} WHERE {other} = {value} AND {key} < {middle}",
+         "SELECT * FROM {table} WHERE {other} IN (SELECT {other} FROM {table} ORDER BY {other} LIMIT 3)",
+         "SELECT * FROM {table} WHERE {other} IN (SELECT {other} FROM {table})",
+         "SELECT count(*) FROM {table} WHERE {other} = '{value}'",
+         "SELECT count(*) FROM {table} WHERE {other} = {value}.0",
+         "SELECT count(*) FROM {table} WHERE {other} = NULL", "SELECT * FROM {table} WHERE {other} IS NULL",
+         "SELECT a.{key}, b.{other} FROM {table} a LEFT JOIN {table} b ON b.{key} = a.{key} AND b.{other} = {value}",
+         "SELECT a.{key}, b.{key} FROM {table} a JOIN {table} b ON b.{other} = a.{other} WHERE a.{key} = {middle}")
+
+# By which other column: one that only some rows have, if there is one.
+OTHER = {"raw_record": ("handle", "kind"), "raw_frame": ("direction",), "raw_delivery": ("call", "utid"),
+         "side_time": ("ts",)}
 
 
 def both_of(folder: pathlib.Path, room: pathlib.Path, capture: pathlib.Path, side: pathlib.Path | None) \
@@ -52,8 +68,10 @@ def check_packed(folder: pathlib.Path, room: pathlib.Path, fail: Fail) -> None:
             key, = real.execute(f"SELECT name FROM pragma_table_info('{table}') WHERE cid = 0").fetchone()
             middle, = real.execute(f"SELECT {key} FROM {table} LIMIT 1 OFFSET (SELECT count(*) / 2 FROM {table})"
                                    ).fetchone() or (0,)
-            for statement in ASKED:
-                asked = statement.format(table=table, key=key, middle=middle)
+            for statement, other in itertools.product(ASKED, OTHER[table]):
+                value, = real.execute(f"SELECT {other} FROM {table} WHERE {other} NOTNULL AND {key} >= {middle}"
+                                      ).fetchone() or (0,)
+                asked = statement.format(table=table, key=key, middle=middle, other=other, value=value)
                 same = packed.execute(asked).fetchall() == real.execute(asked).fetchall()
                 compare(f"{scenario}: {asked}", same, True, fail)
         is_packed, = packed.execute("SELECT count(*) FROM sqlite_schema WHERE sql GLOB '* USING packed(*'").fetchone()
