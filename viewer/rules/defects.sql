@@ -11,8 +11,8 @@
 --
 -- If any of that changes, the last number in this file, `prints`, rises: keys with another one are not compared.
 -- needs: database/schema.sql: call_interface, capture, finding, method, object_interface; database/views.sql: call,
---   delivery, device, handle, interface, process, record, send, status; nodes.sql: node_of; rule.sql: rule; groups.sql:
---   titled, traffic; judging.py: defect_key, path_text, status_name
+--   device, interface, process, record, status; paths.sql: given; rule.sql: rule; groups.sql: titled, traffic;
+--   judging.py: defect_key, path_text, status_name
 -- makes: tables: program, call_text, defect, finding_defect; temporary tables: came_by, matter, told; indexes:
 --   finding_of_defect
 
@@ -28,13 +28,9 @@ FROM (SELECT upid, device, name, rtrim(name, '0123456789') AS begin FROM process
 -- How a handle that is kept with others came: in replies to a call, or with calls; and which process is at the other
 -- end.
 CREATE TEMP TABLE came_by AS
-SELECT f.id, d.kind = 'BR_REPLY' AS reply, d.code, d.handle,
-  iif(d.kind = 'BR_REPLY', coalesce(n.upid, -f.upid), f.upid) AS upid,
-  iif(d.kind = 'BR_REPLY', coalesce(n.ptr, d.handle), d.ptr) AS ptr,
-  CASE WHEN f.rule = 'H12' THEN NULL WHEN d.kind = 'BR_REPLY' THEN n.upid ELSE s.upid END AS other
-FROM finding f JOIN handle h ON h.generation = f.generation JOIN delivery d ON d.place = h.given_by
-  LEFT JOIN send a ON a.place = d.call AND d.kind = 'BR_REPLY' LEFT JOIN node_of n ON n.generation = a.generation
-  LEFT JOIN send s ON s.place = d.send
+SELECT f.id, g.reply, g.code, g.asked AS handle, g.about AS upid, g.node AS ptr,
+  CASE WHEN f.rule = 'H12' THEN NULL WHEN NOT g.reply THEN g.sender WHEN g.about > 0 THEN g.about END AS other
+FROM finding f JOIN given g USING (generation)
 WHERE f.relation = 'given';
 
 -- What each finding is about: a call, by its code and its node, and how the finding belongs to it; or a handle, a node

@@ -186,7 +186,7 @@ FROM (SELECT g.upid, g.handle, s.generation, r.code, r.flags & :TF_ONE_WAY AS on
     coalesce(sum(s.certain AND s.fits = 1), 0) AS one_fits,
     coalesce(sum(s.delivery IS NOT NULL AND d.freed_by IS NULL), 0) AS buffers, max(d.held) AS peak,
     max(c.dur_seq) AS longest_seq, max(z.ts - b.ts) AS longest
-  FROM raw_send s JOIN raw_record r USING (place) JOIN raw_generation g ON g.id = s.generation
+  FROM raw_send s CROSS JOIN raw_record r USING (place) JOIN raw_generation g ON g.id = s.generation
     LEFT JOIN raw_call c USING (place) LEFT JOIN raw_delivery d ON d.place = s.delivery
     LEFT JOIN side_time b ON b.seq = c.seq LEFT JOIN side_time z ON z.seq = c.seq + c.dur_seq
   GROUP BY s.generation, r.code, r.flags & :TF_ONE_WAY) x LEFT JOIN node_of n ON n.generation = x.generation;

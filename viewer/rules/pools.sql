@@ -1,8 +1,8 @@
 -- Pools that are used up: calls that waited long for their delivery, while all loopers of their server were busy, and
 -- what kept these busy.
 -- needs: database/schema.sql: finding, raw_call, raw_delivery, raw_record, raw_send, raw_thread, side_time;
---   database/views.sql: came_to, sent_to; ages.sql: last, life; rule.sql: lossy; waits.sql: queued; judging.py:
---   call_name
+--   database/views.sql: sent_to; nodes.sql: node_of; ages.sql: last, life; rule.sql: lossy; waits.sql: queued;
+--   judging.py: call_name
 -- makes: temporary tables: long_wait, looper_says, pool_looper, busy, full_wait, full_time, kept_by, kept_by_method,
 --   kept_for; indexes: pool_looper_of, busy_at, full_wait_of
 
@@ -89,11 +89,13 @@ WHERE b.until > p.since;
 CREATE TEMP TABLE kept_by_method AS
 SELECT server, place, utid, code, ptr, call, ns, sum(ns) OVER (PARTITION BY server) AS whole,
   row_number() OVER (PARTITION BY server ORDER BY ns DESC, place) AS nth
-FROM (SELECT k.server, k.place, k.utid, coalesce(c.code, s.code) AS code, c.ptr, max(k.ns), sum(k.ns) AS ns,
-    iif(c.place IS NULL, 'a call of its own, ', iif(r.flags & :TF_ONE_WAY, 'oneway ', ''))
-      || call_name(r.code, coalesce(c.upid, s.upid), coalesce(c.ptr, s.ptr)) AS call
-  FROM kept_by k JOIN raw_record r USING (place) LEFT JOIN came_to c USING (place) LEFT JOIN sent_to s USING (place)
-  GROUP BY k.server, call, c.ptr);
+FROM (SELECT k.server, k.place, k.utid, r.code, r.ptr, max(k.ns), sum(k.ns) AS ns,
+    iif(s.place NOTNULL,
+      'a call of its own, ' || call_name(r.code, coalesce(n.upid, -t.upid), coalesce(n.ptr, r.handle)),
+      iif(r.flags & :TF_ONE_WAY, 'oneway ', '') || call_name(r.code, t.upid, r.ptr)) AS call
+  FROM kept_by k JOIN raw_record r USING (place) JOIN raw_thread t ON t.utid = r.utid LEFT JOIN raw_send s USING (place)
+    LEFT JOIN node_of n ON n.generation = s.generation
+  GROUP BY k.server, call, r.ptr);
 -- A process that answers the calls which loopers make meanwhile, for nearly all of that time.
 CREATE TEMP TABLE kept_for AS
 SELECT k.server, s.upid, sum(min(coalesce(z.ts, k.until), k.until) - max(x.ts, k.since)) AS ns
