@@ -36,8 +36,10 @@ from viewer.rules.thresholds import in_words
 
 FOLDER = pathlib.Path(__file__).resolve().parent
 
-SAID = re.compile(r"^-- (?:([A-Z])(\d+) (real|maybe|explained|normal)|(\w+)(?: (\w+))? are called):"
-                  r" (.*(?:\n--   .*)*)", re.MULTILINE)
+# Both begin with a new line, which a search finds much faster than the beginning of a line.
+SAID = re.compile(r"\n-- (?:([A-Z])(\d+) (real|maybe|explained|normal)|(\w+)(?: (\w+))? are called):"
+                  r" (.*(?:\n--   .*)*)")
+HEAD = {word: re.compile(rf"\n-- {word}: .*(?:\n--   .*)*") for word in ("needs", "after")}
 FIELD = re.compile(r"\n--   (next|rests on|met by|fault|title(?: of \w+)?|where frames are missing|ring): ")
 GOES_ON = re.compile(r"\n-- +")
 
@@ -83,7 +85,7 @@ class Catalogue(NamedTuple):
 
 def read(path: pathlib.Path) -> Iterator[Rule | Called]:
     """What a file says."""
-    for found in SAID.finditer(path.read_text("utf-8")):
+    for found in SAID.finditer(f"\n{path.read_text('utf-8')}"):
         letter, number, verdict, section, what, text = found.groups()
         sentence, *fields = (GOES_ON.sub(" ", part) for part in FIELD.split(text))
         if letter:
@@ -108,8 +110,8 @@ THE_RULES = "the rules"
 def comes_after(text: str) -> set[str]:
     """The files after which a file runs, as its head says: those of which it needs a name, and those that it names in a
     line `-- after:`."""
-    head, after = (GOES_ON.sub(" ", part[0]) if part else "" for part in (
-        re.search(rf"^-- {word}: .*(?:\n--   .*)*", text, re.MULTILINE) for word in ("needs", "after")))
+    head, after = (GOES_ON.sub(" ", part[0][1:]) if part else "" for part in (
+        HEAD[word].search(f"\n{text}") for word in ("needs", "after")))
     return {*re.findall(r" (\w+\.sql): ", head), *filter(None, after.removeprefix("-- after: ").split(", "))}
 
 
