@@ -57,6 +57,7 @@ boot() { # KERNEL TO: boots the kernel, and unpacks what its guest leaves
     if [[ $file == *.xz ]]; then unxz -f "$top/modules/${file##*/}" && file=${file%.xz}; fi
     printf '%s\n' "${file##*/}" >>"$top/modules/order"
   done
+  touch -- "$top/modules/order"	# that of the kernel with the driver in Rust is empty
   (cd -- "$top" && find . | cpio -o -H newc 2>/dev/null | gzip -1) >"$room/initramfs.gz"
   rm -f -- "$room/disk" && truncate -s 64M "$room/disk"
   # shellcheck disable=SC2086,SC2154
