@@ -18,8 +18,7 @@ FIRST = "binder-view"
 
 
 class Page(NamedTuple):
-    """A page: its name, section and title; and the sections of docs/ or README.md, a file and the headings, or all
-    without any."""
+    """A page: its name, section and title; and the sections of docs/, a file and the headings, or all without any."""
 
     name: str
     section: int
@@ -35,7 +34,7 @@ PAGES = (
          {"RECORDER": ("Recording by example", "What a recording needs", "What a capture holds", "The driver's books",
                        "Stacks", "How it works, and its bounds"), "SIDE-LIST": ()}),
     Page(FIRST, 1, "shows a capture as a page, a database or a timeline",
-         {"../README": ("An answer",), "VIEW": (), "RULES": (), "PERFETTO": ()}),
+         {"VIEW": (), "RULES": (), "PERFETTO": ()}),
     Page("binder-fleet", 1, "keeps what is found in many captures, and compares builds", {"FLEET": ()}),
     Page("binder-methods", 1, "makes a table of the methods of interfaces", {"VIEW": ("Names of methods",)}),
     Page("binder-capture", 5, "captures of Binder traffic", {"ENVELOPE": (), "COMMANDS": ()}),
