@@ -7,7 +7,9 @@
 - mypy, the types of the Python that pyproject.toml names
 - shellcheck, all scripts for bash and for the shells of guests and devices: .shellcheckrc
 
-A file without a suffix is Python or a script by its first line. Nothing is kept from one run to the next.
+A file without a suffix is Python or a script by its first line. What had no fault is kept in checks/out/lint. It is
+looked at again if the file, what it reads, the linter or its settings changed; mypy keeps there what it knows of each
+module.
 """
 
 import argparse
@@ -20,6 +22,7 @@ from typing import Iterator
 
 from checks.kit.checking import Fail, check
 from checks.kit.programs import ROOT
+from checks.pages.clean import KEPT, READS, Clean
 from checks.pages.sources import paths
 
 # By the suffix, and without one by the first line.
@@ -27,6 +30,7 @@ PYTHON = re.compile(r"#!.*\bpython3?$")
 SHELL = re.compile(r"#!.*\b(?:bash|sh)$")
 
 TOOLS = ("flake8", "mypy", "shellcheck")
+FORMS = {"flake8": (), "shellcheck": ("--format=gcc",)}
 
 
 def is_by_line(path: pathlib.Path, first: re.Pattern[str]) -> bool:
@@ -42,21 +46,27 @@ def sources(suffixes: tuple[str, ...], first: re.Pattern[str]) -> Iterator[str]:
             yield name
 
 
-def words_of(tool: str) -> list[str]:
-    """The command line of a linter, from the top of the repository."""
-    if tool == "flake8":
-        return [tool, *sources((".py",), PYTHON)]
-    if tool == "mypy":
-        return [tool, "--no-error-summary", f"--cache-dir={os.devnull}"]
-    return [tool, "--format=gcc", *sources((".sh", ".bash"), SHELL)]
+def files_of(tool: str) -> list[str]:
+    return list(sources((".py",), PYTHON) if tool == "flake8" else sources((".sh", ".bash"), SHELL))
 
 
-def faults_of(tool: str) -> list[str]:
-    ended = subprocess.run(words_of(tool), cwd=ROOT, stdin=subprocess.DEVNULL, stdout=subprocess.PIPE,
-                           stderr=subprocess.STDOUT, encoding="utf-8", errors="replace")
+def said_by(words: list[str]) -> list[str]:
+    """What a linter says, at the top of the repository."""
+    ended = subprocess.run(words, cwd=ROOT, stdin=subprocess.DEVNULL, stdout=subprocess.PIPE, stderr=subprocess.STDOUT,
+                           encoding="utf-8", errors="replace")
     if ended.returncode and not ended.stdout:
         return [f"status {ended.returncode}"]
     return ended.stdout.splitlines()
+
+
+def faults_of(tool: str) -> list[str]:
+    if tool == "mypy":
+        return said_by([tool, "--no-error-summary", f"--cache-dir={KEPT / tool}"])
+    clean = Clean(tool, READS[tool](files_of(tool)))
+    others = clean.others()
+    faults = said_by([tool, *FORMS[tool], *others]) if others else []
+    clean.keep(faults)
+    return faults
 
 
 def judge(given: argparse.Namespace, _: pathlib.Path, fail: Fail) -> None:
