@@ -1,8 +1,11 @@
 """The cases of a check, by their names: a command line may say which of them are played."""
 
+import contextlib
 import difflib
+import os
 import pathlib
-from typing import Callable, Iterable, NamedTuple, Sequence
+from concurrent.futures import ProcessPoolExecutor
+from typing import Callable, Iterable, Iterator, NamedTuple, Sequence
 
 
 class Part(NamedTuple):
@@ -32,6 +35,18 @@ def play(parts: Iterable[Part], folder: pathlib.Path, room: pathlib.Path, fail: 
     for part in parts:
         for what in played(part, folder, room):
             fail(what)
+
+
+@contextlib.contextmanager
+def side_by_side(parts: Iterable[Part], folder: pathlib.Path, room: pathlib.Path, fail: Callable[[str], None]
+                 ) -> Iterator[None]:
+    """Plays parts, each in a process of its own, while the block goes on."""
+    with ProcessPoolExecutor(os.cpu_count()) as pool:
+        jobs = [pool.submit(played, part, folder, room) for part in parts]
+        yield
+        for job in jobs:
+            for what in job.result():
+                fail(what)
 
 
 def fits(word: str, name: str) -> bool:

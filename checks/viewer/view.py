@@ -1,13 +1,8 @@
-"""Checks `view`, the page of a capture and its database.
+"""Checks the page and the database that `view` makes of the stored captures, whole, cut, and with frames lost.
 
-    checks/run view [-- CASE..]      plays these cases alone, as `side`, `sample/leaks`, or `sample`: all samples
+    checks/run view [-- CASE..]      plays these cases alone, as `sample/leaks`, or `sample`: all samples
     checks/run view -- --print ..    writes the groups of these samples anew, into checks/recorder/driver/verdicts.txt,
                                      and prints what changed
-    checks/run view -- --browser     checks the page in Debian's chromium, without a window; by hand
-    checks/run view -- --edits [EDIT]
-                                     tries wrong templates of the page: each edit of page/edits.txt must be refused, and
-                                     a line says by which check; by hand. EDIT is a part of the names of some, or
-                                     several with commas
 
 What must hold:
 
@@ -22,53 +17,11 @@ What must hold:
   met in mid-life.
 - If frames of a scenario are lost, in seven ways, only what is real in the whole capture is real. The side list says
   for each lost frame whose it was, or only its number, or only that something without a number was missed.
-- The page says how long findings lasted, which fields a row has, who served failed calls, and what is held at the end.
-- --last, --between and --around show the groups, calls, records and events of a time, and of nothing else.
-- The page says when things were, by the clocks of the side list, and nothing of it without one.
-- The files of a flight recorder, each with its side list, are shown like the whole capture; the last one alone says
-  what it cannot know.
-- The folded sections have what they are for: whom each thread serves and since when, slow calls of main threads from
-  the time of --slow on, largest transactions, senders, holders, death recipients, descriptors.
-- Page, database and side list of a capture have no secret of its payloads, and a redacted capture has none either.
-- A side list of another form, or of another capture, what is no side list, and a line that is none, are refused in a
-  line; a list that is cut while it is loaded crashes nothing. If a side list may belong to another capture, a line says
-  so. A thread that changed its name has the last one, and what that costs has a ceiling. If frames are later than the
-  end of the recording, a line says how many.
-- A malformed capture, in one file or in parts, has a page with the line of its fault and what comes before it, and
-  status 2. Standard error and the first line of --groups name the file and what the fault means; the status is 2 with
-  --fail-on too.
-- A pipe, a folder, and a capture that changes while it is read end in a line. A file by whatever name is read.
-- The side list that lies beside a capture by its name is taken, and a line says so. A line says at the end what a page
-  has. At a terminal --groups prints columns, with the sentences of rules, of what is real or maybe, and of all with
-  --all.
-- A page is whole or not there, whatever ends it. It replaces an earlier page of the capture, and no other file.
-- SIGTERM leaves nothing in TMPDIR.
-- `--version` says the commit. Without a part of Python's library a line names that.
-- Names from a stranger run nothing, break nothing and change no direction of text. Existing files are not overwritten.
-- All markup is in the templates of the page. Without their engine only the page is refused.
-- The driver's books at the end agree with the report, or a line says where not, or why they are not compared; copies
-  that are no such books are left out, also those with numbers of thousands of digits, and what long ones take has a
-  ceiling. A process is called what its command line says, where that is more than its name.
-- Beside a user id is what Android calls it, with its packages; a list that is none is told. Processes that make calls
-  of 32 bits are named and counted.
-- Of calls whose data name an interface, page, database, groups and timeline have that, and the methods of a table of
-  `viewer/methods/table.py`. A table changes no verdict, and nothing of a capture without names. A wrong one is refused.
-- Of a side list with stacks the page shows that of the first record of a group, and how many have the same; the
-  functions after the first twelve, and other stacks, are folded. It says which function tells the stacks of what was
-  not freed from those of what was. Files with the same build-id name functions.
-- A service has its name, and what means harm names nothing. In the captures of clients on libgbinder each transaction
-  has its interface and each registered object its service, the page has the methods of a table from sources, and those
-  without a fault have no verdict real and at most two maybe.
-- Against the database of another capture, lines and marks say what is new, worse, grown or gone, and `gone` only of
-  what could have come up again. Keys that are not alike are refused, a side list on one side only, and a database that
-  `view` did not make so. `--fail-on` gives status 10 for what is not known.
-- SIGKILL leaves a folder, which the next `view` removes.
-- The loader puts each row as it is into its table, and refuses rows that are not whole.
-- No statement of the rules takes the square of what a capture has.
-- The rules in docs/RULES.md are those of the database, and so are the names, columns, types and keys in
-  docs/DATABASE.md.
+- In the captures of clients on libgbinder each transaction has its interface and each registered object its service.
+  The page has the methods of a table from sources, and captures without a fault have no verdict real and at most two
+  maybe.
 
-It calls the programs of the repository, and takes some 40 seconds on four cores.
+What `view` takes and says besides is checked by checks/run viewing. Both call the programs of the repository.
 """
 
 import argparse
@@ -76,35 +29,15 @@ import contextlib
 import itertools
 import os
 import pathlib
-import tempfile
 from concurrent.futures import ProcessPoolExecutor
 
-from checks.kit.cases import Part, parts_of, play, played
+from checks.kit.cases import Part, side_by_side
 from checks.kit.checking import FLAG, Fail, check
-from checks.kit.programs import DRIVER, ROOT, built_programs, programs
-from checks.viewer.page.against import check_against
-from checks.viewer.page.books import (check_agreement, check_bad_books, check_commands, check_copies,
-                                      check_long_books)
-from checks.viewer.page.browser import check_browser
+from checks.kit.programs import DRIVER, ROOT, built_programs
 from checks.viewer.page.common import groups_of, loaded, renew_groups
-from checks.viewer.page.files import (check_again, check_beside, check_changing, check_malformed, check_names,
-                                      check_pipes, check_terminal, check_whole)
-from checks.viewer.page.growth import check_growth
 from checks.viewer.page.losses import CUTS, FAULTLESS, check_cuts, check_gaps
-from checks.viewer.page.methods import check_methods, check_unnamed
-from checks.viewer.page.moments import check_moments
-from checks.viewer.page.packed import check_broken, check_packed, check_timing
 from checks.viewer.page.reports import check_sample
-from checks.viewer.page.sections import check_sections
-from checks.viewer.page.services import CAPTURES, check_libgbinder, check_manager, check_services
-from checks.viewer.page.sides import (check_files, check_forms, check_last_names, check_late, check_list_of_loader,
-                                      check_loader, check_no_lists, check_renames, check_side, check_times)
-from checks.viewer.page.stacks import check_stacks
-from checks.viewer.page.users import check_bits, check_packages
-from checks.viewer.page.words import (check_hostile, check_no_engine, check_python, check_secrets, check_stopped,
-                                      check_templates, check_told, check_untimed, check_version, check_words)
-from checks.viewer.page.windows import check_windows
-from checks.viewer.page.wrong import check_edits
+from checks.viewer.page.services import CAPTURES, check_libgbinder
 from viewer.database import raw_tables
 
 
@@ -113,41 +46,22 @@ SAMPLES = {path.name: ([path / "capture-1.cap"], path / "capture.side")
 SAMPLES |= {path.name: ([path], None) for path in sorted(ROOT.glob("samples/*.cap"))}
 SAMPLES |= {"rotated": ([ROOT / "samples/rotated-1.cap", ROOT / "samples/rotated-2.cap"], None)}
 
-# Parts that are played side by side, each in a process of its own; then those that are played one after another, of
-# which the first ones take the scripts that look whether a program must be built.
-SIDE_BY_SIDE = [
+PARTS = [
     *(Part(f"sample/{name}", check_sample, of) for name, of in SAMPLES.items()),
     *(Part(f"cut/{name}/{cut}", check_cuts, (name, cut)) for name in FAULTLESS for cut in range(CUTS)),
     *(Part(f"libgbinder/{name}", check_libgbinder, (name,)) for name in CAPTURES),
-    *(Part(f"lost/{name}", check_gaps, (name,)) for name, (_, side) in SAMPLES.items() if side),
-    *parts_of(check_malformed, check_pipes, check_names, check_changing, check_again, check_whole,
-              check_terminal, check_beside)]
-BY_SCRIPTS = parts_of(check_templates, check_words, check_stopped, check_no_engine, check_python, check_version)
-IN_TURN = parts_of(
-    check_side, check_forms, check_no_lists, check_list_of_loader, check_renames, check_last_names, check_files,
-    check_secrets, check_told, check_untimed, check_late, check_hostile, check_methods, check_unnamed, check_services,
-    check_manager, check_times, check_loader, check_packed, check_broken, check_timing, check_agreement,
-    check_copies, check_bad_books, check_long_books, check_commands, check_sections, check_packages, check_bits,
-    check_stacks, check_growth, check_against, check_moments, check_windows)
+    *(Part(f"lost/{name}", check_gaps, (name,)) for name, (_, side) in SAMPLES.items() if side)]
 
 
 def names() -> list[str]:
-    return [part.name for part in (*SIDE_BY_SIDE, *BY_SCRIPTS, *IN_TURN)]
+    return [part.name for part in PARTS]
 
 
-def check_parts(named: list[str], folder: pathlib.Path, room: pathlib.Path, fail: Fail) -> None:
+def check_parts(named: list[str], auditor: pathlib.Path, room: pathlib.Path, fail: Fail) -> None:
     """Plays the parts of these names."""
-    def of(parts: list[Part]) -> list[Part]:
-        return [part for part in parts if part.name in named]
     raw_tables.loader()
-    built = built_programs(room, (folder / "audit").resolve())
-    with ProcessPoolExecutor(os.cpu_count()) as pool:
-        jobs = [pool.submit(played, part, built, room) for part in of(SIDE_BY_SIDE)]
-        play(of(BY_SCRIPTS), folder, room, fail)
-        play(of(IN_TURN), built, room, fail)
-        for job in jobs:
-            for what in job.result():
-                fail(what)
+    with side_by_side([part for part in PARTS if part.name in named], built_programs(room, auditor), room, fail):
+        pass
 
 
 def groups_of_sample(folder: pathlib.Path, room: pathlib.Path, name: str) -> list[tuple[str, ...]]:
@@ -165,16 +79,11 @@ def renew_verdicts(named: list[str], folder: pathlib.Path, room: pathlib.Path) -
 
 
 def judge(given: argparse.Namespace, room: pathlib.Path, fail: Fail) -> None:
-    if given.browser:
-        room = pathlib.Path(tempfile.mkdtemp(prefix="checks-view."))  # its pictures stay
-        check_browser(programs(room, given.programs[0]), room, fail)
-    elif given.edits is not None:
-        check_edits(built_programs(room, given.programs[0]), room, given.edits, fail)
-    elif given.print:
+    if given.print:
         renew_verdicts(given.cases, built_programs(room, given.programs[0]), room)
     else:
-        check_parts(given.cases, programs(room, given.programs[0]), room, fail)
+        check_parts(given.cases, given.programs[0], room, fail)
 
 
 if __name__ == "__main__":
-    check(judge, names, browser=FLAG, edits={"nargs": "?", "const": ""}, print=FLAG)
+    check(judge, names, print=FLAG)

@@ -14,7 +14,7 @@ from checks.viewer.page.words import check_hostile
 def chromium(room: pathlib.Path, *words: object) -> str:
     program = shutil.which("chromium")
     if program is None:
-        sys.exit("checks/view: chromium is missing: apt-get install chromium")
+        sys.exit("checks/viewing: chromium is missing: apt-get install chromium")
     return subprocess.run([program, "--headless=new", "--no-sandbox", "--disable-gpu", "--hide-scrollbars",
                            "--disable-dev-shm-usage", f"--user-data-dir={room / 'chromium'}", *map(str, words)],
                           capture_output=True, encoding="utf-8", timeout=120).stdout
@@ -75,4 +75,4 @@ def check_browser(folder: pathlib.Path, room: pathlib.Path, fail: Fail) -> None:
         plain = chromium(room, "--dump-dom", f"file://{without_script(shown)}")
         compare(f"{shown.name} without a script", (plain.count("<summary"), plain.count("<button")),
                 (shown.read_text("utf-8").count("<summary"), 0), fail)
-    print(f"checks/view: pictures of {len(pages)} pages are in {room}")
+    print(f"checks/viewing: pictures of {len(pages)} pages are in {room}")
