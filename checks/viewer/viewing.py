@@ -16,6 +16,8 @@ What must hold:
 - The files of a flight recorder, each with its side list, are shown like the whole capture; the last one alone says
   what it cannot know.
 - The folded sections have what they are for: whom each thread serves and since when, slow calls of main threads from
+  the time of --slow on, largest transactions, senders, holders, death recipients, descriptors. A group of sends that
+  found no space at their receiver has a table of what filled it.
 - Page, database and side list of a capture have no secret of its payloads, and a redacted capture has none either.
 - A side list of another form, or of another capture, what is no side list, and a line that is none, are refused in a
   line; a list that is cut while it is loaded crashes nothing. If a side list may belong to another capture, a line says
@@ -73,7 +75,7 @@ from checks.viewer.page.growth import check_growth
 from checks.viewer.page.methods import check_methods, check_unnamed
 from checks.viewer.page.moments import check_moments
 from checks.viewer.page.packed import check_broken, check_packed, check_timing
-from checks.viewer.page.sections import check_sections
+from checks.viewer.page.sections import check_filled, check_sections
 from checks.viewer.page.services import check_manager, check_services
 from checks.viewer.page.sides import (check_files, check_forms, check_last_names, check_late, check_list_of_loader,
                                       check_loader, check_no_lists, check_renames, check_side, check_times)
@@ -93,7 +95,7 @@ OTHERS = parts_of(
     check_side, check_forms, check_no_lists, check_list_of_loader, check_renames, check_last_names, check_files,
     check_secrets, check_told, check_untimed, check_late, check_hostile, check_methods, check_unnamed, check_services,
     check_manager, check_times, check_loader, check_packed, check_broken, check_timing, check_agreement,
-    check_copies, check_bad_books, check_long_books, check_commands, check_sections, check_packages,
+    check_copies, check_bad_books, check_long_books, check_commands, check_sections, check_filled, check_packages,
     check_bits, check_stacks, check_growth, check_against, check_moments, check_windows)
 
 

@@ -4,6 +4,7 @@ from typing import Iterator, NamedTuple
 
 from viewer.page.around_place import lane_of
 from viewer.page.capture import ROWS, Capture
+from viewer.page.no_space import filling_of
 from viewer.page.plots import Plot, growth_of, strip
 from viewer.page.stacks import GroupStacks, Stacks
 
@@ -46,6 +47,7 @@ class Group:
         self.marks = list(dict.fromkeys(mark for key in keys for mark in marks.get(key, ())))
         self.begun, self.ended = capture.asked("group_times", self.number)[0]
         self.plot = self.plot_of(capture)
+        self.filling = filling_of(capture, self.number)
         self.stacks = GroupStacks(stacks, self.number)
         self.lane: tuple | None = None
 

@@ -1,14 +1,19 @@
 """The folded sections of the page that answer a question: who serves what, slow calls of main threads, the largest
-transactions, senders, holders, death recipients, and descriptors."""
+transactions, senders, holders, death recipients, and descriptors; and in a group, what filled the space of a receiver.
+"""
 
+import contextlib
 import pathlib
 import re
 
 from checks.kit.checking import Fail, compare
-from checks.viewer.page.common import stored, view
+from checks.viewer.page.common import loaded, stored, view
 
 SECTION = re.compile(r'<details class="fold"><summary>([^<]*)</summary>(.*?)</details>', re.DOTALL)
 BODY = re.compile(r"<tbody>(.*?)</tbody>", re.DOTALL)
+
+
+FILLED = re.compile(r'aria-label="what filled the space">.*?<tbody>(.*?)</tbody>', re.DOTALL)
 
 
 def text_of(cell: str) -> str:
@@ -16,13 +21,17 @@ def text_of(cell: str) -> str:
     return re.sub(r"<[^>]*>", "", re.sub(r'<span class="of">.*?</span>', "", cell)).partition(">")[2].strip()
 
 
+def cells_in(body: str) -> list[list[str]]:
+    """The rows of a table, each cell without markup and times of day."""
+    return [[text_of(cell) for cell in row.split("<td")[1:]] for row in body.split("<tr>")[1:]]
+
+
 def sections_of(page: str) -> dict[str, list[list[str]]]:
-    """The rows of each folded section, by the first words of its title, each cell without markup and times of day."""
+    """The rows of each folded section, by the first words of its title."""
     found = {}
     for title, inner in SECTION.findall(page):
         body = BODY.search(inner)
-        rows = body[1].split("<tr>")[1:] if body else []
-        found[title] = [[text_of(cell) for cell in row.split("<td")[1:]] for row in rows]
+        found[title] = cells_in(body[1]) if body else []
     return found
 
 
@@ -58,3 +67,28 @@ def check_sections(folder: pathlib.Path, room: pathlib.Path, fail: Fail) -> None
         compare(f"first rows of sections, {scenario}", came, due, fail)
     found = page_of(folder, room, "hello-stuck")
     compare("calls of main threads over 100 ms", [title for title in found if "main threads" in title], [], fail)
+
+
+# What no_space has, as the page shows it.
+FILLED_ROWS = """
+SELECT f.place, r.who, s.who, 'code ' || m.code, iif(m.reply, 'reply', iif(m.oneway, 'oneway', 'call')), m.n, m.bytes,
+  m.held, m.largest
+FROM no_space m JOIN finding f ON f.id = m.finding JOIN who r ON r.upid = receiver_upid
+  JOIN who s ON s.upid = sender_upid ORDER BY f.place, m.bytes DESC"""
+
+
+def check_filled(folder: pathlib.Path, room: pathlib.Path, fail: Fail) -> None:
+    """The page has the rows of no_space in the group of the send that found none, and no such table elsewhere."""
+    for scenario, titles in ("oneway", ["sends that were refused"]), ("leaks", []):
+        capture, _, side = stored(scenario)
+        view(folder, room, capture, "--side", side, "-o", f"{scenario}.filled.html")
+        page = (room / f"{scenario}.filled.html").read_text("utf-8")
+        groups = [group for group in page.split('<details class="group')[1:] if FILLED.search(group)]
+        compare(f"groups with a table of the space, {scenario}",
+                [re.findall(r"<b>(.*?)</b>", group)[0] for group in groups], titles, fail)
+        with contextlib.closing(loaded(folder, room / f"{scenario}.filled.db", [capture], side)) as database:
+            rows = [[str(place), *texts, *(f"{value:,}" for value in numbers)]
+                    for place, *texts, numbers in ((*row[:5], row[5:]) for row in database.execute(FILLED_ROWS))]
+        came = [row for body in FILLED.findall(page) for row in cells_in(body)]
+        compare(f"what filled the space, {scenario}", came, rows, fail)
+        compare(f"whether no_space has rows, {scenario}", bool(rows), bool(titles), fail)
