@@ -7,6 +7,7 @@ import hashlib
 import heapq
 import itertools
 import sqlite3
+import zlib
 from operator import call
 from typing import Mapping
 
@@ -17,15 +18,16 @@ from viewer.timeline.interned import CATEGORY, CATEGORY_NAMES, EVENT_NAME, EVENT
 from viewer.timeline.packed import File
 from viewer.timeline.system import System
 from viewer.timeline.tracks import Axis, ProcessRow, Tracks
-from viewer.timeline.wire import (FIXED, LENGTH, LENGTHS, PAIRS, VARINT, fixed, key, message, number, text, varint,
-                                  varint_of_time)
+from viewer.timeline.wire import (FIXED, LAST, LENGTH, LENGTHS, PAIRS, VARINT, fixed, key, message, number, text,
+                                  varint, varint_of_time)
 
 # The only field of Trace, and those of TracePacket.
 PACKET = 1
 CLOCK_SNAPSHOT, TIMESTAMP, SEQUENCE, TRACK_EVENT, INTERNED_DATA, FLAGS = 6, 8, 10, 11, 12, 13
-CLOCK_ID, DEFAULTS, TRACK_DESCRIPTOR, FIRST_ON_SEQUENCE, ATTRIBUTES = 58, 59, 60, 87, 126
+COMPRESSED, CLOCK_ID, DEFAULTS, TRACK_DESCRIPTOR, FIRST_ON_SEQUENCE, ATTRIBUTES = 50, 58, 59, 60, 87, 126
 STATE_CLEARED, NEEDS_STATE = 1, 2
-PACKET_HEADS = [key(PACKET, LENGTH) + length for length in LENGTHS]
+PACKET_KEY = key(PACKET, LENGTH)
+PACKET_HEADS = [PACKET_KEY + length for length in LENGTHS]
 LENGTH_BYTES = len(LENGTHS[0])
 
 # TrackEvent.
@@ -67,6 +69,29 @@ BITS_OF_NUMBERS = 21
 FLOWS_OF_FINDINGS = 2**62
 
 
+# Of so many parts of packets one packet is made. What that has should be less than 512 KB.
+AT_ONCE, LEVEL = 2**14, 4
+
+
+def compressed(packets: bytes) -> bytes:
+    """A packet that has others, as `traced` makes it of a trace that is to be small."""
+    return message(PACKET, message(COMPRESSED, zlib.compress(packets, LEVEL)))
+
+
+def extras(tracks: list[tuple[bytes, bytes]], now: list[int], which: list[int]) -> bytes:
+    """Extra counters of an event. Those of 0 come last: after one of them Perfetto 56 takes all others for 0."""
+    more = zeros = b""
+    for at in which:
+        value = now[at]
+        if 0 < value < PAIRS:
+            more += tracks[at][1] + LAST[value]
+        elif value:
+            more += tracks[at][1] + varint(value)
+        else:
+            zeros += tracks[at][1] + b"\0"
+    return more + zeros
+
+
 class PacketCalled:
     """What is called: the begin of a slice of each sort, with its other arguments, and its name."""
     __slots__ = "begins", "label", "called"
@@ -93,7 +118,7 @@ class Packets:
         self.parts: list[bytes] = []
         self.new = self.interned.new
         self.names = Known(self.name_of_event)
-        self.ns, self.at, self.around = -1, b"", 0
+        self.ns, self.at, self.around, self.takes_more = -1, b"", 0, False
         self.arguments = [[self.interned.writer(name) for name in names] for names in ARGUMENTS]
         self.processes: dict[int, int] = {}
         self.lanes: dict[tuple[int, int], bytes] = {}
@@ -117,6 +142,7 @@ class Packets:
 
     def packet(self, *parts: bytes) -> None:
         self.parts.append(message(PACKET, *parts, number(SEQUENCE, SEQUENCE_NUMBER)))
+        self.takes_more = False
 
     def event(self, ns: int, body: bytes) -> None:
         """A packet with a TrackEvent."""
@@ -128,10 +154,20 @@ class Packets:
             self.new.clear()
         length = len(body)
         size = length + self.around
+        self.takes_more = size < PAIRS
         if size < PAIRS:
             self.parts += PACKET_HEADS[size], self.at, LENGTHS[length], body
         else:
             self.parts.append(message(PACKET, self.at + varint(length) + body))
+
+    def add_to_event(self, more: bytes) -> bool:
+        """Adds fields to the last event, which is the last packet."""
+        body = self.parts[-1] + more
+        length = len(body)
+        if length + self.around >= PAIRS:
+            return False
+        self.parts[-4], self.parts[-2:] = PACKET_HEADS[length + self.around], (LENGTHS[length], body)
+        return True
 
     def tell_clocks(self, moments: list[Moment]) -> None:
         """What the clocks showed, and that times are of CLOCK_MONOTONIC if they are times. The wall clock goes on as it
@@ -281,21 +317,16 @@ class Packets:
             self.event(ns, INSTANT + head + named + fields + flow)
 
     def count(self, process: Process, ns: int, changed: list[int]) -> None:
-        """One event has all counters that were changed. Extra ones of 0 come last: after one of them Perfetto 56 takes
-        all others for 0."""
+        """The last event, if it is of this time, has all counters that were changed, or else one of their own. An event
+        has those of one process, since zeros come last in it."""
         tracks = self.counters.get(process.upid)
         if tracks is None:
             tracks = self.counters[process.upid] = self.counter_tracks(process)
         now = process.now
-        first, *others = changed
-        body, zeros = tracks[first][0] + varint(now[first]), b""
-        for at in others:
-            value = now[at]
-            if value:
-                body += tracks[at][1] + varint(value)
-            else:
-                zeros += tracks[at][1] + b"\0"
-        self.event(ns, body + zeros)
+        if not (self.takes_more and ns == self.ns and self.add_to_event(extras(tracks, now, changed))):
+            first, *others = changed
+            self.event(ns, tracks[first][0] + varint(now[first]) + extras(tracks, now, others))
+        self.takes_more = False
 
     def queue(self, thread: Thread, called: PacketCalled, place: int, begin: int, end: int,
               fields: Mapping[str, object]) -> None:
@@ -308,9 +339,15 @@ class Packets:
         """A flow is a field of its event here, so nothing has to wait for the end of a frame."""
 
     def flush(self) -> None:
-        if self.parts:
-            self.file.add(b"".join(self.parts))
-            self.parts.clear()
+        begin = 0
+        while begin < len(self.parts):
+            end = begin + AT_ONCE
+            while end < len(self.parts) and not self.parts[end].startswith(PACKET_KEY):
+                end += 1
+            self.file.add(b"".join(self.parts[begin:end]))
+            begin = end
+        self.parts.clear()
+        self.takes_more = False
 
     def finish(self, told: dict[str, object]) -> None:
         made = [message(ATTRIBUTE, text(ATTRIBUTE_KEY, name), number(ATTRIBUTE_NUMBER, value)

@@ -12,7 +12,7 @@ from viewer.timeline.android_names import AndroidNames
 from viewer.timeline.events import Drawn, Events
 from viewer.timeline.json_events import JsonEvents
 from viewer.timeline.packed import File
-from viewer.timeline.packets import Packets
+from viewer.timeline.packets import Packets, compressed
 from viewer.timeline.piped import Piped
 from viewer.timeline.rows import read
 from viewer.timeline.suffixes import NATIVE
@@ -57,7 +57,7 @@ def write(database: sqlite3.Connection, path: pathlib.Path, window: Window, name
         database.execute(f"PRAGMA {setting}")
     made = next(file for _, schema, file in database.execute("PRAGMA database_list") if schema == "main")
     with uncollected(), Piped(functools.partial(read, made)) as rows:
-        file = File(path, name.endswith(".gz"))
+        file = File(path, None if name.endswith(".gz") else compressed)
         try:
             axis, tracks = Axis(database, window), Tracks(database, window)
             out = format_of(name, is_android, file, axis, tracks, database)

@@ -88,7 +88,7 @@ def text_bytes(path: pathlib.Path) -> int:
     return sum(map(len, iter(lambda: packed.stdout.read(2**20), b"")))
 
 
-def print_cost(room: pathlib.Path, most: int, times: int) -> None:
+def print_cost(room: pathlib.Path, most: int, times: int = 1) -> None:
     """Prints what timelines of so many bytes of traffic take, and what they have. The traffic comes so many times."""
     capture, side, made = (room / name for name in ("traffic.cap", "traffic.side", "traffic.db"))
     write_traffic(capture, side, most)

@@ -4,6 +4,7 @@ import gzip
 import pathlib
 import re
 import sqlite3
+import zlib
 from collections import defaultdict
 from typing import Iterator
 
@@ -53,9 +54,20 @@ def message(data: bytes) -> Message:
     return made
 
 
-def whole(path: pathlib.Path) -> bytes:
+COMPRESSED, MOST_COMPRESSED = 50, 512 << 10
+
+
+def packets_of(path: pathlib.Path) -> Iterator[bytes]:
+    """The packets of a file: those in a file of gzip, or those in packets that have nothing but compressed ones."""
     data = path.read_bytes()
-    return gzip.decompress(data) if data[:2] == b"\x1f\x8b" else data
+    if data[:2] == b"\x1f\x8b":
+        yield from (packet for _, packet in fields(gzip.decompress(data)))
+        return
+    for _, outer in fields(data):
+        (field, inner), = fields(outer)
+        if field != COMPRESSED or len(inner) >= MOST_COMPRESSED:
+            raise ValueError(f"field {field} of {len(inner)} bytes around packets")
+        yield from (packet for _, packet in fields(zlib.decompress(inner)))
 
 
 # ---- packets
@@ -84,7 +96,7 @@ class ReadPackets(Read):
             of = self.thread_of(upid, thread, tid)
             self.seen[of].add(ts)
             self.seen[of[0]].add(ts)
-        for _, packet in fields(whole(path)):
+        for packet in packets_of(path):
             self.take(message(packet))
         self.end_of_file()
 
@@ -148,11 +160,15 @@ class ReadPackets(Read):
         return message(told[3][0])[1][0] if told[3] else told[2][0].decode()
 
     def take_event(self, ns: int, event: Message) -> None:
+        """An event, and then its counters, which are as many as there are slices after it."""
+        if event[9] != [4]:
+            self.take_on_track(ns, event)
+        self.take_counters(event)
+
+    def take_on_track(self, ns: int, event: Message) -> None:
         kind, uuid = event[9][0], event[11][0]
         told = self.tracks[uuid]
         track, args = self.track_of(told), self.arguments(event)
-        if kind == 4:
-            return self.take_counters(event)
         if track == "binder queue":
             if kind == 1:
                 self.open_queues[uuid] = self.queue(track, ns, args)
@@ -189,9 +205,12 @@ class ReadPackets(Read):
         return found
 
     def take_counters(self, event: Message) -> None:
-        values = [event[30][0], *event[12]]
+        """The counters of an event: its own one, and extra ones, which are all of one process."""
         compare("extra counters of 0 come last", sorted(event[12], key=lambda value: value == 0), event[12], self.fail)
-        for uuid, value in zip([event[11][0], *event[31]], values, strict=True):
+        compare("an extra counter twice", sorted(set(event[31])), sorted(event[31]), self.fail)
+        of = {parent for uuid in event[31] for parent in self.tracks[uuid][5]}
+        compare("extra counters of one process", len(of) <= 1, True, self.fail)
+        for uuid, value in zip([*event[11][:len(event[30])], *event[31]], [*event[30], *event[12]], strict=True):
             told = self.tracks[uuid]
             pid = message(self.tracks[told[5][0]][3][0])[1][0]
             name, device, process = OPENING.fullmatch(told[2][0].decode()).groups()
