@@ -96,7 +96,8 @@ def traffic(chance: random.Random) -> bytes:
     return HEADER_2 + b"".join(itertools.islice(frames(chance.randint(1, 3)), begin, begin + FRAMES))
 
 
-def talk(client: int, handle: int, entered: float, chance: random.Random) -> Iterator[tuple[int, int, bytes]]:
+def talk(client: int, handle: int, entered: float, senders: tuple[int, ...], chance: random.Random
+         ) -> Iterator[tuple[int, int, bytes]]:
     """A transaction that is like the others of a crowd: for each frame its direction, its thread, and its record."""
     oneway, server = chance.random() < 0.2, 1000 + client
     fields = {"code": 1, "flags": int(oneway)}
@@ -105,7 +106,7 @@ def talk(client: int, handle: int, entered: float, chance: random.Random) -> Ite
     if chance.random() < entered:
         yield 1, server, ENTER
     yield 2, server, transaction(BR_TRANSACTION, target=16 * handle, buffer=4096 * client, **fields,
-                                 sender=chance.choice((0, 0, client % 3, 7)))
+                                 sender=chance.choice((0, 0, *senders)))
     if not oneway:
         yield 1, server, transaction(BC_REPLY)
         yield 2, client, transaction(BR_REPLY, buffer=4096)
@@ -116,7 +117,9 @@ def crowd(chance: random.Random) -> bytes:
     capture, sequence, handles = [HEADER_2], 0, chance.randint(1, 2)
     # In some of them a frame is missing now and then, or some threads began to take calls before the capture.
     steps, entered = chance.choice(((1,), (1,) * 200 + (3,))), chance.choice((1, 1, 0.9))
-    talks = [talk(number, chance.randint(1, handles), entered, chance) for number in range(CROWD)]
+    # From 4,194,304 on, no sender_pid is compared with the number of a process.
+    clients = chance.choice(((1, 2, 3), (4194303, 4194304, 4194305)))
+    talks = [talk(number, chance.randint(1, handles), entered, clients, chance) for number in range(CROWD)]
     while talks:
         # Most are sent before the first one comes.
         at = chance.randrange(len(talks)) if sequence > 2 * CROWD else sequence % len(talks)
@@ -126,7 +129,7 @@ def crowd(chance: random.Random) -> bytes:
             continue
         direction, thread, made_record = it
         sequence += chance.choice(steps)
-        process = 1 + thread % 3 if thread < 1000 else 100
+        process = clients[thread % 3] if thread < 1000 else 100
         capture.append(frame(direction, sequence, process, thread, [made_record]))
     return b"".join(capture)
 
