@@ -12,7 +12,11 @@ MEASURED = ROOT / "docs/MEASURED.md"
 # The sentences of README.md: sessions, those with a fault, faults found, wrong lines; and recordings with a second one,
 # of how many.
 SESSIONS = re.compile(r"blind test of (\d+) sessions, (\d+) of them with a fault, the page \[found\s+(\d+)\]"
-                      r".*? (no|\d+) line was wrong", re.DOTALL)
+                      r".*?\s(no|\d+)\s+lines?\s+(?:was|were)\s+wrong", re.DOTALL)
+# The same of a kernel with other figures.
+OTHER_SESSIONS = re.compile(r"Of\s+(\d+)\s+on\s+another\s+kernel,\s+(\d+)\s+of\s+them\s+with\s+a\s+fault,"
+                            r"\s+it\s+found\s+(\d+)"
+                            r".*?\s(no|\d+)\s+lines?\s+(?:was|were)\s+wrong", re.DOTALL)
 WITNESS = re.compile(r"In (\d+) of (\d+) recordings on each of two kernels, a second recorder")
 
 # The rows of the table on the blind test, the last three of which count wrong lines.
@@ -43,8 +47,10 @@ def wrong(page: pathlib.Path) -> Iterator[tuple[int, str]]:
     """The sentences with other figures, each with its line."""
     if page == README:
         text, measured = page.read_text("utf-8"), MEASURED.read_text("utf-8")
-        for sentence, due in (SESSIONS, due_of_sessions(measured)), (WITNESS, due_of_witness(measured)):
-            found = sentence.search(text)
-            if not found or {tuple(0 if it == "no" else int(it) for it in found.groups())} != due:
+        for first, *others, due in ((SESSIONS, OTHER_SESSIONS, due_of_sessions(measured)),
+                                    (WITNESS, due_of_witness(measured))):
+            found = first.search(text)
+            all_found = filter(None, [found, *(other.search(text) for other in others)])
+            if not found or {tuple(0 if it == "no" else int(it) for it in one.groups()) for one in all_found} != due:
                 number = text.count("\n", 0, found.start()) + 1 if found else 1
                 yield number, f"the figures in docs/MEASURED.md are {sorted(due)}"
