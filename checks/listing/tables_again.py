@@ -2,7 +2,7 @@
 
     checks/run tables_again                  all stored captures, and a share of those that are made
     checks/run tables_again -- --all         all that are made too: 2,000 changed ones and 200 of made-up traffic
-    checks/run tables_again -- CASE..        these alone, as `stored/leaks`, `changed/17`, `made`
+    checks/run tables_again -- CASE..        these alone, as `stored/driver/leaks`, `changed/17`, `made`
     checks/run tables_again -- --show CASE   prints the capture's files, and each row that differs
 
 kit/tables/ has the reading, written from docs/DATABASE.md, viewer/database/schema.sql and docs/COMMANDS.md alone. Each
