@@ -3,9 +3,9 @@
     checks/run tables_again                  all stored captures, and a share of those that are made
     checks/run tables_again -- --all         all that are made too: 2,000 changed ones and 200 of made-up traffic
     checks/run tables_again -- CASE..        these alone, as `stored/driver/leaks`, `changed/17`, `made`
-    checks/run tables_again -- --show CASE   prints the capture's files, and each row that differs
+    checks/run tables_again -- --show CASE   tells each row that differs, in place of the first one of a table
 
-kit/tables/ has the reading, written from docs/DATABASE.md, viewer/database/schema.sql and docs/COMMANDS.md alone. Each
+kit/tables/ has the reading. All its rules are in docs/DATABASE.md, viewer/database/schema.sql and docs/COMMANDS.md. Each
 row of each of the fourteen tables must be the same, column by column, and the status must be 2 exactly if the capture
 is malformed. A changed capture is a stored one of which bytes or frames are changed, cut, lost or joined with those of
 another one, in one file or in several. A made one is of kit/simulated.py, of kit/traffic.py, or of many transactions
