@@ -5,9 +5,9 @@
     checks/run tables_again -- CASE..        these alone, as `stored/driver/leaks`, `changed/17`, `made`
     checks/run tables_again -- --show CASE   tells each row that differs, in place of the first one of a table
 
-kit/tables/ has the reading. All its rules are in docs/DATABASE.md, viewer/database/schema.sql and docs/COMMANDS.md. Each
-row of each of the fourteen tables must be the same, column by column, and the status must be 2 exactly if the capture
-is malformed. A changed capture is a stored one of which bytes or frames are changed, cut, lost or joined with those of
+kit/tables/ has the reading. All its rules are in docs/DATABASE.md, viewer/database/schema.sql and docs/COMMANDS.md.
+Each row of each of the fourteen tables must be the same, column by column, and the status must be 2 exactly if the
+capture is malformed. A changed capture is a stored one of which bytes or frames are changed, cut, lost or joined with those of
 another one, in one file or in several. A made one is of kit/simulated.py, of kit/traffic.py, or of many transactions
 that are alike. A case is always the same capture.
 """
