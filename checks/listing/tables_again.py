@@ -7,9 +7,9 @@
 
 kit/tables/ has the reading. All its rules are in docs/DATABASE.md, viewer/database/schema.sql and docs/COMMANDS.md.
 Each row of each of the fourteen tables must be the same, column by column, and the status must be 2 exactly if the
-capture is malformed. A changed capture is a stored one of which bytes or frames are changed, cut, lost or joined with those of
-another one, in one file or in several. A made one is of kit/simulated.py, of kit/traffic.py, or of many transactions
-that are alike. A case is always the same capture.
+capture is malformed. A changed capture is a stored one of which bytes or frames are changed, cut, lost or joined with
+those of another one, in one file or in several. A made one is of kit/simulated.py, of kit/traffic.py, or of many
+transactions that are alike. A case is always the same capture.
 """
 
 import argparse
