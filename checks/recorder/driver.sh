@@ -44,7 +44,8 @@ store= arm64= rust= sanitize= blind= aosp= plans_of_arm64=plan-arm64.txt
 acceleration='-accel tcg,thread=single -cpu max'
 series=(6.1 6.12 newest 5.10)
 only=()
-stored_of_rust=(clean leaks objects deaths oneway before cut fork outsider two-drivers)
+stored_of_rust=(clean leaks objects deaths oneway before cut fork outsider two-drivers denied errors freeze pending
+  too-large)
 # shellcheck source=checks/recorder/guests.sh
 source "$root/checks/recorder/guests.sh"
 # shellcheck source=checks/recorder/rust_kernel.sh
