@@ -81,11 +81,11 @@ static struct entry *find_entry(const struct frame *frame, u32 record)
 	return entry && entry->record == record ? entry : NULL;
 }
 
-/* Makes room for the commands of one more chunk. Most frames have one. */
+/* Makes room for the commands of one more chunk, also if that has none. Most frames have one chunk. */
 static void make_room(struct frame *frame, u64 count)
 {
 	u64 bytes = frame->bytes + count;
-	if (bytes <= frame->room)
+	if (frame->commands && bytes <= frame->room)
 		return;
 	u64 room = pool_room(frame->bytes ? 2 * bytes : bytes);
 	u8 *larger = pool_take(room);
