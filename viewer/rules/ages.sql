@@ -59,15 +59,12 @@ UPDATE finding SET later = (SELECT count(*) FROM (SELECT 1 FROM (SELECT depth FR
     (SELECT o.depth + (o.closer IS NULL OR o.closer > finding.place) FROM raw_call o WHERE o.utid = finding.utid
       AND o.place < finding.place ORDER BY o.place DESC LIMIT 1), 1) LIMIT :MOST_LATER))
 WHERE section IN ('calls', 'served', 'buffers');
--- How many write frames of its thread come so after a frame that has a finding.
-CREATE TEMP TABLE written(utid INTEGER, seq INTEGER, n INTEGER NOT NULL, PRIMARY KEY(utid, seq)) WITHOUT ROWID;
+CREATE TEMP TABLE written(utid INTEGER, seq INTEGER, PRIMARY KEY(utid, seq)) WITHOUT ROWID;
 INSERT INTO written
-SELECT f.utid, f.seq, (SELECT count(*) FROM (SELECT 1 FROM raw_frame w WHERE w.seq > f.seq
-  AND w.seq <= f.seq + :FRAMES_AHEAD AND w.utid = f.utid AND w.direction = :WRITE AND w.records > 0 LIMIT :MOST_LATER))
-FROM (SELECT DISTINCT f.utid, f.seq FROM finding f JOIN raw_thread t USING (utid)
-  WHERE t.last_write > f.place AND (f.later IS NULL OR f.section = 'buffers' AND f.what <> 'BR_REPLY')) f;
-UPDATE finding SET later = max(coalesce(later, 0), iif(t.last_write > finding.place,
-  max(1, (SELECT n FROM written w WHERE w.utid = finding.utid AND w.seq = finding.seq)), 0))
+SELECT utid, seq FROM raw_frame WHERE direction = :WRITE AND records > 0 AND utid IN (SELECT utid FROM finding);
+UPDATE finding SET later = max(coalesce(later, 0), iif(t.last_write > finding.place, max(1, (SELECT count(*) FROM (
+    SELECT 1 FROM written w WHERE w.utid = finding.utid AND w.seq > finding.seq AND w.seq <= finding.seq + :FRAMES_AHEAD
+    LIMIT :MOST_LATER))), 0))
 FROM raw_thread t
 WHERE t.utid = finding.utid AND section NOT IN ('calls', 'served')
   AND (later IS NULL OR EXISTS (SELECT 1 FROM raw_record r
