@@ -100,7 +100,8 @@ void hear_calls(u32 bytes, long calls)
 	for (long left = calls; left > 0; left -= CALLS_AT_ONCE) {
 		for (int i = 0; i < CALLS_AT_ONCE; i++)
 			call(bytes);
-		window_settle();
+		while (window_settle())		/* it writes for a moment at most, and valgrind is slow */
+			continue;
 	}
 }
 
