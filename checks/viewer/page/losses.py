@@ -131,10 +131,11 @@ def bad_data_of(database: sqlite3.Connection) -> set[tuple[str, str]]:
 
 
 def check_gaps(folder: pathlib.Path, room: pathlib.Path, name: str, fail: Fail) -> None:
-    """Checks a capture with lost frames: only what is real in the whole capture is real. A small one may have no frames
-    of a kind to lose."""
+    """Checks a capture with lost frames: only what is real in the whole capture is real. Where the frame is lost that
+    gives a handle, its path does not name the node. A small one may have no frames of a kind to lose."""
     capture, side = texts_stored(name)
     due, missed_before = real_of(groups_due(name)), len(re.findall(r"^\d+ missed ", side, re.MULTILINE))
+    due |= {(title, path.partition(", ")[0]) for title, path in due if path.startswith("handle ")}
     for number, loss in enumerate(losses(frames_of(capture))):
         here = room / f"{name}-lost-{number}"
         data, list_ = without(capture, side, loss)

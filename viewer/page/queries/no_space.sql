@@ -1,6 +1,6 @@
 -- What filled the space of receivers when sends of a group found none, the most bytes first. ?1: the group; ?2: the
 -- most rows.
--- needs: database/schema.sql: finding; rules/groups.sql: finding_head; rules/refusals.sql: no_space
+-- needs: database/schema.sql: finding; rules/refusals.sql: no_space; rules/groups.sql: finding_head
 -- makes: columns: place, receiver_upid, sender_upid, code, interface, method, reply, oneway, n, bytes, held, largest,
 --   all_rows
 SELECT f.place, m.receiver_upid, m.sender_upid, m.code, m.interface, m.method, m.reply, m.oneway, m.n, m.bytes, m.held,
