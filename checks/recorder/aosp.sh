@@ -8,11 +8,13 @@
 #
 #     --room FOLDER      where packages and results are kept; by default a temporary folder that is removed
 #     --recorder FILE    a recorder that is already built; by default `./record` builds it
-#     --kernel SERIES    only 5.10, 6.1, 6.12 or newest, which is Debian sid's; by default 6.1 and newest
+#     --kernel SERIES    only 5.10, 6.1, 6.12 or newest, which is Debian sid's; may be given several times; by default
+#                        6.1 and newest
 #     --android RELEASE  only what is of Android 10, or of 14
-#     --rust             only a kernel with the driver in Rust, which is built if there is none yet: rust_kernel.sh
+#     --rust             a kernel with the driver in Rust, alone or beside those of --kernel; it is built if there is none
+#                        yet: rust_kernel.sh
 #     --only NAME        only this line of the plan; may be given several times
-#     --how HOW          only recordings made so: unrecorded, recorded, --redact or --stacks
+#     --how HOW          only recordings made so: unrecorded, recorded, --redact or --stacks; may be given several times
 #     --limit SECONDS    how long a guest may take; by default 7200
 #     --store            also renews samples/aosp from the results of the newest kernel
 #
@@ -24,11 +26,12 @@ set -euo pipefail
 here=$(readlink -f -- "${BASH_SOURCE[0]}")
 root=${here%/*/*/*}
 aosp=$root/checks/recorder/aosp check=aosp
-limit=7200 room='' recorder='' store='' how_only=''
+limit=7200 room='' recorder='' store=''
 acceleration='-accel tcg,thread=single -cpu max'
-series=(6.1 newest)
+series=()
 releases=(10 14)
 only=()
+hows=()
 # shellcheck source=checks/recorder/guests.sh
 source "$root/checks/recorder/guests.sh"
 # shellcheck source=checks/recorder/rust_kernel.sh
@@ -38,17 +41,19 @@ while (($#)); do
   case $1 in
   --room) room=$2 && shift ;;
   --recorder) recorder=$2 && shift ;;
-  --kernel) series=("$2") && shift ;;
+  --kernel) series+=("$2") && shift ;;
   --android) releases=("$2") && shift ;;
-  --rust) series=(rust) ;;
+  --rust) series+=(rust) ;;
   --only) only+=("$2") && shift ;;
-  --how) how_only=$2 && shift ;;
+  --how) hows+=("$2") && shift ;;
   --limit) limit=$2 && shift ;;
   --store) store=1 ;;
   *) stop "$1 is not an option; the head of this script lists them" ;;
   esac
   shift
 done
+if ! ((${#series[@]})); then series=(6.1 newest); fi
+if ! ((${#hows[@]})); then hows=(unrecorded recorded --redact --stacks); fi
 
 needs qemu-system-x86_64 qemu-system-x86
 needs busybox busybox-static
@@ -164,7 +169,10 @@ boot() { # KERNEL PLAN OUT
     -append "$words panic=-1 quiet rdinit=/init security=selinux selinux=1" </dev/null >"$3/console" 2>&1 || true
   tar xif "$room/disk" -C "$3" 2>/dev/null || true	# several archives, with zeros between them
   rm -f -- "$room/disk" "$room/initramfs.gz"
-  grep -q '^init: done' "$3/console" || stop "the guest did not come to its end: see $3/console"
+  if ! grep -q '^init: done' "$3/console"; then
+    printf 'checks/aosp: the guest did not come to its end: see %s\n' "$3/console" >&2
+    status=1
+  fi
 }
 
 plan() { # prints the lines for the guest: each line of the plan that the options leave, of each release, in each way
@@ -174,8 +182,8 @@ plan() { # prints the lines for the guest: each line of the plan that the option
     if ((${#only[@]})) && [[ " ${only[*]} " != *" $name "* ]]; then continue; fi
     for release in "${releases[@]}"; do
       [[ ,$of, == *",$release,"* ]] || continue
-      for how in unrecorded recorded --redact --stacks; do
-        [[ -n $how_only && $how != "$how_only" || $what == scene && $how != --* ]] && continue
+      for how in "${hows[@]}"; do
+        [[ $what == scene && $how != --* ]] && continue
         printf '%s %s %s %s %s\n' "$name-$release$(ending "$what" "$how")" "$what" "$release" "$how" "$rest"
       done
     done
@@ -210,7 +218,8 @@ for one in "${series[@]}"; do
     fetch_kernel "$one" || stop "the registry has no kernel $one"
   fi
   boot "$kernel" "$room/plan" "$room/out-$one"
-  python3 -m checks.recorder.aosp.judge "$room/out-$one" || status=1
+  printf 'kernel %s\n' "$(cat "$room/out-$one/kernel" || printf '%s, of which nothing was saved' "$one")"
+  python3 -m checks.recorder.aosp.judge "$room/out-$one" "$room" || status=1
   if [[ -n $store && $one == newest ]]; then
     python3 -m checks.recorder.aosp.store "$room/out-$one" "$root/samples/aosp"
   fi

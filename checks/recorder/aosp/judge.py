@@ -1,9 +1,11 @@
-"""Judges what a guest left of the plan: judge.py FOLDER
+"""Judges what a guest left of the plan: judge.py FOLDER ROOM
 
-Each folder in FOLDER is a recording, and is named after its line of plan.txt and its release of Android. A test that
-was also played unrecorded must have the same results each time; no frame may be lost but for those of LOST and
-MAY_BE_LOST; the report may not differ from the driver's books; and the groups must be those that groups.txt expects. It
-prints a line for each. If something is not so, a line on standard error says what, and the status is 1.
+ROOM has the plan, and for each release of Android a folder of what was built, which names functions. Each folder in
+FOLDER is a recording, and is named after its line of the plan; each line of the plan must have one. A test that was
+also played unrecorded must have the same results each time; no frame may be lost but for those of LOST and MAY_BE_LOST;
+the report may not differ from the driver's books; the groups must be those that groups.txt expects; and with stacks the
+page must show the function that groups.txt names. It prints a line for each. If something is not so, a line on standard
+error says what, and the status is 1.
 """
 
 import fnmatch
@@ -18,6 +20,8 @@ from typing import Iterator, NamedTuple
 from checks.kit.programs import ROOT
 from checks.kit.runs import answer
 from checks.viewer.page.common import without_numbers
+from viewer.page.capture import Capture
+from viewer.page.stacks import Frame, GroupStacks, Stacks
 
 HERE = pathlib.Path(__file__).resolve().parent
 
@@ -43,6 +47,7 @@ class Due(NamedTuple):
     who: str
     path: str
     rules: str
+    function: str
     reason: str
 
     def fits(self, group: "Group") -> bool:
@@ -50,6 +55,13 @@ class Due(NamedTuple):
             (self.rules, group.rules)
         return (self.who == "*" or self.who in group.who.split(",")) \
             and all(fnmatch.fnmatchcase(came, due) for due, came in fields)
+
+    def is_shown(self, frames: list[Frame]) -> bool:
+        """Whether these functions have the one that is expected, and the line of the source that the reason begins
+        with."""
+        line = re.match(r"\w+\.cpp:\d+(?=:)", self.reason)
+        return self.function in ("*", *map(name_of_function, frames)) \
+            and (line is None or line[0] in [frame.source for frame in frames])
 
 
 class Group(NamedTuple):
@@ -72,6 +84,10 @@ def line_of(name: str) -> str:
     return re.sub(r"-\d+$", "", name)
 
 
+def release_of(name: str) -> str:
+    return name.rpartition("-")[2]
+
+
 def groups_due(name: str) -> list[Due]:
     """What is expected of a recording, by its name with or without the release."""
     lines = (HERE / "groups.txt").read_text("utf-8").splitlines()
@@ -79,9 +95,16 @@ def groups_due(name: str) -> list[Due]:
     return [due for due in every if due.name in (name, line_of(name))]
 
 
+def name_of_function(frame: Frame) -> str:
+    """A function without its parameters; that of a lambda is the one that has it."""
+    return re.sub(r"(?<=\w)\(.*", "", frame.short)
+
+
 class Recorded(NamedTuple):
-    """What `./view` says of a recording: its groups that are real or maybe, in order, and where the books differ."""
+    """What `./view` says of a recording: its groups that are real or maybe, in order, and where the books differ. Of
+    each group `frames` has the functions that the page shows first; None without stacks."""
     groups: list[Group]
+    frames: list[list[Frame]] | None
     differences: list[str]
     compared: int
 
@@ -94,14 +117,24 @@ def methods_of_system() -> str:
     return table
 
 
-def viewed(folder: pathlib.Path) -> Recorded | str:
-    """Calls `./view` for a recording, with the methods of the small system. A text says why it said nothing."""
+def first_frames(database: sqlite3.Connection) -> list[list[Frame]]:
+    """For each group that is real or maybe the functions that the page shows first, but for those of libbinder."""
+    stacks = Stacks(Capture(database, []))
+    groups = [GroupStacks(stacks, group).shown for group, in database.execute(
+        "SELECT grp FROM finding_group WHERE verdict IN ('real', 'maybe') ORDER BY nth").fetchall()]
+    return [shown[0].frames[shown[0].inner:] if shown else [] for shown in groups]
+
+
+def viewed(folder: pathlib.Path, built: pathlib.Path | None) -> Recorded | str:
+    """Calls `./view` for a recording, with the methods of the small system. If it has stacks, `built` names their
+    functions. A text says why it said nothing."""
     with tempfile.TemporaryDirectory(prefix="checks-aosp.") as room:
         made, methods = pathlib.Path(room) / "made.db", pathlib.Path(room) / "methods"
         methods.write_text(methods_of_system(), "utf-8")
         captures = sorted(folder.glob("capture-*.cap"), key=lambda path: int(path.stem.split("-")[1]))
+        named = ["--symbols", str(built)] if built else []
         status, out, err = answer([ROOT / "view", *captures, "--side", folder / "capture.side", "--groups",
-                                   "--database", made, "--methods", methods], encoding="utf-8")
+                                   "--database", made, "--methods", methods, *named], encoding="utf-8")
         if status:
             return f"./view ended with status {status}: {err.strip()}"
         with sqlite3.connect(made) as database:
@@ -109,8 +142,9 @@ def viewed(folder: pathlib.Path) -> Recorded | str:
                 "SELECT p.name, d.what, d.report || ' by the report', d.books || ' by the books'"
                 " FROM disagreement d JOIN process p USING (upid) ORDER BY d.id")]
             compared = database.execute("SELECT value FROM capture WHERE key = 'books_compared'").fetchone()
+            frames = first_frames(database) if built else None
     groups = [Group(*line.split("\t")) for line in out.splitlines()]
-    return Recorded([group for group in groups if group.verdict in ("real", "maybe")], differences,
+    return Recorded([group for group in groups if group.verdict in ("real", "maybe")], frames, differences,
                     compared[0] if compared else 0)
 
 
@@ -125,6 +159,27 @@ def faults_of_groups(groups: list[Group], due: list[Due]) -> Iterator[str]:
             yield "not found: " + " | ".join(one[2:7])
     if faults and groups and not any(one.fits(groups[0]) for one in faults):
         yield "not of the fault is the first line: " + " | ".join(groups[0][:-1])
+
+
+def faults_of_stacks(came: Recorded, due: list[Due]) -> Iterator[str]:
+    """Which groups do not show the function that is expected of them."""
+    for group, frames in zip(came.groups, came.frames or []):
+        fitting = [one for one in due if one.fits(group)]
+        if fitting and not any(one.is_shown(frames) for one in fitting):
+            yield f"{group.verdict} {group.rules} shows {' < '.join(map(told_of, frames)) or 'no functions'}"
+
+
+def told_of(frame: Frame) -> str:
+    return name_of_function(frame) + (f" ({frame.source})" if frame.source else "")
+
+
+def told_of_groups(came: Recorded) -> str:
+    """The groups, with stacks also the first three functions of each."""
+    told = [f"{group.verdict} {group.rules}" for group in came.groups]
+    for at, frames in enumerate(came.frames or []):
+        if frames:
+            told[at] += f" in {' < '.join(map(told_of, frames[:3]))}"
+    return ", ".join(told) or "no real or maybe"
 
 
 def results_of(folder: pathlib.Path) -> list[str]:
@@ -146,10 +201,10 @@ def name_of(folder: pathlib.Path) -> str:
     return next((folder.name.removesuffix(way) for way in WAYS if folder.name.endswith(way)), folder.name)
 
 
-def faults_of(folder: pathlib.Path, told: list[str]) -> Iterator[str]:
+def faults_of(folder: pathlib.Path, told: list[str], room: pathlib.Path | None = None) -> Iterator[str]:
     """What is wrong with a folder. `told` gets what is said of it in any case."""
     name = name_of(folder)
-    status = (folder / "status").read_text("utf-8").split()[0]
+    status, _, how, *_ = (folder / "status").read_text("utf-8").split()
     results, plain = results_of(folder), folder.parent / f"{name}-unrecorded"
     if status != FAILS.get(name, "0"):
         yield f"status {status}"
@@ -164,25 +219,27 @@ def faults_of(folder: pathlib.Path, told: list[str]) -> Iterator[str]:
     told += [f"{frames[1] if frames else 'no'} frames", f"{len(lost)} lost"]
     if [why for why in lost if why != MAY_BE_LOST.get(line_of(name))] != LOST.get(line_of(name), []):
         yield f"lost: {' '.join(lost)}"
-    came = viewed(folder)
+    came = viewed(folder, room / f"built-{release_of(name)}" if room and how == "--stacks" else None)
     if isinstance(came, str):
         yield came
         return
     told.append(f"books of {came.compared} openings, {len(came.differences)} differences")
-    told.append(", ".join(f"{group.verdict} {group.rules}" for group in came.groups) or "no real or maybe")
+    told.append(told_of_groups(came))
     yield from (f"the books differ: {difference}" for difference in came.differences)
-    yield from faults_of_groups(came.groups, groups_due(name))
+    yield from faults_of_groups(came.groups, due := groups_due(name))
+    yield from faults_of_stacks(came, due)
 
 
-def main(source: str) -> int:
+def main(source: str, room: str) -> int:
     failed = 0
-    for folder in sorted(path for path in pathlib.Path(source).iterdir() if (path / "status").exists()):
+    for name in [line.split()[0] for line in (pathlib.Path(room) / "plan").read_text("utf-8").splitlines()]:
         told: list[str] = []
-        faults = list(faults_of(folder, told))
+        folder = pathlib.Path(source) / name
+        faults = list(faults_of(folder, told, pathlib.Path(room))) if (folder / "status").exists() else ["not played"]
         failed += len(faults)
-        print(f"{folder.name}: {'; '.join(told)}", flush=True)
+        print(f"{name}: {'; '.join(told)}", flush=True)
         for fault in faults:
-            print(f"checks/aosp: {folder.name}: {fault}", file=sys.stderr)
+            print(f"checks/aosp: {name}: {fault}", file=sys.stderr)
     return 1 if failed else 0
 
 
