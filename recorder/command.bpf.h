@@ -1,5 +1,7 @@
 /* What a process is called beyond the 15 bytes of its name: its command line. It is read from the memory of the caller,
- * as /proc/PID/cmdline would be, but a program here waits for no memory, and so for nobody. */
+ * as /proc/PID/cmdline would be, but a program here waits for no memory, and so for nobody. What it can't read the loader
+ * reads (command.c): it is away, for example swapped out, or on a processor of arm64 that does not itself note which
+ * pages are used, the process has not touched it since the fork. */
 #ifndef RECORDER_COMMAND_BPF_H
 #define RECORDER_COMMAND_BPF_H
 #include "copy.bpf.h"
@@ -40,9 +42,9 @@ static __noinline int look_at_command(struct opening *o)
 	if (!s || !o || (time < o->look_at && memory == o->looked_in))
 		return 0;
 	struct command *c = &s->command;
-	int is_away = read_command(c, task) && o->has_command && memory == o->looked_in;
+	int is_away = read_command(c, task) != 0, is_first = !o->has_command || memory != o->looked_in;
 	u64 sum = sum_of(c);
-	if (!is_away && (!o->has_command || sum != o->command)) {
+	if (is_away ? is_first : !o->has_command || sum != o->command) {
 		c->head.type = MESSAGE_COMMAND;
 		c->head.direction = 0;
 		c->head.number = LAST(number);

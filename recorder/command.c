@@ -1,19 +1,31 @@
 #define _GNU_SOURCE
 #include "command.h"
+#include "process.h"
 #include "side.h"
+#include "worker.h"
 #include <stdio.h>
 #include <stdlib.h>
 #include <string.h>
+
+/* A command line that the program in the kernel could not read, and that is read from the process. */
+struct reading {
+	struct job job;
+	u32 process, unused;
+	u64 start;
+	struct command command;
+};
 
 struct kept {
 	u64 after;
 	u32 user, bytes;
 	char *text;			/* NULL: none is known */
+	const struct reading *awaited;	/* none if another one came meanwhile */
 };
 
 static struct kept *kept;		/* by opening */
 static u32 room;
 static int is_redacted;
+static struct worker worker = WORKER;
 
 void command_redact(void)
 {
@@ -64,10 +76,57 @@ static struct part part_of(const struct command *command)
 	return (struct part){ command->text, bytes };
 }
 
+static void read_process(struct job *job)
+{
+	struct reading *reading = (struct reading *)job;
+	reading->command.bytes = (u32)process_read(reading->process, reading->start, "cmdline", reading->command.text,
+						   COMMAND_BYTES);
+}
+
+int command_read(const struct command *command, u32 process, u64 start)
+{
+	struct reading *reading = allocate(sizeof *reading);
+	*reading = (struct reading){ .job = { .work = read_process }, .process = process, .start = start,
+				     .command = *command };
+	int is_asked = worker_ask(&worker, &reading->job);
+	if (is_asked)
+		kept_of(command->head.opening)->awaited = reading;
+	else
+		free(reading);
+	return is_asked;
+}
+
+int command_was_read(struct command *command)
+{
+	struct reading *reading;
+	int is_awaited = 0;
+	while (!is_awaited && (reading = (struct reading *)worker_take(&worker)) != NULL) {
+		is_awaited = kept_of(reading->command.head.opening)->awaited == reading;
+		*command = reading->command;
+		free(reading);
+	}
+	return is_awaited;
+}
+
+u32 command_awaited(void)
+{
+	return worker.awaited;
+}
+
+int command_give_up(u32 opening, struct command *command)
+{
+	const struct reading *reading = kept_of(opening)->awaited;
+	if (!reading)
+		return 0;
+	*command = (struct command){ .head = reading->command.head, .user = reading->command.user };
+	return 1;
+}
+
 int command_keep(const struct command *command)
 {
 	struct kept *k = kept_of(command->head.opening);
 	struct part part = part_of(command);
+	k->awaited = NULL;
 	if (k->text && k->user == command->user && k->bytes == part.bytes && !memcmp(k->text, part.text, part.bytes))
 		return 0;
 	k->after = command->head.number;

@@ -6,6 +6,16 @@
 
 /* From now on, keeps of a command line only what the program is called: the rest may be secret. */
 void command_redact(void);
+/* Begins to read what the program in the kernel could not read, of the process that began at this time, by a thread of
+ * its own: the process may let it wait. Returns 0 if too many wait. */
+int command_read(const struct command *command, u32 process, u64 start);
+/* Gives one that was read since; it is empty if it could not be read. Returns 0 if there is none, or another one came
+ * meanwhile. */
+int command_was_read(struct command *command);
+/* How many are still to be read. */
+u32 command_awaited(void);
+/* Gives the one of the opening that is still to be read, as an empty one. Returns 0 if there is none. */
+int command_give_up(u32 opening, struct command *command);
 /* Keeps the command line of an opening. Returns 1 if it is another one than before. */
 int command_keep(const struct command *command);
 /* The line of the opening, without its time, in the numbers of the capture; NULL if no command line is known. It is

@@ -120,6 +120,7 @@ static long take(struct ring *ring)
 	if (count)
 		missed_tell();
 	stacks_look();
+	names_look();
 	return window_settle() && count < FEW_MESSAGES ? FEW_MESSAGES : count;
 }
 
@@ -185,6 +186,7 @@ static void finish(struct ring *ring)
 	missed_tell();
 	window_end();
 	failures_end();
+	names_end();
 	stacks_end();
 	clocks_tell();
 	books_tell();

@@ -4,6 +4,7 @@
 #define RECORDER_MAPS_H
 #include "common.h"
 #include "code_file.h"
+#include "worker.h"
 
 /* A file that is mapped. It is kept until the end. */
 struct mapped_file {
@@ -21,8 +22,9 @@ struct map {
 
 /* What was read of a process. */
 struct maps_answer {
-	struct maps_answer *next;
-	u32 memory;
+	struct job job;
+	u32 memory, process;
+	u64 start;
 	const char *why;		/* why nothing was read; NULL if something was */
 	struct map *maps;		/* rising */
 	u32 count;

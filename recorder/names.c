@@ -8,9 +8,11 @@
 #include <stdio.h>
 #include <stdlib.h>
 #include <string.h>
+#include <time.h>
 
 /* Linux gives only ids below this number. An id that would mean two things is replaced by a number from here on. */
 #define FIRST_OWN_NUMBER 4194304u
+#define LAST_WAIT 1000000000u		/* for the last command lines, in nanoseconds */
 
 struct known_opening {
 	u32 system_device, process_id;
@@ -164,13 +166,39 @@ static void tell_process(u32 opening, const char *met)
 		side_line(o->told, "%s", command);
 }
 
-void names_command(const struct command *command)
+static void tell_command(const struct command *command)
 {
 	u32 opening = command->head.opening;
 	const struct known_opening *o = opening_of(opening);
 	if (command_keep(command) && o->numbered)
 		later_line(command->head.time, command->head.number, "%s",
 			   command_line(opening, o->device, o->process));
+}
+
+void names_command(const struct command *command)
+{
+	const struct known_opening *o = opening_of(command->head.opening);
+	if (command->bytes || !command_read(command, o->process_id, o->start))
+		tell_command(command);
+}
+
+void names_look(void)
+{
+	struct command command;
+	while (command_was_read(&command))
+		tell_command(&command);
+}
+
+void names_end(void)
+{
+	struct command command;
+	struct timespec moment = { .tv_nsec = 1000000 };
+	for (u64 began = now(); command_awaited() && now() - began < LAST_WAIT; nanosleep(&moment, NULL))
+		names_look();
+	names_look();
+	for (u32 opening = 0; opening < opening_room; opening++)
+		if (command_give_up(opening, &command))
+			tell_command(&command);
 }
 
 static struct known_opening *numbered(u32 opening, u64 time)

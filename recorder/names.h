@@ -15,8 +15,12 @@ enum met { MET_FROM_START, MET_IN_MID_LIFE };
 void names_opening(u32 opening, u64 time, u32 device, u32 process, u64 start, const char *name, enum met met);
 /* The namespace of the ids of the opening's process, if it is not the first one, and its id there; otherwise 0. */
 void names_space(u32 opening, u32 space, u32 id_there);
-/* The command line of the process, and its user. */
+/* The command line of the process, and its user. An empty one is read from the process first. */
 void names_command(const struct command *command);
+/* Tells the command lines that were read since. */
+void names_look(void);
+/* Waits for those that are still to be read, but not for long, and tells the others as empty. */
+void names_end(void);
 void names_thread(u32 thread, u32 id, u32 process, u64 start, const char *name);
 /* Whether the thread makes calls of 32 or 64 bits. */
 void names_bits(u32 thread, u32 bits);

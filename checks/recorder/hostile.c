@@ -13,6 +13,7 @@
 #include <stdio.h>
 #include <stdlib.h>
 #include <string.h>
+#include <unistd.h>
 
 enum {
 	SIZE = 1 << 20,			/* the most bytes of a file */
@@ -24,6 +25,7 @@ enum {
 	NAMED_EACH = 1000,
 	MOST_TOLD = SIZE / 64,		/* handles in a side list */
 	OPENINGS = 65536,		/* from before the recording */
+	SILENT = 2 * OPENINGS,		/* the opening of a process that lets its reader wait */
 	RETURNS = 2000,			/* codes of a read of the host */
 	SLICE = 1000,			/* steps of the work that is done in slices */
 };
@@ -172,6 +174,35 @@ static void many_openings(void)
 	should_fill("frames of a file beside many openings");
 }
 
+/* In place of the one of the loader: this process lets its reader wait. */
+u64 __wrap_process_read(u32 process, u64 start, const char *name, char *text, u64 room);
+u64 __wrap_process_read(u32 process, u64 start, const char *name, char *text, u64 room)
+{
+	(void)start, (void)name, (void)text, (void)room;
+	while (process)
+		pause();
+	return 0;
+}
+
+/* A process whose command line nobody can read holds up neither the loader nor its end, and is told as one without. */
+static void a_silent_process(void)
+{
+	struct command command = { .head = head_of(MESSAGE_COMMAND, 0, last, SILENT), .user = 10123 };
+	u64 began = now();
+	command.head.opening = SILENT;
+	open_process(SILENT, MET_FROM_START);
+	window_hear(&command, sizeof command);
+	name_handles(SILENT, 1, 1);
+	names_look();
+	should(now() - began < 500000000u, "seconds for a process that is silent", (double)(now() - began) / 1e9);
+	read_list();
+	should(times(" uid=10123 ") == 0, "command lines before the end", times(" uid=10123 "));
+	names_end();
+	should(now() - began < 3000000000u, "seconds for the end", (double)(now() - began) / 1e9);
+	read_list();
+	should(times(" uid=10123 name=\n") == 1, "a command line that nobody can read", times(" uid=10123 "));
+}
+
 int main(int count, char **words)
 {
 	if (count != 2 || parts_begin(words[1], SIZE, FILES))
@@ -184,6 +215,7 @@ int main(int count, char **words)
 	a_liar();
 	many_liars();
 	many_openings();
+	a_silent_process();
 	if (parts_end())
 		fail("the files can't be written");
 	return failed;

@@ -3,9 +3,12 @@
 #include "kit.h"
 #include "common.h"
 #include <errno.h>
+#include <stdlib.h>
+#include <string.h>
 #include <sys/resource.h>
 #include <sys/stat.h>
 #include <time.h>
+#include <unistd.h>
 
 int failed;
 
@@ -53,6 +56,19 @@ void *whole_file(const char *path, u64 *bytes)
 	void *text = all_of(file, bytes);
 	fclose(file);
 	return text;
+}
+
+u64 own_start(void)
+{
+	unsigned long long ticks = 0;
+	u64 bytes;
+	char *text = whole_file("/proc/self/stat", &bytes), *rest = strrchr(text, ')');
+	for (int field = 2; field < 22 && rest; field++)
+		rest = strchr(rest + 1, ' ');
+	if (!rest || sscanf(rest, "%llu", &ticks) != 1)
+		fail("/proc/self/stat");
+	free(text);
+	return ticks * (1000000000u / (u64)sysconf(_SC_CLK_TCK));
 }
 
 /* With the sanitizers strstr looks at the whole rest each time. */

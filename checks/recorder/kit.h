@@ -9,6 +9,7 @@ extern int failed;			/* whether something did not hold */
 void should(int is_so, const char *what, double value);	/* says what does not hold, and what came */
 double processor_seconds(void);
 double mebibytes(void);			/* the most memory so far */
+u64 own_start(void);			/* when this process began, as the kernel counts it */
 
 void *all_of(FILE *, u64 *bytes);	/* what is left of a file, and a NUL behind it */
 void *whole_file(const char *path, u64 *bytes);

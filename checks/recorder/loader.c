@@ -11,6 +11,7 @@
 #include <stdio.h>
 #include <stdlib.h>
 #include <string.h>
+#include <unistd.h>
 
 enum {
 	ENTRIES = 30000,	/* of one frame */
@@ -142,6 +143,15 @@ static void hear_command(u32 opening, const char *text, u32 bytes, u32 claimed)
 	window_hear(&command, sizeof command);
 }
 
+static void wait_for_lines(void)
+{
+	for (int i = 0; i < 5000 && command_awaited(); i++) {
+		usleep(1000);
+		names_look();
+	}
+	parts_flush();
+}
+
 /* Whether the side list has this line, after its time. */
 static int has_line(const char *line)
 {
@@ -193,6 +203,48 @@ static void redacted_commands(void)
 	should(!has_line("SECRET"), "secrets of command lines", 0);
 }
 
+/* What the side list has of this process's command line, or what is kept of it if payloads are redacted. */
+static void own_line(char *line, int is_redacted)
+{
+	u64 bytes;
+	char *text = whole_file("/proc/self/cmdline", &bytes);
+	int head = sprintf(line, " uid=10123 name=");
+	if (is_redacted)
+		strcpy(line + head, strrchr(text, '/'));
+	else
+		clean_bytes(line + head, text, (u32)(bytes < COMMAND_BYTES ? bytes - 1 : COMMAND_BYTES));
+	strcat(line, "\n");
+	free(text);
+}
+
+/* A process with this id that began at this time calls through a new opening. */
+static void open_process(u32 opening, u32 process, u64 start)
+{
+	names_opening(opening, now(), 0, process, start, "reader\0\0\0\0\0\0\0\0\0", MET_FROM_START);
+	names_thread(opening, process, process, start, "reader\0\0\0\0\0\0\0\0\0");
+	names_of(opening, opening, now());
+}
+
+/* What the program in the kernel could not read is read from the process, if that is still the one that called, and no
+ * other line came meanwhile. */
+static void lines_of_processes(u32 opening, int is_redacted)
+{
+	static char own[4 * COMMAND_BYTES + 64];
+	own_line(own, is_redacted);
+	open_process(opening, (u32)getpid(), own_start());
+	hear_command(opening, "", 0, 0);
+	wait_for_lines();
+	should(is_last_line(own), own, is_redacted);
+	hear_command(opening, "", 0, 0);
+	hear_command(opening, "newer", 5, 5);
+	wait_for_lines();
+	should(is_last_line(" uid=10123 name=newer\n"), "a command line that came meanwhile", is_redacted);
+	open_process(opening + 1, (u32)getpid(), own_start() + 5000000000u);
+	hear_command(opening + 1, "", 0, 0);
+	wait_for_lines();
+	should(is_last_line(" uid=10123 name=\n"), "a command line of another process", is_redacted);
+}
+
 /* The longest command line, of bytes that are written as four each; one that is said to be longer; and one that comes
  * when the opening has its number, and again. */
 static void command_lines(void)
@@ -210,10 +262,9 @@ static void command_lines(void)
 	should(has_line(due), "the longest command line", (double)strlen(due));
 	should(has_line(" uid=10123 name=a\\x0a \\x5c\\x00b\n"), "a command line with NULs", 0);
 	should(!has_line("name=a\\x0a \\x5c\\x00b\\x00"), "NULs at the end of a command line", 0);
+	lines_of_processes(5, 0);
 	command_redact();
-	hear_command(1, "", 0, 0);
-	parts_flush();
-	should(has_line(" uid=10123 name=\n"), "an empty command line", 0);
+	lines_of_processes(7, 1);
 	redacted_commands();
 }
 

@@ -9,7 +9,8 @@
 # later list, and at the end. And that
 # no process can take the files of a flight recorder for what it names and opens: each file has its frames, be the first
 # lines of its side list ever so many. If there is no room for more openings, the side lists say who has them. And that
-# names which somebody else makes in the same folder end no recording.
+# names which somebody else makes in the same folder end no recording. And that a command line that the program in the
+# kernel could not read is read from its process, while nobody waits for that.
 #
 #     checks/run loader
 #
@@ -63,7 +64,7 @@ sleeps() { # DUE SIDE
 failed=0
 "$here/build.sh" loader "$room"
 "$room/loader" "$room/out" || failed=1
-"$here/build.sh" hostile "$room"
+"$here/build.sh" hostile "$room" -Wl,--wrap=process_read
 "$room/hostile" "$room/hostile" || failed=1
 
 "$here/build.sh" flight "$room" -Wl,--wrap=open,--wrap=clock_gettime

@@ -99,20 +99,6 @@ static void addresses_of_files(void)
 
 /* ---- stacks */
 
-/* When this process began, as the kernel counts it. */
-static u64 own_start(void)
-{
-	unsigned long long ticks = 0;
-	u64 bytes;
-	char *text = whole_file("/proc/self/stat", &bytes), *rest = strrchr(text, ')');
-	for (int field = 2; field < 22 && rest; field++)
-		rest = strchr(rest + 1, ' ');
-	if (!rest || sscanf(rest, "%llu", &ticks) != 1)
-		fail("/proc/self/stat");
-	free(text);
-	return ticks * (1000000000u / (u64)sysconf(_SC_CLK_TCK));
-}
-
 /* A write with one command and the stack of these addresses; it is finished and written. */
 static void hear_call(u32 process, u64 start, u64 memory, const u64 *addresses, u32 count)
 {
