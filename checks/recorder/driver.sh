@@ -12,6 +12,8 @@
 #                        they are built here, which takes long if nothing is proved yet
 #     --kernel SERIES    only 5.10, 6.1, 6.12 or newest, which is Debian sid's; by default all that the registry has
 #     --rust             only a kernel with the driver in Rust, which is built if there is none yet: rust_kernel.sh
+#     --traced           plays only some scenarios, beside Perfetto's service, and keeps its trace of the system in
+#                        FOLDER: out-SERIES/NAME/system.pftrace
 #     --only NAME        only this scenario; may be given several times
 #     --limit SECONDS    how long a guest may take; by default 900
 #     --flight SECONDS   how long the flight recorder runs under load; by default 20
@@ -39,7 +41,7 @@ here=$(readlink -f -- "${BASH_SOURCE[0]}")
 root=${here%/*/*/*}
 scenarios=$root/checks/recorder/scenarios check=driver
 limit=900 flight=20 room= recorder= auditor= built= append= rename= words_of_recorder=
-store= arm64= rust= sanitize= blind= aosp= plans_of_arm64=plan-arm64.txt
+store= arm64= rust= traced= sanitize= blind= aosp= plans_of_arm64=plan-arm64.txt
 # One thread for all processors: with a thread for each, the kernel 6.12 died of a breakpoint that it had removed.
 acceleration='-accel tcg,thread=single -cpu max'
 series=(6.1 6.12 newest 5.10)
@@ -65,6 +67,7 @@ while (($#)); do
   --built) built=$2 && shift ;;
   --kernel) series=("$2") && shift ;;
   --rust) rust=1 && series=(rust) ;;
+  --traced) traced=1 ;;
   --only) only+=("$2") && shift ;;
   --limit) limit=$2 && shift ;;
   --flight) flight=$2 && shift ;;
@@ -171,6 +174,19 @@ build_clients() {
     -Wl,--allow-shlib-undefined -o "$clients/gbinder" "$scenarios/gbinder.c" -lgbinder -lglibutil -lglib-2.0
 }
 
+# Perfetto's service and its client, of Debian sid, and what they need.
+fetch_perfetto() {
+  local folder=$room/packages-perfetto
+  [[ -e $folder/opened ]] || { use_lists sid && open_packages "$folder" perfetto libc6 libgcc-s1 libstdc++6 zlib1g; } ||
+    return 1
+  local library=$folder/usr/lib/$machine-linux-gnu
+  perfetto=$room/perfetto
+  mkdir -p -- "$perfetto"
+  cp -L -- "$library/${loader##*/}" "$library"/lib{c,m,gcc_s,stdc++,z}.so.[16] "$folder/usr/lib/perfetto/libperfetto.so" \
+    "$folder/usr/bin/perfetto" "$folder"/usr/sbin/traced{,_probes} "$perfetto/"
+  cp -- "$scenarios/perfetto.txt" "$perfetto/config"
+}
+
 # What the kernel needs to reach the disk, and the driver.
 modules=(virtio_ring virtio virtio_pci_legacy_dev virtio_pci_modern_dev virtio_pci virtio_blk binder_linux)
 
@@ -194,6 +210,7 @@ make_initramfs() { # KERNEL PLAN TO
     mkdir -- "$top/etc"
     printf '[Protocol]\n/dev/binder = aidl2\n[ServiceManager]\n/dev/binder = aidl2\n' >"$top/etc/gbinder.conf"
   fi
+  if [[ -n $traced ]]; then cp -r -- "$perfetto" "$top/perfetto"; fi
   ln -s busybox "$top/bin/sh"
   ln -s busybox "$top/bin/env"
   for file in $(module_files "$1" "${modules[@]}"); do
@@ -263,6 +280,7 @@ if [[ -n $built ]]; then take_programs "$(readlink -f -- "$built")"; fi
 if [[ -z $auditor ]]; then auditor=$root/crates/binder_audit/out/binder_audit; fi
 build_programs
 build_clients || stop 'the clients on libgbinder were not built'
+if [[ -n $traced ]]; then fetch_perfetto || stop 'the registry has no Perfetto'; fi
 
 # What is refused before a kernel is needed: a side list that is in the way, be it a FIFO that nobody writes to, and a
 # build by root in a folder of another user.
@@ -305,6 +323,10 @@ for one in "${series[@]}"; do
     continue
   fi
   found=$((found + 1))
+  if [[ -n $traced ]]; then
+    try plan-traced.txt "out-$one" "$append" ''
+    continue
+  fi
   plans=plan.txt
   if ((found == 1)) || [[ $one == newest ]]; then plans='plan.txt plan-clients.txt'; fi
   if [[ -n $rust ]]; then plans+=' plan-rust.txt'; fi

@@ -12,6 +12,8 @@
     checks/run trace -- --perfetto TRACE_PROCESSOR
                                    asks Perfetto's trace processor about timelines of all stored captures, alone and
                                    together with a system trace, and prints what it finds; by hand
+    checks/run trace -- --perfetto TRACE_PROCESSOR --beside SYSTEM SIDE CAPTURE..
+                                   the same of this capture, with the system trace that was recorded meanwhile
 
 What must hold in both formats, that of Perfetto by a decoder of its own, for stored captures with and without a side
 list, of one device and of two, in parts and malformed:
@@ -585,7 +587,7 @@ def judge(given: argparse.Namespace, room: pathlib.Path, fail: Fail) -> None:
     elif given.cost:
         print_cost(room, *given.cost)
     elif given.perfetto:
-        ask_perfetto(built_programs(room, given.programs[0]), room, given.perfetto, fail)
+        ask_perfetto(built_programs(room, given.programs[0]), room, given.perfetto, given.beside, fail)
     else:
         play((part for part in parts() if part.name in given.cases), built_programs(room, given.programs[0]), room,
              fail)
@@ -594,4 +596,4 @@ def judge(given: argparse.Namespace, room: pathlib.Path, fail: Fail) -> None:
 if __name__ == "__main__":
     check(judge, lambda: [part.name for part in parts()], viewer={"nargs": "+"}, picture={"nargs": 2},
           cost={"nargs": "+", "type": int},
-          perfetto={"type": pathlib.Path})
+          perfetto={"type": pathlib.Path}, beside={"nargs": "+", "type": pathlib.Path})

@@ -23,6 +23,8 @@
 #   blind-before  the same as `before`
 #   blind-live  by a recorder that is started before the session, and stopped when that has made the file `rested`: so
 #            all processes are alive at the end of the recording
+#   traced   by the recorder only, beside Perfetto's service, which traces the scheduler meanwhile into `system.pftrace`
+#   traced-long  the same, where the trace is written piece by piece, with flushes
 #   flight   by the recorder only, which keeps the newest 4 files of 128 KiB; `most-files` is how many there were at
 #            most
 # shellcheck shell=dash disable=SC2013,SC2046,SC2086
@@ -146,6 +148,26 @@ with_stacks() { # PROGRAM
 	return $status
 }
 
+# Perfetto's service traces the scheduler from before the recording until after it, with the words of a config.
+traced() { # WORDS
+	perfetto="/perfetto/ld-linux-x86-64.so.2 --library-path /perfetto /perfetto"
+	services=
+	echo "$1" | cat /perfetto/config - >$here/config
+	for service in traced traced_probes; do
+		$perfetto/$service 2>>$here/services.txt & services="$services $!"
+		sleep 2
+	done
+	$perfetto/perfetto --txt -c $here/config -o $here/system.pftrace 2>>$here/services.txt & tracing=$!
+	sleep 3
+	/record $more -o $here/capture -- /scenarios.static $scenario $here $number
+	status=$?
+	sleep 1
+	kill -TERM $tracing
+	wait $tracing || status=1
+	kill $services
+	return $status
+}
+
 # Runs the recorder where sysfs seems to have only the driver that is not there, and then both. That driver has no
 # tracepoints.
 pretend_drivers() {
@@ -195,6 +217,8 @@ play() {
 	redact) /record --redact -o $here/capture -- /scenarios.static $scenario $here $number;;
 	stacks) with_stacks /scenarios.framed;;
 	frameless) with_stacks /scenarios;;
+	traced) traced;;
+	traced-long) traced 'write_into_file: true file_write_period_ms: 2500 flush_period_ms: 5000';;
 	flight) newest_files 131072 count_files;;
 	hoard) newest_files 8388608 watch_memory;;
 	late) background TERM;;

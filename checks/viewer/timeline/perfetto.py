@@ -9,7 +9,7 @@ import subprocess
 import tarfile
 import zipfile
 from collections import Counter
-from typing import Iterator
+from typing import Iterable, Iterator
 
 from checks.kit.checking import Fail, compare, row
 from checks.kit.programs import DRIVER
@@ -351,8 +351,96 @@ def check_system(tool: TraceProcessor, folder: pathlib.Path, room: pathlib.Path,
         database.close()
 
 
-def ask_perfetto(folder: pathlib.Path, room: pathlib.Path, program: pathlib.Path, fail: Fail) -> None:
+# ---- together with a trace that `traced` wrote meanwhile
+
+
+# What a trace has: of ours, slices and instants by category, values of counters and flows; what ran; errors; how often
+# it has a process by its number; and transactions. Some are of ours, and others of the system.
+FACTS = """
+INCLUDE PERFETTO MODULE android.binder;
+SELECT 'ours: ' || category, count(*) FROM slice WHERE category IN ({0}) GROUP BY 1
+UNION ALL SELECT 'ours: counter values', count(*) FROM counter c JOIN process_counter_track k ON k.id = c.track_id
+  WHERE k.name GLOB 'binder *'
+UNION ALL SELECT 'ours: flows', count(*) FROM flow f JOIN slice o ON o.id = f.slice_out
+  JOIN slice i ON i.id = f.slice_in WHERE o.category IN ({0}) AND i.category IN ({0})
+UNION ALL SELECT 'system: times that a thread ran', count(*) FROM sched
+UNION ALL SELECT 'system: states of threads', count(*) FROM thread_state
+UNION ALL SELECT 'system: threads that ran', count(DISTINCT utid) FROM sched
+UNION ALL SELECT 'fault: ' || name, value FROM stats WHERE value > 0 AND severity IN ('error', 'data_loss')
+UNION ALL SELECT 'process: ' || pid, count(*) FROM process WHERE pid > 0 AND name NOTNULL GROUP BY 1
+UNION ALL SELECT 'transactions', count(*) FROM android_binder_txns
+UNION ALL SELECT 'states in transactions', count(*) FROM android_sync_binder_thread_state_by_txn"""
+CATEGORIES = "SELECT DISTINCT category FROM slice"
+# The threads with slices of ours, by their numbers: how many rows each has, and whether the system says that it ran.
+OF_THREADS = """
+SELECT tid, pid, count(DISTINCT utid), max(utid IN (SELECT utid FROM sched))
+FROM thread JOIN process USING (upid) WHERE utid IN (SELECT utid FROM thread_track WHERE id IN (SELECT track_id FROM
+  slice WHERE category IN ('call', 'served', 'oneway'))) GROUP BY 1, 2"""
+RAN_AT_ALL = "SELECT DISTINCT tid FROM sched JOIN thread USING (utid) WHERE tid > 0"
+# By how much two snapshots of the clocks may put one moment at two places of the axis.
+APART = 10**6
+
+
+def facts_of(tool: TraceProcessor, path: pathlib.Path, ours: str) -> dict[str, int]:
+    return {name: int(count) for name, count in tool.ask(path, FACTS.format(ours))}
+
+
+def threads_of(tool: TraceProcessor, path: pathlib.Path) -> list[tuple[str, ...]]:
+    return [tuple(one) for one in tool.ask(path, OF_THREADS)]
+
+
+def some_of(facts: dict[str, int], begin: str) -> dict[str, int]:
+    return {name: count for name, count in facts.items() if name.startswith(begin)}
+
+
+def differing(came: Iterable[tuple], due: Iterable[tuple]) -> list[tuple]:
+    """The first ones that only one of them has."""
+    return sorted(set(came) ^ set(due))[:3]
+
+
+def check_beside(tool: TraceProcessor, folder: pathlib.Path, room: pathlib.Path, given: list[pathlib.Path], fail: Fail
+                 ) -> None:
+    """In each order of both files all is there that either has: slices, counters and flows of ours, at the same times,
+    what ran, and each process and each thread once. Behind a trace that was written piece by piece ours comes too late:
+    there it only says how much is lost."""
+    system, side, *files = given
+    database = loaded(folder, room / "beside.db", files, side)
+    write_timelines(database, room)
+    ran = {tid for tid, in tool.ask(system, RAN_AT_ALL)}
+    row("", "of ours", "lost", "threads", "of them ran", "transactions", "states in them")
+    for name in (PLAIN, ANDROID):
+        categories = ", ".join(f"'{one}'" for one, in tool.ask(room / name, CATEGORIES))
+        ours, theirs = (facts_of(tool, path, categories) for path in (room / name, system))
+        due = some_of(ours, "ours: ")
+        calls = {place: int(ts) for place, ts, _ in tool.ask(room / name, OURS)}
+        threads = [(tid, pid, "1", str(int(tid in ran))) for tid, pid, *_ in threads_of(tool, room / name)]
+        for path in joined(room, system.read_bytes(), (room / name).read_bytes()):
+            told, came, now = f"{name}, {path.name}", facts_of(tool, path, categories), threads_of(tool, path)
+            lost = sum(due.values()) - sum(some_of(came, "ours: ").values())
+            row(told, sum(due.values()), lost, len(now), sum(one[3] == "1" for one in now), came["transactions"],
+                came["states in transactions"])
+            compare(f"{told}: the system", some_of(came, "system: "), some_of(theirs, "system: "), fail)
+            if path.stem == "theirs-first" and lost:
+                continue
+            compare(f"{told}: ours", some_of(came, "ours: "), due, fail)
+            compare(f"{told}: faults", some_of(came, "fault: "), {}, fail)
+            numbers = {**some_of(ours, "process: "), **some_of(theirs, "process: ")}
+            compare(f"{told}: processes, how often", differing(some_of(came, "process: ").items(), numbers.items()), [],
+                    fail)
+            compare(f"{told}: threads, how often, whether they ran", differing(now, threads), [], fail)
+            compare(f"{told}: calls at other times", [place for place, ts, _ in tool.ask(path, OURS)
+                                                      if abs(int(ts) - calls[place]) > APART][:3], [], fail)
+            if name == PLAIN:
+                compare(f"{told}: transactions", came["transactions"], theirs["transactions"], fail)
+    database.close()
+
+
+def ask_perfetto(folder: pathlib.Path, room: pathlib.Path, program: pathlib.Path, beside: list[pathlib.Path],
+                 fail: Fail) -> None:
     tool = TraceProcessor(program)
+    if beside:
+        check_beside(tool, folder, room, beside, fail)
+        return
     found = {name: Counter() for name in ARGUMENTS}
     check_alone(tool, folder, room, found, fail)
     check_hostile(tool, folder, room, fail)
