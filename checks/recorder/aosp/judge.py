@@ -10,11 +10,13 @@ error says what, and the status is 1.
 
 import fnmatch
 import functools
+import os
 import pathlib
 import re
 import sqlite3
 import sys
 import tempfile
+from concurrent.futures import ThreadPoolExecutor
 from typing import Iterator, NamedTuple
 
 from checks.kit.programs import ROOT
@@ -225,21 +227,29 @@ def faults_of(folder: pathlib.Path, told: list[str], room: pathlib.Path | None =
         return
     told.append(f"books of {came.compared} openings, {len(came.differences)} differences")
     told.append(told_of_groups(came))
+    if not came.compared:
+        yield "no opening could be compared with the books"
     yield from (f"the books differ: {difference}" for difference in came.differences)
     yield from faults_of_groups(came.groups, due := groups_due(name))
     yield from faults_of_stacks(came, due)
 
 
+def judged(folder: pathlib.Path, room: pathlib.Path) -> tuple[list[str], list[str]]:
+    """What is said of a recording, and what is wrong with it."""
+    told: list[str] = []
+    return told, list(faults_of(folder, told, room)) if (folder / "status").exists() else ["not played"]
+
+
 def main(source: str, room: str) -> int:
     failed = 0
-    for name in [line.split()[0] for line in (pathlib.Path(room) / "plan").read_text("utf-8").splitlines()]:
-        told: list[str] = []
-        folder = pathlib.Path(source) / name
-        faults = list(faults_of(folder, told, pathlib.Path(room))) if (folder / "status").exists() else ["not played"]
-        failed += len(faults)
-        print(f"{name}: {'; '.join(told)}", flush=True)
-        for fault in faults:
-            print(f"checks/aosp: {name}: {fault}", file=sys.stderr)
+    names = [line.split()[0] for line in (pathlib.Path(room) / "plan").read_text("utf-8").splitlines()]
+    with ThreadPoolExecutor(os.cpu_count()) as pool:
+        of_all = pool.map(lambda name: judged(pathlib.Path(source) / name, pathlib.Path(room)), names)
+        for name, (told, faults) in zip(names, of_all):
+            failed += len(faults)
+            print(f"{name}: {'; '.join(told)}", flush=True)
+            for fault in faults:
+                print(f"checks/aosp: {name}: {fault}", file=sys.stderr)
     return 1 if failed else 0
 
 
