@@ -16,7 +16,8 @@
 #     --only NAME        only this line of the plan; may be given several times
 #     --how HOW          only recordings made so: unrecorded, recorded, --redact or --stacks; may be given several times
 #     --limit SECONDS    how long a guest may take; by default 7200
-#     --store            also renews samples/aosp from the results of the newest kernel
+#     --store            also renews samples/aosp from the results of the newest kernel, and with --rust those of it
+#                        that are stored, as NAME-RELEASE-rust
 #
 # Each test is played unrecorded, recorded, with --redact and with --stacks; each scene with --redact and with --stacks.
 # A line for each says what came of it, by aosp/judge.py. If something is not as it must be, it says so and ends with
@@ -32,6 +33,7 @@ series=()
 releases=(10 14)
 only=()
 hows=()
+stored_of_rust=(lib-10 driver-14 visitors-10 dead-listeners-14 full-pool-10 two-locks-14 leak-that-rests-14)
 # shellcheck source=checks/recorder/guests.sh
 source "$root/checks/recorder/guests.sh"
 # shellcheck source=checks/recorder/rust_kernel.sh
@@ -220,8 +222,9 @@ for one in "${series[@]}"; do
   boot "$kernel" "$room/plan" "$room/out-$one"
   printf 'kernel %s\n' "$(cat "$room/out-$one/kernel" || printf '%s, of which nothing was saved' "$one")"
   python3 -m checks.recorder.aosp.judge "$room/out-$one" "$room" || status=1
-  if [[ -n $store && $one == newest ]]; then
-    python3 -m checks.recorder.aosp.store "$room/out-$one" "$root/samples/aosp"
-  fi
+  case $store$one in
+  1newest) python3 -m checks.recorder.aosp.store "$room/out-$one" "$root/samples/aosp" ;;
+  1rust) python3 -m checks.recorder.aosp.store "$room/out-$one" "$root/samples/aosp" -rust "${stored_of_rust[@]}" ;;
+  esac
 done
 exit "$status"

@@ -29,6 +29,8 @@ HERE = pathlib.Path(__file__).resolve().parent
 
 # The ways in which a test is played; the names of their folders end so.
 WAYS = ("-unrecorded", "-redacted", "-stacks")
+# The names of stored recordings of the driver in Rust end so.
+RUST = "-rust"
 
 # What is lost in a test: the recorder can't read a command of binderDriverInterfaceTest whose address is wrong.
 LOST = {"driver": ["call-unreadable"]}
@@ -200,7 +202,7 @@ def lost_of(folder: pathlib.Path) -> list[str]:
 
 
 def name_of(folder: pathlib.Path) -> str:
-    return next((folder.name.removesuffix(way) for way in WAYS if folder.name.endswith(way)), folder.name)
+    return next((folder.name.removesuffix(way) for way in (*WAYS, RUST) if folder.name.endswith(way)), folder.name)
 
 
 def faults_of(folder: pathlib.Path, told: list[str], room: pathlib.Path | None = None) -> Iterator[str]:

@@ -2,9 +2,9 @@
 
     checks/run recordings
 
-Each file in samples/aosp is a recording of `checks/run aosp`, packed by store.py, and named after its line of plan.txt.
-The groups of the page must be those that groups.txt expects, no frame may be lost but for those that the line
-makes the recorder lose, and the report may not differ from the driver's books.
+Each file in samples/aosp is a recording of `checks/run aosp`, packed by store.py, and named after its line of plan.txt;
+one of the driver in Rust ends in `-rust`. The groups of the page must be those that groups.txt expects, no frame may be
+lost but for those that the line makes the recorder lose, and the report may not differ from the driver's books.
 """
 
 import argparse

@@ -1,7 +1,7 @@
-"""store.py FROM TO: packs the small redacted recordings of a guest, with their books.
+"""store.py FROM TO [ENDING NAME..]: packs the small redacted recordings of a guest, with their books.
 
-A recording of a test is stored by the name of the test. One that came to no end, or is larger packed than LARGEST, is
-left out."""
+A recording is stored by the name of its line, followed by ENDING, which judge.py knows; with NAMEs only those. One that
+came to no end, or is larger packed than LARGEST, is left out."""
 
 import io
 import pathlib
@@ -31,13 +31,16 @@ def packed(folder: pathlib.Path, name: str) -> bytes:
     return made.getvalue()
 
 
-def main(source: str, to: str) -> None:
+def main(source: str, to: str, ending: str = "", *names: str) -> None:
     pathlib.Path(to).mkdir(parents=True, exist_ok=True)
     for folder in sorted(path for path in pathlib.Path(source).iterdir() if (path / "capture.side").exists()):
         status, _, how, *_ = (folder / "status").read_text("utf-8").split()
-        data = packed(folder, name := folder.name.removesuffix("-redacted"))
-        if how == "--redact" and status == FAILS.get(name, "0") and len(data) <= LARGEST:
-            (pathlib.Path(to) / f"{name}.tar.xz").write_bytes(data)
+        name = folder.name.removesuffix("-redacted")
+        if how != "--redact" or status != FAILS.get(name, "0") or names and name not in names:
+            continue
+        data = packed(folder, name + ending)
+        if len(data) <= LARGEST:
+            (pathlib.Path(to) / f"{name}{ending}.tar.xz").write_bytes(data)
 
 
 if __name__ == "__main__":
