@@ -28,7 +28,8 @@ from viewer.database.programs import build_programs
 
 # `.ci/run` loses one frame of so many, and these, each of which once made a finding real.
 STEP = 400
-FOUND = {"others_are_told wait=0 ends=60": [22], "kept_by_another_pool wait=12000": [93]}
+FOUND = {"others_are_told wait=0 ends=60": [22], "kept_by_another_pool wait=12000": [93],
+         "reply_refused_by_the_log errno=None": [10]}
 
 # What a finding is, in a session and in the same session with a frame less: a handle, a node, or the place of a record.
 Known = tuple[object, ...]

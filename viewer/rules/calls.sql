@@ -1,8 +1,8 @@
 -- A, C, T, U: calls and served calls that are open.
--- needs: database/schema.sql: finding, raw_call, raw_delivery, raw_thread, side_time; nodes.sql: who; records.sql:
---   from_before; paths.sql: path_of; ages.sql: ended, last, life, old; rule.sql: lossy; waits.sql: full_pool,
---   lock_ring, own_ring, pool, ring, step, waited, waits, waits_for; pools.sql: full_wait; judging.py: counted,
---   duration
+-- needs: database/schema.sql: finding, raw_call, raw_delivery, raw_record, raw_thread, side_time; nodes.sql: who;
+--   records.sql: from_before; paths.sql: path_of; ages.sql: ended, last, life, old; rule.sql: lossy; waits.sql:
+--   full_pool, lock_ring, own_ring, pool, ring, step, waited, waits, waits_for; pools.sql: full_wait; judging.py:
+--   counted, duration
 -- makes: temporary tables: keeps_busy
 
 -- ---- what findings are called
@@ -71,9 +71,11 @@
 UPDATE finding SET rule = 'A1', lead = w.id FROM waits w
 WHERE section IN ('served', 'buffers') AND w.delivery = finding.place AND (w.replied = 0 OR section = 'served');
 -- A call that failed because its server ended, and the served call there.
-UPDATE finding SET rule = 'A1', lead = f.id FROM raw_delivery d JOIN finding f ON f.place = d.send
-WHERE finding.section = 'served' AND finding.what = 'open' AND d.place = finding.place AND +f.section = 'calls'
-  AND f.what = 'failed' AND finding.rule IS NULL;
+UPDATE finding SET rule = 'A1', lead = f.id
+FROM raw_delivery d JOIN raw_call c ON c.place = d.send JOIN raw_record e ON e.place = c.closer
+  JOIN finding f ON f.place = c.place
+WHERE finding.rule IS NULL AND finding.section = 'served' AND finding.what = 'open' AND d.place = finding.place
+  AND +f.section = 'calls' AND e.kind = :BR_DEAD_REPLY;
 UPDATE finding SET rule = 'A1', lead = coalesce(v.lead, v.id) FROM finding v
 WHERE finding.rule IS NULL AND finding.section = 'buffers' AND +v.section = 'served' AND v.what = 'open'
   AND v.place = finding.place;

@@ -114,6 +114,24 @@ def reply_refused_by_the_log(s, errno):
         logs(s, service.main, errno, "reply", 200, 7, 4000)
 
 
+@case("A1:1 E3:1 E6:1 U6:1")
+def refused_reply_is_lost(s):
+    """A reply is refused, and the frame with the reply is lost: the report has the served call as open. The server did
+    not end, but another one did, in a call of another client."""
+    service, client = s.two()
+    other, short = s.process(400, "other"), s.process(300, "short-lived")
+    short.main.gives(service.main, 3)
+    other.main.is_given(service.main, 1, server_handle=3)
+    client.main.asks(service.main)
+    service.main.gets(client.main.sends(0, 1))
+    service.main.replies(None, bytes(4000))
+    s.drops(s.sequence - 1)
+    client.main.reads(DONE, record(BR_FAILED_REPLY))
+    other.main.sends(1, 1)
+    short.ends()
+    other.main.reads(record(BR_DEAD_REPLY))
+
+
 @case("E5:1 A1:2 U6:4", "no space (-28 ENOSPC): 4 sends and replies with 2,224 bytes waited or were held at service"
       " 100: 3 sends from client 200, 1 send from other 300; most by code 7, the largest has 1,000 bytes)")
 @case("E5:1 A1:2 U6:4", "no space (-28 ENOSPC): 2 oneway sends with 2,000 bytes waited or were held at service 100: 2"
