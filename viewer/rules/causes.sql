@@ -9,8 +9,9 @@ CREATE TEMP TABLE of_death AS
 WITH death AS (SELECT id, upid, cookie, place, iif(rule = 'D8', 2, 4) AS rank,
     coalesce('process ' || target, 'object ' || generation, 'cookie ' || cookie) AS dead FROM finding
   WHERE section = 'deaths' AND what = 'unacknowledged' AND rule NOT IN ('L1', 'D9'))
-SELECT id, upid, coalesce('process ' || target, 'object ' || generation) AS dead, iif(rule = 'E1', 1, 3) AS rank, place
-FROM finding WHERE rule IN ('E1', 'H3')
+SELECT id, upid, coalesce('process ' || target, 'object ' || generation) AS dead,
+  CASE rule WHEN 'E1' THEN 0 WHEN 'E13' THEN 1 ELSE 3 END AS rank, place
+FROM finding WHERE rule IN ('E1', 'E13', 'H3')
 UNION ALL SELECT id, upid, dead, rank, place FROM death
 UNION ALL SELECT f.id, f.upid, min(d.dead), 5, f.place FROM finding f JOIN death d USING (upid, cookie)
 WHERE f.section = 'clears' AND f.rule = 'D3' GROUP BY f.id;

@@ -13,9 +13,10 @@
 
 -- ---- the rules
 
--- E1 real: Sent to an object after its death notification: repeatedly, or over {VERY_LONG} later.
+-- E1 real: Sent to an object after its death notification: {OFTEN} times or more, or more than once and over {VERY_LONG}
+--   later.
 --   next: what the process does when it is told of the death: it keeps the handle and goes on
---   rests on: VERY_LONG
+--   rests on: OFTEN, VERY_LONG
 --   met by: `dead-user`: three calls after BR_DEAD_BINDER
 --   where frames are missing: M3
 -- E2 maybe: Sent to an object after BR_DEAD_REPLY had told its end: repeatedly, or over {VERY_LONG} later.
@@ -52,6 +53,11 @@
 --   met by: `goes_on_calling_the_frozen()`: ten calls in 1.2 s
 --   where frames are missing: M3
 
+-- E13 maybe: Sent to an object after its death notification: twice soon after, or once over {VERY_LONG} later.
+--   next: what the process does when it is told of the death: it may keep the handle
+--   rests on: OFTEN, VERY_LONG
+--   met by: `calls_the_dead()`: one call 1.5 s after BR_DEAD_BINDER, or two soon after it
+
 -- ---- what they say of which finding
 
 -- The error reply that closed a failed call or refused a send: its kind, and the send.
@@ -68,6 +74,7 @@ CREATE UNIQUE INDEX temp.failure_of ON failure(id);
 -- and a process may keep the handle in several places: a single send of a thread with a code soon after says nothing.
 CREATE TEMP TABLE too_late AS
 SELECT id, rule, place, n > 1 OR coalesce(since > :VERY_LONG, 0) AS certain,
+  n >= :OFTEN OR n > 1 AND coalesce(longest > :VERY_LONG, 0) AS again,
   n >= :TOO_MANY AND coalesce(longest > :VERY_LONG, 0) AS goes_on
 FROM (SELECT e.id, n.rule, n.place, count(*) OVER alike AS n, x.ts - y.ts AS since,
     max(x.ts - y.ts) OVER alike AS longest
@@ -79,8 +86,10 @@ FROM (SELECT e.id, n.rule, n.place, count(*) OVER alike AS n, x.ts - y.ts AS sin
     LEFT JOIN side_time x ON x.seq = s.seq LEFT JOIN side_time y ON y.seq = t.seq
   WHERE e.kind = :BR_DEAD_REPLY AND n.place < e.place
   WINDOW alike AS (PARTITION BY n.rule, e.generation, e.utid, f.code));
-UPDATE finding SET rule = iif(t.rule = 'E2' AND t.goes_on, 'E11', t.rule), said = 'told at {other}', other = t.place
-FROM (SELECT id, min(rule) AS rule, place, goes_on FROM too_late WHERE certain GROUP BY id) t
+UPDATE finding SET rule = CASE t.rule WHEN 'E1' THEN iif(t.again, 'E1', 'E13') ELSE iif(t.goes_on, 'E11', 'E2') END,
+  said = 'told at {other}',
+  other = t.place
+FROM (SELECT id, min(rule) AS rule, place, again, goes_on FROM too_late WHERE certain GROUP BY id) t
 WHERE finding.rule IS NULL AND t.id = finding.id;
 -- A process that was frozen gets no calls until it is thawed.
 CREATE TEMP TABLE got_call AS

@@ -164,6 +164,7 @@ UPDATE finding_group SET note = (SELECT f.note FROM finding_head h JOIN finding 
 -- And what else came of the deaths that its findings tell of.
 UPDATE finding_group SET note = coalesce(note || '; ', '') || l.told
 FROM (SELECT grp, 'with ' || group_concat(CASE rank
+    WHEN 1 THEN counted(n, 'other send to the dead', 'other sends to the dead')
     WHEN 3 THEN counted(n, 'reference to the dead', 'references to the dead')
     WHEN 5 THEN counted(n, 'clear not confirmed', 'clears not confirmed')
     ELSE counted(n, 'death not acknowledged', 'deaths not acknowledged') END, ' and ') AS told

@@ -328,15 +328,17 @@ def answer_unread(s, ends=0, wait=0):
 
 
 @case("E3:1", "E3 by short-lived 300: 1", sends=1, after=500)
-@case("E1:1", "told at", "E1 by client 200: 1", sends=1, after=1500)
-@case("E1:2", "told at", sends=2, after=10)
+@case("E13:1", "told at 1380", "E13 by client 200: 1", sends=1, after=1500)
+@case("E13:2", "told at", sends=2, after=10)
+@case("E13:2", "told at", sends=2, after=500)
+@case("E1:2", "told at", "E1 by client 200: 2", sends=2, after=1500)
 @case("E1:3", "told at", sends=3, after=10)
 @case("E1:10", "told at", sends=10, after=1500)
 @case("E3:3", sends=1, after=10, threads=3)
-@case("E1:4", "told at", sends=2, after=10, threads=2)
-@case("E1:2 E3:1", "told at", sends=2, after=10, once=1)
+@case("E13:4", "told at", sends=2, after=10, threads=2)
+@case("E13:2 E3:1", "told at", sends=2, after=10, once=1)
 @case("E3:3", sends=1, after=10, codes=3)
-@case("E1:4", "told at", sends=2, after=10, codes=2)
+@case("E13:4", "told at", sends=2, after=10, codes=2)
 def calls_the_dead(s, sends, after, threads=1, once=0, codes=1):
     """The client is told of a death, and calls the dead object, each of some threads so many times with each of some
     codes; `once`: so many more threads call it once each."""

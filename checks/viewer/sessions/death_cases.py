@@ -71,12 +71,17 @@ def deaths_not_acknowledged(s, dead=3, done=0, lets_go=False, last=0, wait=200, 
       "1 of 1 that came so; with 1 death not acknowledged and 1 clear not confirmed)", clears=True)
 @case("D3:1 U4:1", "groups that are maybe: 1", "groups that are explained: 0", "(with 1 clear not confirmed)",
       clears=True, lets_go=True)
-@case("E1:2 H3:1", "real calls that failed: 2 of 2 code 7 to short-lived 300 node 0x9000 E1",
-      "groups that are maybe: 0", "; with 1 reference to the dead)", done=True, calls=2)
-@case("D3:1 E1:2 H3:1 U4:1", "real calls that failed: 2 of 2 code 7 to ", "groups that are maybe: 0",
+@case("E1:3 H3:1", "real calls that failed: 3 of 3 code 7 to short-lived 300 node 0x9000 E1",
+      "groups that are maybe: 0", "; with 1 reference to the dead)", done=True, calls=3)
+@case("E13:2 H3:1", "maybe calls that failed: 2 of 2 code 7 to short-lived 300 node 0x9000 E13",
+      "groups that are maybe: 1", "; with 1 reference to the dead)", done=True, calls=2)
+@case("E1:3 E13:2 H3:1", "real calls that failed: 3 of 3 code 7 to short-lived 300 node 0x9000 E1",
+      "groups that are maybe: 0", "; with 2 other sends to the dead and 1 reference to the dead)", done=True, calls=3,
+      before=2)
+@case("D3:1 E1:3 H3:1 U4:1", "real calls that failed: 3 of 3 code 7 to ", "groups that are maybe: 0",
       "groups that are explained: 0",
-      "; with 1 reference to the dead and 1 death not acknowledged and 1 clear not confirmed)", clears=True, calls=2)
-@case("D9:1 E1:2", "real calls that failed: 2 of 2 code 7 to ", "groups that are maybe: 0", calls=2, lets_go=True)
+      "; with 1 reference to the dead and 1 death not acknowledged and 1 clear not confirmed)", clears=True, calls=3)
+@case("D9:1 E1:3", "real calls that failed: 3 of 3 code 7 to ", "groups that are maybe: 0", calls=3, lets_go=True)
 @case("D9:1", "groups that are maybe: 0", "groups that are explained: 1", lets_go=True)
 @case("H3:2 U4:2", "maybe references to an object told dead: 2 of 2 handles, short-lived H3",
       "groups that are maybe: 1", "; with 2 deaths not acknowledged)", objects=2)
@@ -87,12 +92,12 @@ def deaths_not_acknowledged(s, dead=3, done=0, lets_go=False, last=0, wait=200, 
 @case("D9:1 H3:1 U4:1", "maybe references to an object told dead: 1 of 1 handle 1, ",
       "explained deaths not acknowledged: 1 of - handle 20, other 500 node 0x9000 D9", "groups that are maybe: 1",
       "; with 1 death not acknowledged)", other=True)
-def death(s, done=False, clears=False, calls=0, lets_go=False, objects=1, lets_go_of=0, other=False,
+def death(s, done=False, clears=False, calls=0, before=0, lets_go=False, objects=1, lets_go_of=0, other=False,
           late=False):
     """A client is told of the death of a process by each of its objects. It acknowledges that or not, lets go of them
-    or not, clears its requests, and makes calls to the first object, all the same. `other`: it is also told of the
-    death of another process, whose object it lets go of, and does not acknowledge that either. `late`: of the last
-    object it is told after the end of the recording."""
+    or not, clears its requests, and makes calls to the first object, all the same, `before` with another code.
+    `other`: it is also told of the death of another process, whose object it lets go of, and does not acknowledge that
+    either. `late`: of the last object it is told after the end of the recording."""
     service, client = s.two()
     short = s.process(300, "short-lived")
     handles = list(range(1, 1 + objects))
@@ -116,8 +121,8 @@ def death(s, done=False, clears=False, calls=0, lets_go=False, objects=1, lets_g
             client.main.writes(*each_long(BC_DEAD_BINDER_DONE, 0xD0 + handle))
         if clears:
             client.main.writes(watch(BC_CLEAR_DEATH_NOTIFICATION, handle, 0xD0 + handle))
-    for _ in range(calls):
-        client.main.sends(1, 7)
+    for code in [8] * before + [7] * calls:
+        client.main.sends(1, code)
         client.main.reads(record(BR_DEAD_REPLY))
     gone = handles if lets_go else [handle for handle in handles if handle in (lets_go_of, 20)]
     if gone:
