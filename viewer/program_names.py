@@ -22,6 +22,11 @@ def called(program: str) -> str:
     return f"binder-{program}" if PACKED else PROGRAMS[program]
 
 
+def called_anywhere(program: str) -> str:
+    """The same from any folder."""
+    return called(program) if PACKED else str(FOLDER.parent / PROGRAMS[program])
+
+
 def as_called(text: str) -> str:
     """A text in which the programs are called as here."""
     return CALL.sub(lambda found: called(NAMES[found[0]]), text)

@@ -4,7 +4,6 @@ what they name; and by hand in chromium."""
 import html
 import pathlib
 import re
-import shlex
 import subprocess
 from contextlib import closing
 from html.parser import HTMLParser
@@ -115,15 +114,12 @@ def check_commands(folder: pathlib.Path, lab: pathlib.Path, room: pathlib.Path, 
     came = played(folder / "fleet", "page", lab, "-o", room / "made.html")
     compare("a page by the folder of a lab", came, (0, "", ""), fail)
     text = (room / "made.html").read_text("utf-8")
-    commands = [html.unescape(one) for one in re.findall("<code>(./[^<]*)</code>", text)]
-    listing = next(one for one in commands if one.startswith("./listing "))
-    view = next(one for one in commands if one.startswith("./view "))
-    ended = subprocess.run([folder / "listing", *shlex.split(listing)[1:]], cwd=lab, capture_output=True,
-                           encoding="utf-8")
-    place = listing.rpartition(" ")[2]
-    compare(f"{listing}: status, the place", (ended.returncode, place in ended.stdout), (0, True), fail)
-    ended = subprocess.run([folder / "view", *shlex.split(view)[1:], "--groups"], cwd=lab, capture_output=True)
-    compare(f"{view}: status, a side list", (ended.returncode, "--side" in view), (0, True), fail)
+    commands = [html.unescape(one) for one in re.findall("<code>([^<]* [^<]*)</code>", text)]
+    for program, has, more in ("listing", "--at", ""), ("view", "--side", " --groups"):
+        command = next(one for one in commands if re.match(rf"\S*/{program} ", one) and has in one)
+        ended = subprocess.run(command + more, shell=True, cwd=lab, capture_output=True, encoding="utf-8")
+        shown = command.rpartition(" ")[2] if program == "listing" else "\t"
+        compare(f"{command}: status, what it shows", (ended.returncode, shown in ended.stdout), (0, True), fail)
 
 
 def check_browser(room: pathlib.Path, fail: Fail) -> str:

@@ -6,7 +6,7 @@ import sqlite3
 from typing import NamedTuple
 
 from viewer.files import word_of
-from viewer.program_names import called
+from viewer.program_names import called_anywhere
 
 # Captures that count, in the order of their builds.
 USABLE = """
@@ -72,8 +72,9 @@ def commands_of(folder: pathlib.Path, capture: Capture, place: int | None) -> Co
     at = f"{capture.build}/{capture.device}"
     files = capture.file.split(" ")
     words = " ".join(word_of(f"{at}/{name}") for name in files)
-    return Commands(f"{called('listing')} {words} --at {place}" if place is not None else None,
-                    " ".join((called("view"), words, *side_options(folder, at, files))))
+    listing, view = (word_of(called_anywhere(program)) for program in ("listing", "view"))
+    return Commands(f"{listing} {words} --at {place}" if place is not None else None,
+                    " ".join((view, words, *side_options(folder, at, files))))
 
 
 def builds_of(lab: sqlite3.Connection) -> list[Build]:

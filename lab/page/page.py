@@ -17,7 +17,7 @@ from lab.page.defects import BEFORE, NAMED, Lab, picture_of
 from viewer.files import Stopped, for_owner, whole_file, word_of
 from viewer.page import page as of_capture
 from viewer.page.texts import title_of
-from viewer.program_names import called
+from viewer.program_names import called_anywhere
 
 TEMPLATES = pathlib.Path(__file__).resolve().parent / "templates"
 
@@ -49,7 +49,7 @@ def document(lab: sqlite3.Connection, path: str, enough: Enough, known: dict[str
                                 autoescape=True, undefined=jinja2.StrictUndefined, trim_blocks=True, lstrip_blocks=True,
                                 finalize=lambda value: "" if value is None else value)
     engine.filters |= FILTERS
-    ask = f"{called('fleet')} ask {word_of(os.path.basename(path))}"
+    ask = f"{word_of(called_anywhere('fleet'))} ask {word_of(os.path.basename(path))}"
     engine.globals |= {"who": {}, "names": None, "ask": ask}
     style = "".join((folder / "page.css").read_text("utf-8") for folder in (of_capture.FOLDER, TEMPLATES.parent))
     script = (of_capture.FOLDER / "page.js").read_text("utf-8")
