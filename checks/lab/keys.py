@@ -19,6 +19,9 @@ CUT = "forgetful", "hello-stuck", "leaks", "sessions"
 LESS = (("reply to no call", "reply to "), ("handle", "handle, "), ("handle", "given by "),
         ("handle 0", "handle 0, "), ("cookie", "handle"))
 
+# How a path ends in which the other end of a handle is not known.
+OTHERS = "handle", "handle 0"
+
 
 def recorded(folder: pathlib.Path, room: pathlib.Path, capture: pathlib.Path, side: pathlib.Path) -> dict[str, Defect]:
     """The defects of a capture."""
@@ -38,8 +41,9 @@ def lacks_a_name(defect: Defect, of: Defect) -> bool:
     """Whether a defect is this one, but for a name. Who is at the other end of a handle may cause it."""
     if defect.kind != of.kind:
         return False
-    if defect.path.endswith(" to handle"):
-        return of.path.startswith(defect.path.removesuffix("handle"))
+    for other in OTHERS:
+        if defect.path.endswith(f" to {other}"):
+            return of.path.startswith(defect.path.removesuffix(other))
     return defect.who == of.who and any(defect.path == less and of.path.startswith(more) for less, more in LESS)
 
 
