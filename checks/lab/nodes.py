@@ -146,13 +146,14 @@ def check_by_make(folder: pathlib.Path, room: pathlib.Path, fail: Fail) -> None:
             time.sleep(0.1)
         killed += kill([running.pid] if alone else in_session(running.pid))
         running.wait()
-        while alone and in_session(running.pid):  # its jobs end, and nothing begins
+        while left := in_session(running.pid):  # alone: its jobs end, and nothing begins; or what began meanwhile
+            kill([] if alone else left)
             time.sleep(0.1)
     print(f"make, killed alone and with its jobs: {killed} processes, {made()} results", flush=True)
     run_full("scratch", scratch, 300)
     compare("make, the last call", make(folder, lab, {**os.environ, **of_scratch}).wait(900), 0, fail)
-    left = [path.name for path in scratch.folder.iterdir()]
-    print(f"make: {time.monotonic() - begun:.0f} s, left in scratch: {left}", flush=True)
+    scratch_left = [path.name for path in scratch.folder.iterdir()]
+    print(f"make: {time.monotonic() - begun:.0f} s, left in scratch: {scratch_left}", flush=True)
     check_results("make", lab, fail)
 
 
