@@ -22,7 +22,7 @@ class Kind(NamedTuple):
 
 def is_text(value: object) -> bool:
     """Whether a value is a text that a file can have: JSON also has halves of characters."""
-    return isinstance(value, str) and not re.search("[\ud800-\udfff]", value)
+    return isinstance(value, str) and (value.isascii() or not re.search("[\ud800-\udfff]", value))
 
 
 def is_whole(value: object) -> bool:
@@ -76,10 +76,10 @@ def wrong_in(where: str, given: object, form: dict[str, Kind]) -> str | None:
     """What is wrong with an object of a result, if something is."""
     if not isinstance(given, dict):
         return f"{where} is no object"
-    for name, kind in form.items():
+    for name, (what, fits, _, may_lack) in form.items():
         value = given.get(name)
-        if not (value is None and kind.may_lack or kind.fits(value)):
-            return f"{where}.{name} is not {kind.what}"
+        if not (value is None and may_lack or fits(value)):
+            return f"{where}.{name} is not {what}"
     return None
 
 
@@ -143,16 +143,17 @@ class Unfolding:
             self.why = self.why or f"{name}.rows[{others[0]}] is no row of {len(columns)} values"
         if self.why:
             return []
-        kinds = [ROWS[name].get(column) for column in columns]
-        return [{column: self.value(f"{name}.rows[{at}].{column}", kind, value)
-                 for column, kind, value in zip(columns, kinds, row) if kind} for at, row in enumerate(rows)]
+        known = [(at, column, is_named(kind)) for at, column in enumerate(columns)
+                 if (kind := ROWS[name].get(column)) is not None]
+        return [{column: self.named(name, at, column, row[place]) if named else row[place]
+                 for place, column, named in known} for at, row in enumerate(rows)]
 
-    def value(self, where: str, kind: Kind, value: object) -> object:
-        if value is None or not is_named(kind):
-            return value
+    def named(self, name: str, at: int, column: str, value: object) -> str | None:
+        """The text of which a row has the place."""
         if type(value) is int and 0 <= value < len(self.names):
             return self.names[value]
-        self.why = self.why or f"{where} is no place in names"
+        if value is not None:
+            self.why = self.why or f"{name}.rows[{at}].{column} is no place in names"
         return None
 
 

@@ -1,6 +1,7 @@
 """A lab: one file of SQLite, which results are loaded into."""
 
 import contextlib
+import functools
 import json
 import os
 import pathlib
@@ -120,11 +121,17 @@ def elsewhere(lab: sqlite3.Connection, capture: dict) -> tuple[str, str] | None:
     return there if there and there != (capture["build"], capture["device"]) else None
 
 
-def insert(lab: sqlite3.Connection, table: str, given: dict, how: str = "INSERT", **more: object) -> int | None:
+@functools.cache
+def insertion(table: str, how: str, more: tuple[str, ...]) -> str:
+    """The statement that puts a row into a table, which has these columns more."""
+    columns = *TABLES[table], *more
+    return f"{how} INTO {table}({', '.join(columns)}) VALUES ({', '.join('?' * len(columns))})"
+
+
+def insert(lab: sqlite3.Connection, table: str, given: list[dict], how: str = "INSERT", **more: object) -> None:
     """Puts what a result gives into a table, and these columns more."""
-    row = {column: given.get(name) for column, name in TABLES[table].items()} | more
-    return lab.execute(f"{how} INTO {table}({', '.join(row)}) VALUES ({', '.join('?' * len(row))})",
-                       [*row.values()]).lastrowid
+    names, others = [*TABLES[table].values()], [*more.values()]
+    lab.executemany(insertion(table, how, tuple(more)), ([*map(row.get, names), *others] for row in given))
 
 
 def put(lab: sqlite3.Connection, result: dict) -> bool:
@@ -137,13 +144,11 @@ def put(lab: sqlite3.Connection, result: dict) -> bool:
         for table in ("found", "talk", "held"):
             lab.execute(f"DELETE FROM {table} WHERE capture = ?", before[:1])
         lab.execute("DELETE FROM capture WHERE id = ?", before[:1])
-    number = insert(lab, "capture", capture)
-    for row in result["found"]:
-        insert(lab, "defect", row, "INSERT OR IGNORE")
-        insert(lab, "found", row, capture=number)
-    for table in ("talk", "held"):
-        for row in result[table]:
-            insert(lab, table, row, capture=number)
+    insert(lab, "capture", [capture])
+    number, = lab.execute("SELECT id FROM capture WHERE digest = ?", (capture["digest"],)).fetchone()
+    insert(lab, "defect", result["found"], "INSERT OR IGNORE")
+    for table in ("found", "talk", "held"):
+        insert(lab, table, result[table], capture=number)
     return True
 
 
