@@ -14,8 +14,8 @@
 #     --room FOLDER      where packages and results are kept; by default a temporary folder that is removed
 #     --guest NAME       only this guest; may be given several times: aarch64-1, aarch64-4, x86_64-1, x86_64-4, each
 #                        with so many processors, and x86_64-kvm; by default aarch64-1 and aarch64-4
-#     --kernel SERIES    6.1, or 5.10, whose kernel gets the programs for older ones; there no files are opened, as
-#                        opens.c has only the other programs; by default 6.1
+#     --kernel SERIES    6.1, newest, which is Debian sid's, or 5.10, whose kernel gets the programs for older ones;
+#                        there no files are opened, as opens.c has only the other programs; by default 6.1
 #     --limit SECONDS    how long a guest may take; by default 1800
 #
 # The status is 1 if a guest did not come to its end, or lost frames.
