@@ -60,6 +60,16 @@ class Process(Track):
         self.touched = 0
         self.strong: dict[int, int] = {}
 
+    def changed(self) -> list[tuple[int, int]]:
+        """The counters that are not as they are shown, by their numbers, with their values. They are shown now."""
+        now, shown, found = self.now, self.shown, []
+        for at in COUNTERS_OF[self.touched]:
+            value = now[at]
+            if value != shown[at]:
+                shown[at] = value
+                found.append((at, value))
+        return found
+
 
 class Thread:
     """A thread of the capture. `entries` are those of its lane that are its own, and `serving` those of them that it
@@ -122,8 +132,8 @@ class Events(Protocol):
 
     def finding(self, thread: Thread, ns: int, finding: Finding) -> None: ...
 
-    def count(self, process: Process, ns: int, changed: list[int]) -> None:
-        """The counters of a process that are not as they are shown, by their numbers."""
+    def count(self, process: Process, ns: int) -> int:
+        """The counters of a process that are not as they are shown. Returns how many these are."""
 
     def queue(self, thread: Thread, called: Own, place: int, begin: int, end: int,
               fields: Mapping[str, object]) -> None:

@@ -162,9 +162,12 @@ class JsonEvents:
     def finding(self, thread: Thread, ns: int, finding: Finding) -> None:
         self.instant(thread, ns, f"finding,{finding.verdict}", f"{finding.verdict}: {finding.title}", finding.fields)
 
-    def count(self, process: Process, ns: int, changed: list[int]) -> None:
-        heads, now, tail = self.counters[process.upid], process.now, f'}},"ts":{self.time(ns)}}}'
-        self.events += [f"{heads[at]}{now[at]}{tail}" for at in changed]
+    def count(self, process: Process, ns: int) -> int:
+        changed = process.changed()
+        if changed:
+            heads, tail = self.counters[process.upid], f'}},"ts":{self.time(ns)}}}'
+            self.events += [f"{heads[at]}{value}{tail}" for at, value in changed]
+        return len(changed)
 
     def queue(self, thread: Thread, called: JsonCalled, place: int, begin: int, end: int,
               fields: Mapping[str, object]) -> None:

@@ -78,17 +78,16 @@ def compressed(packets: bytes) -> bytes:
     return message(PACKET, message(COMPRESSED, zlib.compress(packets, LEVEL)))
 
 
-def extras(tracks: list[tuple[bytes, bytes]], now: list[int], which: list[int]) -> bytes:
+def extras(tracks: list[tuple[bytes, bytes, bytes]], changed: list[tuple[int, int]]) -> bytes:
     """Extra counters of an event. Those of 0 come last: after one of them Perfetto 56 takes all others for 0."""
     more = zeros = b""
-    for at in which:
-        value = now[at]
+    for at, value in changed:
         if 0 < value < PAIRS:
             more += tracks[at][1] + LAST[value]
         elif value:
             more += tracks[at][1] + varint(value)
         else:
-            zeros += tracks[at][1] + b"\0"
+            zeros += tracks[at][2]
     return more + zeros
 
 
@@ -122,7 +121,7 @@ class Packets:
         self.arguments = [[self.interned.writer(name) for name in names] for names in ARGUMENTS]
         self.processes: dict[int, int] = {}
         self.lanes: dict[tuple[int, int], bytes] = {}
-        self.counters: dict[int, list[tuple[bytes, bytes]]] = {}
+        self.counters: dict[int, list[tuple[bytes, bytes, bytes]]] = {}
         self.queues: dict[int, list[tuple[int, bytes]]] = {}
         self.others: dict[str, bytes] = {}
         self.seen = self.first_seen(database) if axis.timed else {}
@@ -162,11 +161,12 @@ class Packets:
 
     def add_to_event(self, more: bytes) -> bool:
         """Adds fields to the last event, which is the last packet."""
-        body = self.parts[-1] + more
+        parts = self.parts
+        body = parts[-1] + more
         length = len(body)
         if length + self.around >= PAIRS:
             return False
-        self.parts[-4], self.parts[-2:] = PACKET_HEADS[length + self.around], (LENGTHS[length], body)
+        parts[-4], parts[-2], parts[-1] = PACKET_HEADS[length + self.around], LENGTHS[length], body
         return True
 
     def tell_clocks(self, moments: list[Moment]) -> None:
@@ -228,13 +228,15 @@ class Packets:
     def head_of_process(self, process: Process) -> bytes:
         return number(TRACK, self.process_track(process.upid))
 
-    def counter_tracks(self, process: Process) -> list[tuple[bytes, bytes]]:
-        """What comes before the value of each counter of a process: as the counter of an event, and as an extra one."""
+    def counter_tracks(self, process: Process) -> list[tuple[bytes, bytes, bytes]]:
+        """What comes before the value of each counter of a process: as the counter of an event, and as an extra one;
+        and an extra one of 0."""
         parent, of, made = self.process_track(process.upid), self.system.opening_of(process.upid), []
         for name, unit in COUNTER_TRACKS:
             uuid = self.track(number(PARENT, parent), text(NAME, name + of), message(OF_COUNTER, number(UNIT, unit)))
-            made.append((COUNTER + number(TRACK, uuid) + key(COUNTER_VALUE, VARINT),
-                         number(EXTRA_TRACKS, uuid) + key(EXTRA_VALUES, VARINT)))
+            extra = number(EXTRA_TRACKS, uuid) + key(EXTRA_VALUES, VARINT)
+            made.append((COUNTER + number(TRACK, uuid) + key(COUNTER_VALUE, VARINT), extra, extra + LAST[0]))
+        self.counters[process.upid] = made
         return made
 
     def other_track(self, name: str) -> bytes:
@@ -266,7 +268,8 @@ class Packets:
             self.interned.text(CATEGORY_NAMES, CATEGORY, category)
 
     def fields(self, fields: Mapping[str, object]) -> bytes:
-        return b"".join(self.interned.argument(name, value) for name, value in fields.items() if value is not None)
+        writer = self.interned.writer
+        return b"".join([writer(name)(value) for name, value in fields.items() if value is not None])
 
     def called(self, called: Called) -> PacketCalled:
         fields = self.fields(called.fields())
@@ -316,17 +319,17 @@ class Packets:
             fields = fields or self.fields(finding.fields)
             self.event(ns, INSTANT + head + named + fields + flow)
 
-    def count(self, process: Process, ns: int, changed: list[int]) -> None:
+    def count(self, process: Process, ns: int) -> int:
         """The last event, if it is of this time, has all counters that were changed, or else one of their own. An event
         has those of one process, since zeros come last in it."""
-        tracks = self.counters.get(process.upid)
-        if tracks is None:
-            tracks = self.counters[process.upid] = self.counter_tracks(process)
-        now = process.now
-        if not (self.takes_more and ns == self.ns and self.add_to_event(extras(tracks, now, changed))):
-            first, *others = changed
-            self.event(ns, tracks[first][0] + varint(now[first]) + extras(tracks, now, others))
-        self.takes_more = False
+        changed = process.changed()
+        if changed:
+            tracks = self.counters.get(process.upid) or self.counter_tracks(process)
+            if not (self.takes_more and ns == self.ns and self.add_to_event(extras(tracks, changed))):
+                (first, value), *others = changed
+                self.event(ns, tracks[first][0] + varint(value) + extras(tracks, others))
+            self.takes_more = False
+        return len(changed)
 
     def queue(self, thread: Thread, called: PacketCalled, place: int, begin: int, end: int,
               fields: Mapping[str, object]) -> None:

@@ -14,7 +14,7 @@ from viewer.database.sqlite import named_numbers
 from viewer.rules.names import Names
 from viewer.timeline.ends_and_gaps import Mark, ends_of, gaps_of, lost_of, missed_of
 from viewer.timeline.events import (ALL_COUNTERS, ASYNC, BUFFERS, BUSY, BYTES, CALL, CALLS, CAME, COUNTERS,
-                                    COUNTERS_OF, REFERENCES, SENT, SERVED, Called, Drawn, Events, Finding, Lane, Open,
+                                    REFERENCES, SENT, SERVED, Called, Drawn, Events, Finding, Lane, Open,
                                     Process, Thread)
 from viewer.timeline.rows import BY_PLACE, DELIVERY, FINDING, MARK, RECORD, SEND, Ahead
 from viewer.timeline.tracks import Axis, Tracks, Window
@@ -169,15 +169,13 @@ class Walk:
     def count(self, ns: int) -> None:
         """Writes the counters that were changed."""
         for process in self.touched:
-            now, shown = process.now, process.shown
-            changed = [at for at in COUNTERS_OF[process.touched] if now[at] != shown[at]]
+            if self.live and process.head is not None:
+                at = ns if ns > process.latest else process.latest
+                changed = self.out.count(process, at)
+                if changed:
+                    process.latest = at
+                    self.told["counter_events"] += changed
             process.touched = 0
-            if changed and self.live and process.head is not None:
-                if ns > process.latest:
-                    process.latest = ns
-                self.out.count(process, process.latest, changed)
-                self.told["counter_events"] += len(changed)
-                shown[:] = now
         self.touched.clear()
 
     # -- rows
