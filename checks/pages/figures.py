@@ -17,15 +17,14 @@ SESSIONS = re.compile(r"blind test of (\d+) sessions, (\d+) of them with a fault
 OTHER_SESSIONS = re.compile(r"Of\s+(\d+)\s+on\s+another\s+kernel,\s+(\d+)\s+of\s+them\s+with\s+a\s+fault,"
                             r"\s+it\s+found\s+(\d+)"
                             r".*?\s(no|\d+)\s+lines?\s+(?:was|were)\s+wrong", re.DOTALL)
-WITNESS = re.compile(r"In\s+(\d+)\s+of\s+(\d+)\s+recordings\s+on\s+7\.2,")
-OTHER_WITNESS = re.compile(r"and\s+in\s+(\d+)\s+of\s+(\d+)\s+on\s+5\.10\s+for\s+arm64,\s+a\s+second\s+recorder")
+WITNESS = re.compile(r"In (\d+) of (\d+) recordings on each of two kernels, a second recorder")
 
 # The rows of the table on the blind test, the last three of which count wrong lines.
 JUDGED = ("healthy sessions", "sessions with a fault", "faults found as `real`", "faults found as `maybe`",
           "wrong `maybe` lines in healthy sessions", "wrong `real` lines in faulty sessions",
           "wrong `maybe` lines in faulty sessions")
 # The kernels on which all was played, also with a second recorder.
-KERNELS = "7.2.13 | x86-64", "5.10.223 | arm64"
+KERNELS = "6.1.192 | x86-64", "7.2.13 | x86-64"
 
 
 def cells(text: str, begin: str) -> list[int]:
@@ -49,7 +48,7 @@ def wrong(page: pathlib.Path) -> Iterator[tuple[int, str]]:
     if page == README:
         text, measured = page.read_text("utf-8"), MEASURED.read_text("utf-8")
         for first, *others, due in ((SESSIONS, OTHER_SESSIONS, due_of_sessions(measured)),
-                                    (WITNESS, OTHER_WITNESS, due_of_witness(measured))):
+                                    (WITNESS, due_of_witness(measured))):
             found = first.search(text)
             all_found = filter(None, [found, *(other.search(text) for other in others)])
             if not found or {tuple(0 if it == "no" else int(it) for it in one.groups()) for one in all_found} != due:
