@@ -61,10 +61,13 @@ def due_of(one: Case) -> Counter:
 
 
 def texts_of(database: sqlite3.Connection) -> str:
-    """Paths and notes of the findings; how many of each rule a process causes; the groups, and how many each verdict
-    has; who sent how many of which code to whom, and how many of these came; and the defects with their keys."""
+    """Paths and notes of the findings; where those of pools are, and in which call; how many of each rule a process
+    causes; the groups, and how many each verdict has; who sent how many of which code to whom, and how many of these
+    came; and the defects with their keys and calls."""
     return "\n".join(text for text, in database.execute(
         "SELECT coalesce(path, '') || ' (' || coalesce(note, '') || ')' FROM finding"
+        " UNION ALL SELECT rule || ' at ' || place || ': code ' || code || ' in thread ' || thread"
+        " FROM finding JOIN raw_thread USING (utid) WHERE section = 'pools'"
         " UNION ALL SELECT rule || ' by ' || who || ': ' || count(*) FROM finding f"
         " JOIN who w ON w.upid = coalesce(f.culprit, f.upid) GROUP BY rule, w.upid"
         " UNION ALL SELECT a.who || ' to ' || b.who || ' code ' || code || ': ' || delivered || ' of ' || sends"
@@ -75,7 +78,8 @@ def texts_of(database: sqlite3.Connection) -> str:
         " FROM rule) v LEFT JOIN finding_group g USING (verdict) GROUP BY v.verdict"
         " UNION ALL SELECT 'finding_stack ' || n || ': ' || stack || ', ' || whose FROM finding_stack"
         " UNION ALL SELECT 'finding_stack 2: -' WHERE NOT EXISTS (SELECT 1 FROM finding_stack WHERE n = 2)"
-        " UNION ALL SELECT 'defect: ' || kind || ' | ' || who || ' | ' || path || '; key ' || id FROM defect"
+        " UNION ALL SELECT 'defect: ' || kind || ' | ' || who || ' | ' || path || '; key ' || id || '; '"
+        " || coalesce(call, 'no call') FROM defect"
         " UNION ALL SELECT '(' || count(*) || ' defects)' FROM defect"))
 
 

@@ -139,7 +139,7 @@ def death(s, done=False, clears=False, calls=0, before=0, lets_go=False, objects
 
 
 @case("H12:3", "real references to ended processes: 3 of 3 given by calls of code 4 H12 (held for 1.1",
-      " after short-lived 400 ended)", "groups that are real: 1")
+      " after short-lived 400 ended)", "groups that are real: 1", "| given by calls of code 4 from handle; key ")
 @case("H12:3", "3 of 5 given by calls of code 4 H12", alive=2)
 @case("", wait=950)
 @case("", dead=2)

@@ -54,10 +54,13 @@ def keeps_replies(s, first=100, handle=0, ptr=0, noise=0, kept=3, wait=300, lost
 
 @case("H5:4", KEPT, "(1 defects)")
 @case("H5:6", KEPT, "(1 defects)", count=6, ptr=0x4440, at=12)
-def keeps_sessions(s, count=4, ptr=0x9000, at=2):
-    """References that replies gave, to a process that is no context manager."""
-    manager, client = s.two()
+@case("H5:4", KEPT, "(1 defects)", is_first=True)
+def keeps_sessions(s, count=4, ptr=0x9000, at=2, is_first=False):
+    """References that replies gave, to a process that is no context manager, and is the first in the capture or not."""
     server = s.process(300 + at, "server")
+    if is_first:
+        server.main.writes(ENTER)
+    manager, client = s.two()
     server.main.gives(manager.main, 3, node=ptr)
     client.main.is_given(manager.main, 1, server_handle=3)
     for handle in range(at, at + count):

@@ -69,7 +69,8 @@ def linked_and_kept(s, count=4, weakly=True, asks=True, twice=False, again=False
         s.wait(100)
 
 
-@case("H5:4", "given by calls of code 4 from client 200", senders=1, each_gives=4)
+@case("H5:4", "given by calls of code 4 from client 200", "| given by calls of code 4 from client; key ", senders=1,
+      each_gives=4)
 @case("", senders=4, each_gives=1)
 @case("", senders=2, each_gives=2)
 @case("", senders=1, each_gives=3)

@@ -3,7 +3,8 @@ not."""
 
 from checks.kit.captures import BC_ACQUIRE, BC_EXIT_LOOPER, ENTER, each, record
 from checks.viewer.sessions.cases import case
-from checks.viewer.sessions.session import ONE_WAY
+from checks.viewer.sessions.name_cases import ONE
+from checks.viewer.sessions.session import ONE_WAY, Sent
 
 
 def waits_for_one(s, service, caller, victim, took=1100, idle=0, code=10, through=None):
@@ -24,7 +25,8 @@ def is_served(service, victim, waiting):
 
 
 @case("Q1:1", "code 10 at service 100 node 0x0", "3 calls waited up to 1.1 s (the median is 1 ms) for its 1 looper: ",
-      "2 of victim 301, 1 of victim 300", "Q1 by service 100: 1")
+      "2 of victim 301, 1 of victim 300", "Q1 by service 100: 1", ": code 10 in thread 100")
+@case("Q2:1", "Q2 at 3160: code 10", victims=2, longer=100)
 @case("Q2:1", "2 calls waited up to 1.1 s (the median is 1 ms)", "1 of victim 300, 1 of victim 301", victims=2)
 @case("", took=900)
 @case("", victims=1, free=True)
@@ -38,8 +40,9 @@ def is_served(service, victim, waiting):
 @case("Q2:1", usual=130, took=1150)
 @case("", victims=1, lost=True)
 @case("Q2:1", "for 1 looper: ", met="in-mid-life", victims=1)
-def calls_wait(s, victims=3, took=1100, idle=0, usual=0, free=None, lost=False, met="from-start"):
-    """Slow calls keep the only looper of a service, one after another, and other calls wait meanwhile. Another thread
+def calls_wait(s, victims=3, took=1100, longer=0, idle=0, usual=0, free=None, lost=False, met="from-start"):
+    """Slow calls keep the only looper of a service, one after another, each so much longer than the one before, and
+    other calls wait meanwhile. Another thread
     is free, or becomes a looper later, or is none any more, or has ended, or only makes calls."""
     service, client = s.two(met)
     others = [s.process(300, "victim"), s.process(301, "victim")]
@@ -59,24 +62,61 @@ def calls_wait(s, victims=3, took=1100, idle=0, usual=0, free=None, lost=False, 
     if lost:
         s.loses(service)
     for at in range(victims):
-        waiting = waits_for_one(s, service, client, others[at % 2 if victims < 3 else at > 0], took, idle,
+        waiting = waits_for_one(s, service, client, others[at % 2 if victims < 3 else at > 0], took + longer * at, idle,
                                 through=(lambda: second.writes(ENTER)) if free == "later" else None)
         is_served(service, others[at % 2 if victims < 3 else at > 0], waiting)
 
 
 @case("Q2:1", "code 10 at service 100 node 0x0", more=150)
 @case("Q2:1", "code 10, code 11 at service 100 (", more=300)
-def kept_by_two_methods(s, more):
-    """Two calls wait, one for a call that takes long, and one for a call of another method that takes some time."""
+@case("Q2:1", "code 11, code 10 at service 100 (", more=1000)
+@case("Q2:1", "code 11, code 10 at service 100 (", more=600, times=2)
+def kept_by_two_methods(s, more, times=1):
+    """A call waits for a call that takes long, and for one or two of another method that take some time, or as long."""
     service, client = s.two()
     victim, other = s.process(300, "victim"), s.process(301, "other")
-    address = service.main.gets(client.main.sends(0, 11))
-    waiting = victim.main.sends(0, 1)
-    s.wait(more)
-    client.main.answered(service.main.replies(address))
+    waiting = None
+    for _ in range(times):
+        address = service.main.gets(client.main.sends(0, 11))
+        waiting = waiting or victim.main.sends(0, 1)
+        s.wait(more)
+        client.main.answered(service.main.replies(address))
     address = service.main.gets(other.main.sends(0, 10))
     s.wait(1000)
     other.main.answered(service.main.replies(address))
+    is_served(service, victim, waiting)
+
+
+@case("Q2:2", "code 10 at service 101 node 0x9000", "code 10 at another 102 node 0x9000")
+def pools_at_one_address(s):
+    """Calls of one code keep the loopers of two services, whose objects have the same address."""
+    manager, client = s.two()
+    victim = s.process(300, "victim")
+    for at, name in enumerate(("service", "another")):
+        service = s.process(101 + at, name)
+        service.main.writes(ENTER)
+        service.main.gives(manager.main, 50 + at, node=0x9000)
+        for caller in client, victim:
+            caller.main.is_given(manager.main, 7 + at, server_handle=50 + at)
+        address = service.main.gets(client.main.sends(7 + at, 10), 0x9000)
+        waiting = victim.main.sends(7 + at, 1)
+        s.wait(1100)
+        client.main.answered(service.main.replies(address))
+        victim.main.answered(service.main.replies(service.main.gets(waiting, 0x9000)))
+
+
+@case("Q2:1", "code 10, code 10 at service 100 (")
+def kept_at_two_objects(s):
+    """Calls of one code keep the only looper of a service, at two of its objects, for about as long."""
+    service, client = s.two()
+    victim = s.process(300, "victim")
+    client.main.is_given(service.main, 1)
+    waiting = None
+    for handle, ptr in (0, 0), (1, 0x100):
+        address = service.main.gets(client.main.sends(handle, 10), ptr)
+        waiting = waiting or victim.main.sends(0, 1)
+        s.wait(600)
+        client.main.answered(service.main.replies(address))
     is_served(service, victim, waiting)
 
 
@@ -96,7 +136,8 @@ def two_loopers(s, busy):
 @case("Q2:1", "the loopers wait for third 302", "Q2 by third 302: 1", share=0.85)
 @case("Q2:1", "Q2 by service 100: 1", share=0.75)
 @case("Q2:1", "a call of its own, code 12 at service 100", "the loopers wait for third 302", share=1)
-def kept_by_another(s, share):
+@case("Q2:1", "a call of its own, IOne code 12 at service 100", "the loopers wait for third 302", share=1, named=True)
+def kept_by_another(s, share, named=False):
     """A looper waits for a third process in a call that it serves, for so much of the time; or in a call of its own,
     without serving any."""
     service, client = s.two()
@@ -105,12 +146,25 @@ def kept_by_another(s, share):
     if share < 1:
         address = service.main.gets(client.main.sends(0, 10))
     waiting = victim.main.sends(0, 1)
-    got = third.main.gets(service.main.sends(8, 12), 0x9800)
+    got = third.main.gets(service.main.sends(8, 12, body=ONE if named else b""), 0x9800)
     s.wait(1100 * share)
     service.main.answered(third.main.replies(got))
     s.wait(1100 * (1 - share))
     if share < 1:
         client.main.answered(service.main.replies(address))
+    is_served(service, victim, waiting)
+
+
+@case("Q2:1", "a call of its own, IOne code 12 at service 100")
+def kept_by_who_knows(s):
+    """A looper waits in a call of its own to a handle that was there before the recording."""
+    service, client = s.two()
+    victim = s.process(300, "victim")
+    client.main.asks(service.main)
+    waiting = victim.main.sends(0, 1)
+    service.main.sends(9, 12, body=ONE)
+    s.wait(1100)
+    service.main.answered(Sent(None, 0, 0, b"", b""))
     is_served(service, victim, waiting)
 
 
