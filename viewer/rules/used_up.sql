@@ -3,7 +3,7 @@
 --   who; ages.sql: process_life; waits.sql: occupies, step; pools.sql: full_wait, kept_by, kept_by_method, kept_for;
 --   judging.py: counted, duration
 -- after: calls.sql
--- makes: temporary tables: usual_wait, told_by_call, used_up
+-- makes: temporary tables: usual_wait, told_by_call, keeper, used_up; indexes: keeper_of
 
 -- ---- what findings are called
 
@@ -11,7 +11,8 @@
 
 -- ---- the rules
 
--- Q1 real: Calls waited over {VERY_LONG} and {OLD} times as long as usual, while these kept all known loopers busy.
+-- Q1 real: Calls of others waited over {VERY_LONG} and {OLD} times as long as usual, while these kept all known loopers
+--   busy.
 --   next: the method that the path names: how long it takes, and who calls it so often
 --   rests on: VERY_LONG, NEARLY_ALL, OFTEN, OLD
 --   met by: `calls_wait()`: slow calls keep the only looper busy, one after another
@@ -42,10 +43,17 @@ WITH RECURSIVE told(at) AS (SELECT id FROM finding WHERE rule IN ('C3', 'C6', 'C
   UNION SELECT s.id FROM told t JOIN step s ON s.next = t.at LEFT JOIN finding f ON f.id = s.id
     WHERE s.id < 0 OR f.rule = 'C7')
 SELECT DISTINCT upid AS server FROM occupies WHERE id IN (SELECT at FROM told);
+-- The processes whose calls kept its loopers busy, and when. A process that waits for its own calls delays itself.
+CREATE TEMP TABLE keeper AS
+SELECT k.server, t.upid, k.since, k.until
+FROM kept_by k JOIN raw_delivery d USING (place) JOIN raw_send s ON s.place = d.send JOIN raw_thread t ON t.utid = s.utid;
+CREATE INDEX temp.keeper_of ON keeper(server, upid, since);
 CREATE TEMP TABLE used_up AS
 SELECT w.server, count(*) AS n, max(w.until - w.since) AS longest, u.dur AS usual,
-  coalesce(sum(w.until - w.since > :OLD * u.dur) >= :OFTEN, 0) AS is_real
-FROM full_wait w LEFT JOIN usual_wait u USING (server)
+  coalesce(sum(w.until - w.since > :OLD * u.dur
+    AND coalesce((SELECT k.until FROM keeper k WHERE k.server = w.server AND k.upid = t.upid AND k.since <= w.since
+      ORDER BY k.since DESC LIMIT 1) < w.until, 1)) >= :OFTEN, 0) AS is_real
+FROM full_wait w JOIN raw_thread t USING (utid) LEFT JOIN usual_wait u USING (server)
 WHERE w.server NOT IN (SELECT server FROM told_by_call)
 GROUP BY w.server;
 -- Named are the method that kept its loopers longest, and those that took their share, too.

@@ -26,7 +26,7 @@ def is_served(service, victim, waiting):
 
 @case("Q1:1", "code 10 at service 100 node 0x0", "3 calls waited up to 1.1 s (the median is 1 ms) for its 1 looper: ",
       "2 of victim 301, 1 of victim 300", "Q1 by service 100: 1", ": code 10 in thread 100")
-@case("Q2:1", "Q2 at 3160: code 10", victims=2, longer=100)
+@case("Q2:1", "Q2 at 3160: code 10", "2 calls waited up to 1.21 s", victims=2, longer=100)
 @case("Q2:1", "2 calls waited up to 1.1 s (the median is 1 ms)", "1 of victim 300, 1 of victim 301", victims=2)
 @case("", took=900)
 @case("", victims=1, free=True)
@@ -36,8 +36,8 @@ def is_served(service, victim, waiting):
 @case("Q2:1", "for its 1 looper", victims=1, free="only calls")
 @case("Q2:1", victims=1, took=1020, idle=180)
 @case("", victims=1, took=900, idle=300)
-@case("Q1:1", usual=100, took=1150)
-@case("Q2:1", usual=130, took=1150)
+@case("Q1:1", usual=110, took=1150)
+@case("Q2:1", usual=120, took=1150)
 @case("", victims=1, lost=True)
 @case("Q2:1", "for 1 looper: ", met="in-mid-life", victims=1)
 def calls_wait(s, victims=3, took=1100, longer=0, idle=0, usual=0, free=None, lost=False, met="from-start"):
@@ -85,6 +85,53 @@ def kept_by_two_methods(s, more, times=1):
     s.wait(1000)
     other.main.answered(service.main.replies(address))
     is_served(service, victim, waiting)
+
+
+@case("Q2:1", "3 calls waited up to 1.1 s", "3 of client 200")
+@case("Q2:1", "2 of client 200, 1 of victim 300", victims=(1,))
+@case("Q1:1", "3 of victim 300", victims=(0, 1, 2))
+@case("Q2:1", "3 of client 200, 2 of victim 300", times=5, victims=(0, 4))
+@case("Q1:1", "3 of client 200, 3 of victim 300", times=6, victims=(0, 1, 5))
+@case("Q1:1", "3 of victim 300, 1 of client 200", times=4, victims=(0, 1, 2), keeps=3)
+@case("Q1:1", "3 of victim 300, 1 of client 200", times=4, victims=(1, 2, 3), keeps=0)
+def waits_for_its_own(s, times=3, victims=(), keeps=None):
+    """A client calls the only looper of a service twice at once, several times, so that one of its calls waits for the
+    other one; or the victim's call waits; or the victim keeps the looper this time."""
+    service, client = s.two()
+    victim, second = s.process(300, "victim"), client.thread(1)
+    for _ in range(4):
+        client.main.asks(service.main)
+    for at in range(times):
+        keeper, caller = victim.main if at == keeps else client.main, victim.main if at in victims else second
+        address = service.main.gets(keeper.sends(0, 10))
+        waiting = caller.sends(0, 1)
+        s.wait(1100)
+        keeper.answered(service.main.replies(address))
+        caller.answered(service.main.replies(service.main.gets(waiting)))
+
+
+@case("Q1:2", "3 of other 300", "3 of client 200")
+def waits_elsewhere(s):
+    """A client keeps the only looper of a service, and waits for that of another one meanwhile, which others keep."""
+    service, client = s.two()
+    other, busy = s.process(300, "other"), s.process(400, "busy")
+    busy.main.writes(ENTER)
+    busy.main.gives(service.main, 9, node=0x9000)
+    for one in client, other:
+        one.main.is_given(service.main, 7, server_handle=9)
+        for _ in range(2):
+            one.main.asks(busy.main, 1, 7, 0x9000)
+    keepers = client.thread(1), other.thread(1)
+    for _ in range(3):
+        first = service.main.gets(keepers[0].sends(0, 11))
+        at_service = other.main.sends(0, 1)
+        second = busy.main.gets(keepers[1].sends(7, 10), 0x9000)
+        at_busy = client.main.sends(7, 1)
+        s.wait(1100)
+        keepers[1].answered(busy.main.replies(second))
+        client.main.answered(busy.main.replies(busy.main.gets(at_busy, 0x9000)))
+        keepers[0].answered(service.main.replies(first))
+        other.main.answered(service.main.replies(service.main.gets(at_service)))
 
 
 @case("Q2:2", "code 10 at service 101 node 0x9000", "code 10 at another 102 node 0x9000")
