@@ -2,10 +2,10 @@
 
 ROOM has the plan, and for each release of Android a folder of what was built, which names functions. Each folder in
 FOLDER is a recording, and is named after its line of the plan; each line of the plan must have one. A test that was
-also played unrecorded must have the same results each time; no frame may be lost but for those of LOST and MAY_BE_LOST;
-the report may not differ from the driver's books; the groups must be those that groups.txt expects; and with stacks the
-page must show the function that groups.txt names. It prints a line for each. If something is not so, a line on standard
-error says what, and the status is 1.
+also played unrecorded must have the same results each time, and may fail only as FAILS says; no frame may be lost but
+for those of LOST and MAY_BE_LOST; the report may not differ from the driver's books; the groups must be those that
+groups.txt expects; and with stacks the page must show the function that groups.txt names. It prints a line for each. If
+something is not so, a line on standard error says what, and the status is 1.
 """
 
 import fnmatch
@@ -37,9 +37,9 @@ LOST = {"driver": ["call-unreadable"]}
 # And what may be: the test forks, and while the kernel copies a page after that, the recorder can't read the page.
 MAY_BE_LOST = {"lib": "unreadable"}
 
-# A test that fails also without the recorder: SchedPolicySet and InheritRt want priorities that go from a caller to a
-# server, which only the driver in Android's own kernels passes on.
-FAILS = {"lib-14": "1"}
+# What fails also without the recorder: these tests want priorities that go from a caller to a server, which only the
+# driver in Android's own kernels passes on.
+FAILS = {"lib-14": {"FAILED BinderLibTest.InheritRt", "FAILED BinderLibTest.SchedPolicySet"}}
 
 
 class Due(NamedTuple):
@@ -201,6 +201,11 @@ def lost_of(folder: pathlib.Path) -> list[str]:
     return re.findall(r"^\d+ lost \d+ .*why=(\S+)", side, re.M) + re.findall(r"^\d+ missed \d+ what=(\S+)", side, re.M)
 
 
+def status_due(name: str) -> str:
+    """The status of a recording, by its name with the release."""
+    return "1" if name in FAILS else "0"
+
+
 def name_of(folder: pathlib.Path) -> str:
     return next((folder.name.removesuffix(way) for way in (*WAYS, RUST) if folder.name.endswith(way)), folder.name)
 
@@ -210,8 +215,11 @@ def faults_of(folder: pathlib.Path, told: list[str], room: pathlib.Path | None =
     name = name_of(folder)
     status, _, how, *_ = (folder / "status").read_text("utf-8").split()
     results, plain = results_of(folder), folder.parent / f"{name}-unrecorded"
-    if status != FAILS.get(name, "0"):
+    if status != status_due(name):
         yield f"status {status}"
+    failed = {result for result in results if result.startswith("FAIL")}
+    if results and (others := failed ^ FAILS.get(name, set())):
+        yield f"others fail than should: {', '.join(sorted(others))}"
     if plain.is_dir():
         told.append(f"{sum(result.startswith(('OK', 'PASS')) for result in results)} of {len(results)} passed")
         if results != results_of(plain):

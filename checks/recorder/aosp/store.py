@@ -8,7 +8,7 @@ import pathlib
 import sys
 import tarfile
 
-from checks.recorder.aosp.judge import FAILS
+from checks.recorder.aosp.judge import status_due
 
 # In bytes.
 LARGEST = 100_000
@@ -36,7 +36,7 @@ def main(source: str, to: str, ending: str = "", *names: str) -> None:
     for folder in sorted(path for path in pathlib.Path(source).iterdir() if (path / "capture.side").exists()):
         status, _, how, *_ = (folder / "status").read_text("utf-8").split()
         name = folder.name.removesuffix("-redacted")
-        if how != "--redact" or status != FAILS.get(name, "0") or names and name not in names:
+        if how != "--redact" or status != status_due(name) or names and name not in names:
             continue
         data = packed(folder, name + ending)
         if len(data) <= LARGEST:
