@@ -44,10 +44,15 @@ def row_of(*cells: object) -> str:
     return "| " + " | ".join(map(str, cells)) + " |"
 
 
+def title_of(recording: Recording) -> str:
+    driver = ", driver in Rust" if recording.series == "rust" else ""
+    return f"{recording.home.name}, {recording.kernel}{driver}"
+
+
 def table_of(columns: list[tuple[Recording, list[Judged]]]) -> list[str]:
     """The lines of the table, with a column for each recording."""
     rows = zip(*(figures(judged) for _, judged in columns))
-    return [row_of("", *(f"{recording.home.name}, {recording.kernel}" for recording, _ in columns)),
+    return [row_of("", *(title_of(recording) for recording, _ in columns)),
             row_of("---", *["---"] * len(columns)),
             *(row_of(row[0][0], *(value for _, value in row)) for row in rows)]
 
