@@ -56,15 +56,16 @@ def sessions_of(recording: Recording, fail: Fail) -> list[pathlib.Path]:
     return [path for path in recording.sessions if path.name in expected]
 
 
-def judge_all(recordings: list[Recording], room: pathlib.Path, keep: pathlib.Path, pool: ProcessPoolExecutor,
+def judge_all(recordings: list[Recording], room: pathlib.Path, keep: pathlib.Path | None, pool: ProcessPoolExecutor,
               fail: Fail) -> list[list[Judged]]:
-    """Judges the sessions of all recordings. Their databases are kept."""
+    """Judges the sessions of all recordings. Their databases are kept if there is a folder to keep them."""
     programs, viewing = built_programs(room, AUDITOR), []
+    view = functools.partial(viewed, programs=programs, kept=keep is not None)
     for recording in recordings:
-        to = keep / recording.name
+        to = (keep or room) / recording.name
         to.mkdir(parents=True, exist_ok=True)
         # All are under way before any of them is waited for.
-        viewing.append(pool.map(functools.partial(viewed, to=to, programs=programs), sessions_of(recording, fail)))
+        viewing.append(pool.map(functools.partial(view, to=to), sessions_of(recording, fail)))
     return [[Judged(session, expected[session.folder.name]) for session in sessions]
             for recording, sessions in zip(recordings, viewing)
             for expected in [expectations(recording.home / "expected.txt")]]
@@ -75,10 +76,9 @@ def judge_all(recordings: list[Recording], room: pathlib.Path, keep: pathlib.Pat
 
 def judge_kept(given: argparse.Namespace, room: pathlib.Path, pool: ProcessPoolExecutor, fail: Fail) -> None:
     """Judges those of samples/blind, and compares what came with what is stored, or renews that."""
-    keep = given.keep or room
     cases = given.cases if given.named else None
-    recordings = list(pool.map(functools.partial(unpack, room=keep, cases=cases), stored_archives()))
-    all_judged = judge_all(recordings, room, keep, pool, fail)
+    recordings = list(pool.map(functools.partial(unpack, room=given.keep or room, cases=cases), stored_archives()))
+    all_judged = judge_all(recordings, room, given.keep, pool, fail)
     for archive, recording, judged in zip(stored_archives(), recordings, all_judged):
         came, due = came_of(judged), stored_beside(archive)
         if given.print and not given.named:
@@ -104,7 +104,7 @@ def judge_kept(given: argparse.Namespace, room: pathlib.Path, pool: ProcessPoolE
 def judge_others(given: argparse.Namespace, room: pathlib.Path, pool: ProcessPoolExecutor, fail: Fail) -> None:
     """Judges new recordings, prints the table, and says what is not as expected."""
     recordings = [Recording(given.set, path.name.rpartition("-")[2], path) for path in given.recorded]
-    all_judged = judge_all(recordings, room, given.keep or room, pool, fail)
+    all_judged = judge_all(recordings, room, given.keep, pool, fail)
     print(*table_of(list(zip(recordings, all_judged))), sep="\n", flush=True)
     for recording, judged in zip(recordings, all_judged):
         for name in expectations(given.set / "expected.txt").keys() - {one.expected.name for one in judged}:

@@ -32,12 +32,14 @@ class Session(NamedTuple):
         return sum(map(int, ends + missed)) if ends else None
 
 
-def viewed(folder: pathlib.Path, to: pathlib.Path, programs: pathlib.Path) -> Session:
-    """Makes the database of a session in the folder `to`, as `./view` does, by the programs of another folder."""
+def viewed(folder: pathlib.Path, to: pathlib.Path, programs: pathlib.Path, kept: bool) -> Session:
+    """Makes the database of a session in the folder `to`, as `./view` does, by the programs of another folder. If it
+    is not kept, a part of it is in files beside it, as with `./view --groups`, which takes less time."""
     captures = sorted(folder.glob("capture-*.cap"), key=lambda path: int(path.stem.split("-")[1]))
     made, side = to / f"{folder.name}.db", str(folder / "capture.side")
     try:
-        malformed = loading.database_of(programs, list(map(str, captures)), side, made, lambda _: None)
+        malformed = loading.database_of(programs, list(map(str, captures)), side, made, lambda _: None,
+                                        kept=kept)
     except Stopped as stopped:
         return Session(folder, [], {}, [], str(stopped))
     if malformed:
