@@ -13,10 +13,12 @@ MEASURED = ROOT / "docs/MEASURED.md"
 # of how many.
 SESSIONS = re.compile(r"blind test of (\d+) sessions, (\d+) of them with a fault, the page \[found\s+(\d+)\]"
                       r".*?\s(no|\d+)\s+lines?\s+(?:was|were)\s+wrong", re.DOTALL)
-# The same of a kernel with other figures.
+# The same of a kernel with other figures, and of the driver in Rust.
 OTHER_SESSIONS = re.compile(r"Of\s+(\d+)\s+on\s+another\s+kernel,\s+(\d+)\s+of\s+them\s+with\s+a\s+fault,"
                             r"\s+it\s+found\s+(\d+)"
                             r".*?\s(no|\d+)\s+lines?\s+(?:was|were)\s+wrong", re.DOTALL)
+RUST_SESSIONS = re.compile(r"of\s+(\d+)\s+with\s+the\s+driver\s+in\s+Rust,\s+(\d+)\s+of\s+them\s+with\s+a\s+fault,"
+                           r"\s+(\d+);.*?\s(no|\d+)\s+lines?\s+(?:was|were)\s+wrong", re.DOTALL)
 WITNESS = re.compile(r"In (\d+) of (\d+) recordings on each of two kernels, a second recorder")
 
 # The rows of the table on the blind test, the last three of which count wrong lines.
@@ -47,7 +49,7 @@ def wrong(page: pathlib.Path) -> Iterator[tuple[int, str]]:
     """The sentences with other figures, each with its line."""
     if page == README:
         text, measured = page.read_text("utf-8"), MEASURED.read_text("utf-8")
-        for first, *others, due in ((SESSIONS, OTHER_SESSIONS, due_of_sessions(measured)),
+        for first, *others, due in ((SESSIONS, OTHER_SESSIONS, RUST_SESSIONS, due_of_sessions(measured)),
                                     (WITNESS, due_of_witness(measured))):
             found = first.search(text)
             all_found = filter(None, [found, *(other.search(text) for other in others)])
