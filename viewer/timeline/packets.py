@@ -57,8 +57,11 @@ COUNTER_TRACKS = (("binder buffers held", UNIT_COUNT), ("binder buffer bytes", U
 # The tracks above those of the processes.
 FINDINGS, OTHERS = "binder_audit: {}", "binder_audit: of no process"
 
-# The number of this sequence of packets: "BIND". Those of `traced` count from 1.
+# The number of this sequence of packets: "BIND". Those of `traced` count from 1. Processes and threads are told on one
+# of their own: the last thread of a sequence counts as that of its events, so Perfetto would make this thread and its
+# process at the first event, and once more when a system trace says that they begin.
 SEQUENCE_NUMBER = 0x42494E44
+DESCRIBING = SEQUENCE_NUMBER + 1
 
 # What comes before the time of an event, and before the event.
 EVENT_BEGIN = number(SEQUENCE, SEQUENCE_NUMBER) + number(FLAGS, NEEDS_STATE) + key(TIMESTAMP, VARINT)
@@ -139,8 +142,8 @@ class Packets:
 
     # -- packets
 
-    def packet(self, *parts: bytes) -> None:
-        self.parts.append(message(PACKET, *parts, number(SEQUENCE, SEQUENCE_NUMBER)))
+    def packet(self, *parts: bytes, sequence: int = SEQUENCE_NUMBER) -> None:
+        self.parts.append(message(PACKET, *parts, number(SEQUENCE, sequence)))
         self.takes_more = False
 
     def event(self, ns: int, body: bytes) -> None:
@@ -190,8 +193,9 @@ class Packets:
         Perfetto takes the one that has the number at the time of the packet, and without a time the one that it met
         last, which differs by the order of the files of a joined trace."""
         uuid = next(self.uuids)
-        time = [number(TIMESTAMP, self.seen[of])] if of in self.seen else []
-        self.packet(*time, message(TRACK_DESCRIPTOR, number(UUID, uuid), *parts))
+        time = [number(TIMESTAMP, self.seen[of]), number(CLOCK_ID, MONOTONIC)] if of in self.seen else []
+        self.packet(*time, message(TRACK_DESCRIPTOR, number(UUID, uuid), *parts),
+                    sequence=SEQUENCE_NUMBER if of is None else DESCRIBING)
         return uuid
 
     def process_track(self, upid: int) -> int:

@@ -367,7 +367,7 @@ UNION ALL SELECT 'system: times that a thread ran', count(*) FROM sched
 UNION ALL SELECT 'system: states of threads', count(*) FROM thread_state
 UNION ALL SELECT 'system: threads that ran', count(DISTINCT utid) FROM sched
 UNION ALL SELECT 'fault: ' || name, value FROM stats WHERE value > 0 AND severity IN ('error', 'data_loss')
-UNION ALL SELECT 'process: ' || pid, count(*) FROM process WHERE pid > 0 AND name NOTNULL GROUP BY 1
+UNION ALL SELECT 'process: ' || pid, count(*) FROM process WHERE pid > 0 GROUP BY 1
 UNION ALL SELECT 'transactions', count(*) FROM android_binder_txns
 UNION ALL SELECT 'states in transactions', count(*) FROM android_sync_binder_thread_state_by_txn"""
 CATEGORIES = "SELECT DISTINCT category FROM slice"

@@ -104,7 +104,10 @@ class ReadPackets(Read):
         return self.system[upid], thread if tid is None else tid
 
     def take(self, packet: Message) -> None:
-        compare("the sequence of a packet", packet[10], [0x42494E44], self.fail)
+        # Processes and threads are told on a sequence of their own, for which the clock is not told once for all.
+        describes = any(told[3] or told[4] for told in map(message, packet[60]))
+        compare("the sequence of a packet, and the clock", (packet[10], packet[58]),
+                ([0x42494E45], [3] * len(packet[8])) if describes else ([0x42494E44], []), self.fail)
         for data in packet[12]:
             for kind, value in fields(data):
                 one = message(value)
