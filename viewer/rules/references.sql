@@ -66,7 +66,7 @@
 --   where frames are missing: M2
 -- H14 real: {TOO_MANY} or more that came this way are kept and not used, and {MANY} that came later were let go of.
 --   next: what is different for those that are kept: what refers to each of them still
---   rests on: TOO_MANY, MANY, LATELY
+--   rests on: TOO_MANY, MANY, LATELY, NEARLY_ALL
 --   met by: `beside_a_collector()`: an app keeps one of four
 --   fault: references kept
 --   where frames are missing: M2
@@ -267,19 +267,22 @@ WHERE rule IN ('H5', 'H8') AND k.generation = finding.generation AND NOT k.in_us
   AND k.way IN (SELECT way FROM unused u
     WHERE u.sure >= :TOO_MANY AND u.sure > (1 - :MOST) * (SELECT count(*) FROM kept_handle a WHERE a.way = u.way));
 -- H14. What outlived others of its way. Where garbage is collected, what is held at the half does not tell what grows,
--- as there is garbage in it.
+-- as there is garbage in it. A cache that lets go of any entry has some old ones, too, but not most.
 CREATE TEMP TABLE outliving AS
 SELECT
   f.id,
   k.way,
   count(*) OVER one AS n,
-  sum(o.came_left < :LATELY) OVER one AS lately
+  sum(o.came_left < :LATELY) OVER one AS lately,
+  a.n AS n_kept
 FROM outlived u JOIN of_way o ON o.way = u.way AND o.came < u.came JOIN kept_handle k USING (generation)
+  JOIN (SELECT way, count(*) AS n FROM kept_handle GROUP BY way) a ON a.way = k.way
   JOIN finding f USING (generation)
 WHERE NOT k.in_use AND f.section = 'handles'
   AND (f.rule IN ('H5', 'H8', 'H9') OR f.rule IS NULL AND f.upid IN (SELECT upid FROM collector))
 WINDOW one AS (PARTITION BY k.way);
-UPDATE finding SET rule = 'H14' FROM outliving o WHERE o.id = finding.id AND o.n >= :TOO_MANY AND o.lately >= :MANY;
+UPDATE finding SET rule = 'H14' FROM outliving o
+WHERE o.id = finding.id AND o.n >= :TOO_MANY AND o.lately >= :MANY AND o.n > (1 - :NEARLY_ALL) * o.n_kept;
 -- What is no leak yet, as it may be garbage.
 CREATE TEMP TABLE not_collected AS
 SELECT

@@ -70,6 +70,7 @@ def garbage_waits(s, command, name="client", then=None, gains=(3, 3, 3, 3), coll
       "real references kept: 12 of 28 given by replies to code 5 of server 300 node 0x9000 H14")
 @case("H14:10", keeps=(3, 3, 2, 2))
 @case("H9:9", keeps=(3, 2, 2, 2))
+@case("H5:4 H9:9", keeps=(3, 2, 2, 2), besides=4)
 @case("H9:12", last=3)
 @case("H9:3 H14:12", keeps=(3, 3, 6, 3), last=3)
 @case("H9:12", uses=True)
@@ -83,12 +84,17 @@ def garbage_waits(s, command, name="client", then=None, gains=(3, 3, 3, 3), coll
 @case("H14:12", "(16 others were let go of, each within 3 ms)", keeps=(5, 3, 4, 0), at_once=True)
 @case("H8:12", keeps=(5, 4, 3, 0), at_once=True)
 @case("M2:12", lost=True)
-def beside_a_collector(s, keeps=(3, 3, 3, 3), others=4, last=4, uses=False, collects=True, at_once=False, lost=False,
-                       command="/system/bin/client"):
+@case("H5:39 H14:10", keeps=(5, 0, 5, 39), last=0, uses_last=True)
+@case("H5:51", keeps=(5, 0, 5, 41), last=0, uses_last=True)
+def beside_a_collector(s, keeps=(3, 3, 3, 3), others=4, last=4, uses=False, uses_last=False, collects=True,
+                       at_once=False, lost=False, besides=0, command="/system/bin/client"):
     """In each part of its time a client gets handles that it keeps, and then others, of which it lets go at the end of
-    the part, or only in the end, or at once."""
+    the part, or only in the end, or at once. It uses what it keeps, or only what came in the last part, or nothing.
+    `besides`: it keeps so many that came another way."""
     manager, client, server = with_server(s)
     client.is_called(command)
+    for handle in range(90, 90 + besides):
+        client.main.is_given(server.main, handle, 6, **SERVER)
     if lost:
         s.loses(client)
     quarters, held, garbage, at = Quarters(s, client, manager), [], [], 20
@@ -109,7 +115,7 @@ def beside_a_collector(s, keeps=(3, 3, 3, 3), others=4, last=4, uses=False, coll
         if collects or part == 3:
             client.main.writes(*each(BC_RELEASE, *garbage))
             garbage = []
-        for handle in held if uses else ():
+        for handle in held if uses else held[-kept:] if uses_last and part == 3 else ():
             client.main.asks(server.main, 8, handle, 0x100 * handle)
     quarters.lasts(4)
     client.main.asks(manager.main)
