@@ -75,7 +75,7 @@ WHERE upid NOT IN (SELECT upid FROM book_call WHERE moment = 'begin' AND side = 
     "deaths": """
 SELECT upid, 'deaths not acknowledged', max(report), max(books) FROM (
   SELECT upid, 1 AS report, 0 AS books FROM finding WHERE section = 'deaths' AND what = 'unacknowledged'
-    AND rule IS NOT 'D9'
+    AND coalesce(rule NOT IN ('D9', 'D11'), 1)
   UNION ALL SELECT upid, 0, deaths FROM compared)
 WHERE upid NOT IN (SELECT upid FROM book_opening WHERE moment = 'begin' AND deaths) GROUP BY upid""",
     # A request that waits for a death. The driver keeps it after it has told of the death, until nothing holds the

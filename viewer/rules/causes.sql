@@ -8,7 +8,7 @@
 CREATE TEMP TABLE of_death AS
 WITH death AS (SELECT id, upid, cookie, place, iif(rule = 'D8', 2, 4) AS rank,
     coalesce('process ' || target, 'object ' || generation, 'cookie ' || cookie) AS dead FROM finding
-  WHERE section = 'deaths' AND what = 'unacknowledged' AND rule NOT IN ('L1', 'D9'))
+  WHERE section = 'deaths' AND what = 'unacknowledged' AND rule NOT IN ('L1', 'D9', 'D11'))
 SELECT id, upid, coalesce('process ' || target, 'object ' || generation) AS dead,
   CASE rule WHEN 'E1' THEN 0 WHEN 'E13' THEN 1 ELSE 3 END AS rank, place
 FROM finding WHERE rule IN ('E1', 'E13', 'H3')

@@ -1,6 +1,7 @@
--- D3, D4, D6, D8, D9, T, U: deaths and clears.
+-- D3, D4, D6, D8 to D11, T, U: deaths and clears.
 -- needs: database/schema.sql: book_handle, book_opening, finding, raw_generation; database/views.sql: process;
---   records.sql: dead_record; paths.sql: given; ages.sql: begun, ended, leaving, old, process_life; rule.sql: lossy
+--   nodes.sql: manager; records.sql: dead_record; paths.sql: given; ages.sql: begun, ended, leaving, old, process_life;
+--   rule.sql: lossy
 -- after: requests.sql
 -- makes: temporary tables: dropped_death, other_cookie, balance, begun_death; indexes: balance_at
 
@@ -32,12 +33,16 @@
 --   met by: `clear_with_another_cookie()`: a request with cookie 0xd, and a clear with 0xe
 --   fault: clears with another cookie
 --   where frames are missing: M1
+-- D11 maybe: {OFTEN} or more of its process are not acknowledged; it let go of each handle after it was told.
+--   next: the thread that reads deaths: it has to acknowledge each
+--   rests on: OFTEN
+--   met by: `deaths_not_acknowledged()`: a service lets go of the handles of three dead, and acknowledges no death
 
 -- ---- what they say of which finding
 
--- The servicemanager of Android up to 10 does so with every service that ends. A death whose request was cleared is no
--- more that of the handle: it waits for its acknowledgement. Of a process that was met in mid-life, the driver's books
--- say what it held before. If it asked for the death before too, no handle is known; then the books of the end say
+-- A death whose request was cleared is no
+-- more that of the handle: it waits for its acknowledgement. A clear after a later request with this cookie is of that
+-- one. Of a process that was met in mid-life, the driver's books say what it held before. If it asked for the death before too, no handle is known; then the books of the end say
 -- whether a death waits for its acknowledgement.
 CREATE TEMP TABLE dropped_death AS
 SELECT f.id FROM finding f JOIN process p USING (upid) JOIN raw_generation o ON o.id = f.generation
@@ -51,7 +56,9 @@ WHERE f.section = 'deaths' AND f.what = 'unacknowledged' AND (p.met = 'from-star
   AND NOT EXISTS (SELECT 1 FROM dead_record c WHERE (c.upid, c.cookie) = (f.upid, f.cookie)
     AND c.kind = :BC_CLEAR_DEATH_NOTIFICATION AND c.place > coalesce((SELECT max(q.place) FROM dead_record q
       WHERE (q.upid, q.cookie) = (f.upid, f.cookie) AND q.kind = :BC_REQUEST_DEATH_NOTIFICATION AND q.place < f.place),
-      -1))
+      -1)
+    AND NOT EXISTS (SELECT 1 FROM dead_record q WHERE (q.upid, q.cookie) = (f.upid, f.cookie)
+      AND q.kind = :BC_REQUEST_DEATH_NOTIFICATION AND q.place > f.place AND q.place < c.place))
 UNION ALL SELECT f.id FROM finding f JOIN process p USING (upid) JOIN book_opening e USING (upid)
 WHERE f.section = 'deaths' AND f.what = 'unacknowledged' AND f.generation IS NULL AND p.met = 'in-mid-life'
   AND e.moment = 'end' AND e.quiet AND NOT e.deaths
@@ -95,6 +102,11 @@ FROM (SELECT f.upid FROM finding f WHERE f.rule = 'U4' AND f.section = 'deaths' 
 WHERE rule = 'U4' AND section = 'deaths' AND p.upid = finding.upid;
 UPDATE finding SET said = '{way}', way = g.way FROM given g
 WHERE rule = 'D8' AND g.generation = finding.generation AND g.way NOTNULL;
+-- The same of deaths that the driver dropped. Of the context manager it is explained: the servicemanager of Android up
+-- to 10 acknowledges none.
+UPDATE finding SET rule = 'D11'
+WHERE rule = 'D9' AND upid NOT IN (SELECT upid FROM manager)
+  AND upid IN (SELECT upid FROM finding WHERE rule = 'D9' GROUP BY 1 HAVING count(*) >= :OFTEN);
 -- Answers to deaths and clears. Several of one cookie may be under way at once, so those of a cookie are counted: an
 -- answer is one too many if it makes more answers than questions, and more than any answer before it.
 CREATE TEMP TABLE balance AS

@@ -1,8 +1,8 @@
 """More sessions as in cases.py: what comes of the death of a process, and what tells of one death in one group."""
 
 from checks.kit.captures import (BC_ACQUIRE, BC_CLEAR_DEATH_NOTIFICATION, BC_DEAD_BINDER_DONE, BC_RELEASE,
-                                 BC_REQUEST_DEATH_NOTIFICATION, BR_DEAD_BINDER, BR_DEAD_REPLY, ENTER, each, each_long,
-                                 of_handle, offsets, record, watch)
+                                 BC_REQUEST_DEATH_NOTIFICATION, BR_CLEAR_DEATH_NOTIFICATION_DONE, BR_DEAD_BINDER,
+                                 BR_DEAD_REPLY, ENTER, each, each_long, of_handle, offsets, record, watch)
 from checks.viewer.sessions.cases import case, with_server
 from checks.viewer.sessions.kept_cases import calls_back
 from checks.viewer.sessions.session import ONE_WAY, node_object
@@ -30,21 +30,27 @@ def callbacks_of_the_dead(s, dead, alive, done=9):
 
 @case("D8:3 H3:3", "real deaths not acknowledged: 3 of - handles, short-lived D8 (given by calls of code 4; with 3"
       " references to the dead)", "groups that are maybe: 0", "D8 by server 300: 3")
-@case("D9:3", "groups that are real: 0", "groups that are maybe: 0", lets_go=True)
+@case("D11:3", "groups that are real: 0", "groups that are maybe: 1", "D11 by server 300: 3", lets_go=True)
+@case("D9:2", "groups that are maybe: 0", dead=2, lets_go=True)
+@case("D11:3", dead=5, done=2, lets_go=True)
+@case("D9:2", dead=5, done=3, lets_go=True)
+@case("D9:3", "groups that are maybe: 0", lets_go=True, of_manager=True)
 @case("H3:2 U4:2", dead=2, wait=1100)
 @case("D8:4 H3:5", dead=5, done=1)
 @case("H3:5 U4:3", dead=5, done=2)
 @case("H3:4 U4:3 U5:1", last=1)
 @case("D8:4 H3:5 U5:1", dead=4, last=1)
 @case("H3:3 M1:3", lost=True)
-def deaths_not_acknowledged(s, dead=3, done=0, lets_go=False, last=0, wait=200, lost=False):
-    """A server keeps, or lets go of, an object of each of some clients that end, and acknowledges the first deaths.
-    `last`: so many more deaths come last, and its thread does nothing more."""
+def deaths_not_acknowledged(s, dead=3, done=0, lets_go=False, last=0, wait=200, lost=False, of_manager=False):
+    """A server, or the manager, keeps or lets go of an object of each of some clients that end, and acknowledges the
+    first deaths. `last`: so many more deaths come last, and its thread does nothing more."""
     manager, _, server = with_server(s)
+    if of_manager:
+        server = manager
     others = [s.process(400 + at, "short-lived") for at in range(dead + last)]
     for handle, other in enumerate(others, 20):
         other.main.is_given(manager.main, 1, server_handle=3)
-        calls_back(other.main, server.main, handle)
+        calls_back(other.main, server.main, handle, **({"via": 0, "ptr": 0} if of_manager else {}))
         server.main.writes(watch(BC_REQUEST_DEATH_NOTIFICATION, handle, handle))
     if lost:
         s.loses(server)
@@ -133,6 +139,44 @@ def death(s, done=False, clears=False, calls=0, before=0, lets_go=False, objects
     if late:
         s.stops()
         client.main.reads(*each_long(BR_DEAD_BINDER, 0xD0 + last))
+
+
+@case("D9:1", when="before the clear")
+@case("D3:1 U4:1", when="before the clear", whose="other")
+@case("D3:1 U4:1", when="before the clear", cookie=0xD2)
+@case("D3:1 U4:1", when="after the clear")
+@case("D3:1 U4:1", when="before the death")
+@case("D3:1 U4:2", when="before the death", both=True)
+def cookie_is_used_again(s, when, whose="client", cookie=0xD1, both=False):
+    """A client is told of a death, which it does not acknowledge, and lets go of the handle. It, or another client,
+    also asks for the death of another object, with the same cookie or another one. The first cookie is cleared. `both`:
+    the other object dies too."""
+    service, client = s.two()
+    other, short, lasting = s.process(300, "other"), s.process(400, "short-lived"), s.process(500, "lasting")
+    for handle, process in enumerate((short, lasting), 1):
+        process.main.gives(service.main, 20 + handle)
+        for one in client, other:
+            one.main.is_given(service.main, handle, 40 + handle, server_handle=20 + handle)
+
+    def asks_again(now):
+        if now == when:
+            (client if whose == "client" else other).main.writes(watch(BC_REQUEST_DEATH_NOTIFICATION, 2, cookie))
+
+    asks_again("before the death")
+    client.main.writes(watch(BC_REQUEST_DEATH_NOTIFICATION, 1, 0xD1))
+    for process in (short, lasting) if both else (short,):
+        process.ends()
+        client.main.reads(*each_long(BR_DEAD_BINDER, 0xD1))
+    asks_again("before the clear")
+    if (when, whose, cookie) == ("before the clear", "client", 0xD1):
+        client.main.writes(watch(BC_CLEAR_DEATH_NOTIFICATION, 2, 0xD1))
+        client.main.reads(*each_long(BR_CLEAR_DEATH_NOTIFICATION_DONE, 0xD1))
+    else:
+        client.main.writes(watch(BC_CLEAR_DEATH_NOTIFICATION, 1, 0xD1))
+    asks_again("after the clear")
+    client.main.writes(*each(BC_RELEASE, 1))
+    s.wait(1100)
+    client.main.writes(ENTER)
 
 
 # ---- what is held of the ended, of whose death nobody asked to be told
