@@ -20,7 +20,8 @@ What must hold:
   itself if no other crate uses it.
 - The wrong bodies in a crate's page are those stored for it, each of which names the goal at which it is refused.
 - docs/PROMISES.md names each wrong body of each crate and no others, in its tables only names that are in the sources,
-  and the sizes of what is trusted, up to a tenth. README.md has the number of wrong bodies.
+  the libraries of the toolchain that the auditor stands on, and the sizes of what is trusted, up to a tenth. README.md
+  has the number of wrong bodies.
 - README.md has the figures that docs/MEASURED.md has on the blind test and on the second recorder.
 - docs/DEFINITIONS.md is the page that checks/run definitions makes.
 - What stands in several sources, as the most bytes of a capture, has one value in all of them (owners.py).

@@ -5,7 +5,7 @@ import functools
 import pathlib
 import re
 import subprocess
-from typing import Callable, Iterator
+from typing import Callable, Iterable, Iterator
 
 from checks.kit.programs import ROOT, edits_of
 
@@ -15,6 +15,10 @@ CRATES = ROOT / "crates"
 NAMED = re.compile(r"`([^`]+)`")
 # What is called on this page and is no name of the sources: a lifetime.
 OTHER = re.compile(r"'\w+")
+# How the rows on libraries of the toolchain begin, with the folders of theirs that are counted.
+LIBRARIES = {"toolchain's standard library": ("src", "specs", "proofs"), "toolchain's crates ": ("src", "specs")}
+# A line by which a file of code, or a clause in it, uses a library.
+USED = re.compile(r"^\s*(?:(?:pub(?:\([a-z]+\))? )?use |ghost use Rattle\.)(\w+)\b", re.MULTILINE)
 
 
 def rows(text: str) -> Iterator[tuple[int, list[str]]]:
@@ -81,10 +85,20 @@ def lines_of(folders: Iterator[pathlib.Path]) -> int:
                if file.suffix in (".rt", ".antt"))
 
 
+def bytes_of(files: Iterable[pathlib.Path]) -> int:
+    """The bytes of these files."""
+    return sum(file.stat().st_size for file in files)
+
+
+def made_of() -> dict[str, list[str]]:
+    """By crates.txt, the libraries that each crate stands on."""
+    lines = (ROOT / "crates.txt").read_text("utf-8").splitlines()
+    return {name: uses.split() for name, _, uses in (line.partition(":") for line in lines if not line.startswith("#"))}
+
+
 def below(crate: str) -> set[str]:
     """A crate, and all crates of the repository that it is made of."""
-    lines = (ROOT / "crates.txt").read_text("utf-8").splitlines()
-    used = {name: uses.split() for name, _, uses in (line.partition(":") for line in lines if not line.startswith("#"))}
+    used = made_of()
     found = {crate}
     while more := {it for name in found for it in used[name] if it in used} - found:
         found |= more
@@ -107,13 +121,34 @@ def sizes(text: str) -> Iterator[tuple[str, int]]:
         yield f"{what} of `./audit`", lines_of(CRATES / name / folder for name in auditor)
     yield "definitions of the headline", len((ROOT / "docs/DEFINITIONS.md").read_text("utf-8").splitlines())
     if kit := toolchain():
-        yield "toolchain's prover", (kit / "bin/rattle").stat().st_size
-        yield "toolchain's compilers", sum((kit / f"toolchain/bin/{name}").stat().st_size
-                                           for name in ("clang", "rattle-x64"))
-        yield "toolchain's standard library", lines_of([kit / "rattle/std"])
-        libraries = next(cells[0] for _, cells in rows(text) if cells[0].startswith("toolchain's crates "))
-        yield libraries, lines_of(kit / "rattle" / name / folder for name in NAMED.findall(libraries)
-                                  for folder in ("src", "specs"))
+        yield "toolchain's prover", bytes_of([kit / "bin/rattle"])
+        yield "toolchain's compilers", bytes_of(kit / f"toolchain/bin/{name}" for name in ("clang", "rattle-x64"))
+        yield "toolchain's logic, in `logic_built`", bytes_of((kit / "logic_built").iterdir())
+        yield "toolchain's C code, `libos_c.a` and `liblibc_c.a`", bytes_of((kit / "c").glob("lib*.a"))
+        for begin, folders in LIBRARIES.items():
+            named = libraries(text, begin)
+            yield named, lines_of(kit / "rattle" / name / folder for name in NAMED.findall(named) for folder in folders)
+
+
+def libraries(text: str, begin: str) -> str:
+    """The first cell of the row on these libraries of the toolchain, which names them."""
+    return next((cells[0] for _, cells in rows(text) if cells[0].startswith(begin)), begin)
+
+
+def uses_of(folder: pathlib.Path) -> set[str]:
+    """The libraries of the toolchain that one of them uses, in code or in clauses."""
+    return {name for file in (folder / "src").rglob("*.rt") for name in USED.findall(file.read_text("utf-8"))
+            if (folder.parent / name / "src").is_dir()}
+
+
+def unnamed_libraries(text: str) -> Iterator[tuple[int, str]]:
+    """The libraries of the toolchain that the auditor, or one that it uses, uses, and that no row names."""
+    if kit := toolchain():
+        named = {name for begin in LIBRARIES for name in NAMED.findall(libraries(text, begin))}
+        auditor, used = below("binder_audit"), made_of()
+        due = {it for name in auditor for it in used[name]} - auditor
+        for name in sorted(due.union(*(uses_of(kit / "rattle" / it) for it in named)) - named):
+            yield 1, f"no row names the toolchain's {name}"
 
 
 def wrong_sizes(text: str) -> Iterator[tuple[int, str]]:
@@ -145,7 +180,7 @@ def wrong(page: pathlib.Path) -> Iterator[tuple[int, str]]:
         yield from wrong_count(text, "wrong bodies", r"(\d+) wrong changes of the code", len(stored()))
     if page == PAGE:
         checks: tuple[Callable[[str], Iterator[tuple[int, str]]], ...] = (
-            wrong_bodies, wrong_names, wrong_sizes, wrong_counts)
+            wrong_bodies, wrong_names, unnamed_libraries, wrong_sizes, wrong_counts)
         for one in checks:
             yield from one(text)
         for file in may_wait():
