@@ -3,7 +3,6 @@
 import contextlib
 import os
 import pathlib
-import shlex
 import stat
 from typing import Callable, Iterator, NamedTuple
 
@@ -31,6 +30,7 @@ def word_of(name: str) -> str:
     seen."""
     name = f"./{name}" if name.startswith("-") else name
     if name.isprintable():
+        import shlex
         return shlex.quote(name)
     return "$'" + "".join(chr(one) if 32 <= one < 127 and chr(one) not in "\\'" else f"\\x{one:02x}"
                           for one in os.fsencode(name)) + "'"

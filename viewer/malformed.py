@@ -5,7 +5,7 @@ import re
 from typing import NamedTuple
 
 # The auditor's line.
-LINE = re.compile(r"malformed (\w+) at (\d+)(?: in part (\d+))?")
+LINE = r"malformed (\w+) at (\d+)(?: in part (\d+))?"
 
 # What is wrong with a file that has a fault of this kind.
 MEANINGS = {
@@ -41,7 +41,7 @@ class Fault(NamedTuple):
 
 def fault_of(line: str, files: list[str]) -> Fault:
     """The fault that a line of the auditor names in a capture of these files."""
-    found = LINE.fullmatch(line)
+    found = re.fullmatch(LINE, line)
     assert found, line
     kind, place, part = found[1], int(found[2]), int(found[3] or 1)
     shows_some = part > 1 or not kind.startswith("Header")

@@ -14,7 +14,7 @@ LIBRARY = FOLDER.parents[2] / "lib/binder-audit"
 PROGRAMS = {**{name: f"./{name}" for name in ("audit", "listing", "record", "view", "fleet")},
             "methods": "viewer/methods/table.py"}
 NAMES = {command: name for name, command in PROGRAMS.items()}
-CALL = re.compile("|".join(rf"{re.escape(command)}\b" for command in NAMES))
+CALL = "|".join(rf"{re.escape(command)}\b" for command in NAMES)
 
 
 def called(program: str) -> str:
@@ -29,12 +29,12 @@ def called_anywhere(program: str) -> str:
 
 def as_called(text: str) -> str:
     """A text in which the programs are called as here."""
-    return CALL.sub(lambda found: called(NAMES[found[0]]), text)
+    return as_packed(text) if PACKED else text
 
 
 def as_packed(text: str) -> str:
     """A text in which the programs are called as in a package."""
-    return CALL.sub(lambda found: f"binder-{NAMES[found[0]]}", text)
+    return re.sub(CALL, lambda found: f"binder-{NAMES[found[0]]}", text)
 
 
 def commit() -> str | None:

@@ -5,13 +5,14 @@ import contextlib
 import fcntl
 import os
 import pathlib
-import shutil
 import signal
-import tempfile
 from typing import Iterator
 
 # The file in each folder that is locked. A folder without it is none of ours.
 OWNER = ".scratch-of-binder-audit"
+
+# Where a folder is made if nothing else is said, as Python's module tempfile has it, which takes longer to load.
+SETTINGS, PLACES = ("TMPDIR", "TEMP", "TMP"), ("/tmp", "/var/tmp", "/usr/tmp", ".")
 
 
 @contextlib.contextmanager
@@ -25,9 +26,11 @@ def sigterm_held() -> Iterator[None]:
 
 
 def lock_of(folder: pathlib.Path) -> int:
-    """Locks a new folder. The file has its name only when it is locked, so that nobody else locks it first."""
+    """Locks a new folder. The file has its name only when it is locked, so that nobody else locks it first. The byte in
+    it shows that there is room for files."""
     lock = os.open(folder / f"{OWNER}.new", os.O_RDWR | os.O_CREAT | os.O_EXCL, 0o600)
     fcntl.flock(lock, fcntl.LOCK_EX)
+    os.write(lock, b"\n")
     os.rename(folder / f"{OWNER}.new", folder / OWNER)
     return lock
 
@@ -44,29 +47,59 @@ def is_left(folder: pathlib.Path) -> bool:
         os.close(lock)
 
 
+def remove(folder: pathlib.Path) -> None:
+    """Removes a folder, and what it has."""
+    with os.scandir(folder) as entries:
+        for entry in entries:
+            if entry.is_dir(follow_symlinks=False):
+                remove(folder / entry.name)
+            else:
+                os.unlink(entry)
+    os.rmdir(folder)
+
+
 def remove_left(prefix: str, beside: str) -> None:
     """Removes the folders that programs of this user left, which were killed."""
     for folder in pathlib.Path(beside).glob(f"{prefix}-*"):
         with contextlib.suppress(OSError):
             if folder.stat(follow_symlinks=False).st_uid == os.getuid() and is_left(folder):
-                shutil.rmtree(folder, ignore_errors=True)
+                remove(folder)
+
+
+def made_in(beside: str, prefix: str) -> tuple[pathlib.Path, int]:
+    """A new folder, and the lock of it."""
+    remove_left(prefix, beside)
+    folder = pathlib.Path(beside, f"{prefix}-{os.urandom(8).hex()}")
+    folder.mkdir(mode=0o700)
+    try:
+        return folder, lock_of(folder)
+    except OSError:
+        with contextlib.suppress(OSError):
+            remove(folder)
+        raise
+
+
+def made(beside: str | None, prefix: str) -> tuple[pathlib.Path, int]:
+    """A new folder, and the lock of it; if no place is named, where the first one can be made."""
+    places = [os.environ[name] for name in SETTINGS if os.environ.get(name)] + list(PLACES)
+    for place in places if beside is None else (beside,):
+        try:
+            return made_in(place, prefix)
+        except OSError as error:  # it names the folder that could not be made, which nobody knows
+            why = OSError(error.errno, error.strerror, beside or places[0])
+    raise why
 
 
 @contextlib.contextmanager
 def folder_in(beside: str | None, prefix: str = "view") -> Iterator[pathlib.Path]:
-    """A folder that is removed at the end. A SIGTERM while it is made or removed would leave it, or the file by which
-    Python tries whether files can be made there. Between these two, it is removed when Python ends."""
-    with sigterm_held():
-        beside = beside or tempfile.gettempdir()
-        remove_left(prefix, beside)
-        try:
-            made = tempfile.TemporaryDirectory(prefix=f"{prefix}-", dir=beside)
-            lock = lock_of(pathlib.Path(made.name))
-        except OSError as error:  # it names the folder that could not be made, which nobody knows
-            raise OSError(error.errno, error.strerror, beside) from error
+    """A folder that is removed at the end. A SIGTERM waits while it is made or removed, which else would leave it."""
+    folder = None
     try:
-        yield pathlib.Path(made.name)
-    finally:
         with sigterm_held():
-            made.cleanup()
-            os.close(lock)
+            folder, lock = made(beside, prefix)
+        yield folder
+    finally:
+        if folder is not None:
+            with sigterm_held():
+                remove(folder)
+                os.close(lock)

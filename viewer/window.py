@@ -14,9 +14,9 @@ from viewer.files import Stopped
 AROUND, FRAMES_AROUND = SECOND, 100
 
 UNITS = {"ms": SECOND // 1000, "s": SECOND, "m": 60 * SECOND, "h": 3600 * SECOND}
-LENGTH = re.compile(r"(\d{1,9})(?:\.(\d{1,9}))?(ms|s|m|h)", re.ASCII)
-SINCE = re.compile(r"\+(\d{1,9})(?:\.(\d{1,9}))? ?s?", re.ASCII)
-OF_DAY = re.compile(r"(?:(?:(\d{4})-)?(\d\d)-(\d\d)[ T])?(\d\d):(\d\d)(?::(\d\d)(?:\.(\d{1,9}))?)?", re.ASCII)
+LENGTH = r"(\d{1,9})(?:\.(\d{1,9}))?(ms|s|m|h)"
+SINCE = r"\+(\d{1,9})(?:\.(\d{1,9}))? ?s?"
+OF_DAY = r"(?:(?:(\d{4})-)?(\d\d)-(\d\d)[ T])?(\d\d):(\d\d)(?::(\d\d)(?:\.(\d{1,9}))?)?"
 
 
 def fraction(digits: str | None, unit: int) -> int:
@@ -25,7 +25,7 @@ def fraction(digits: str | None, unit: int) -> int:
 
 def length(word: str) -> int:
     """A length of time in nanoseconds: `5s`, `500ms`, `1.5m`."""
-    found = LENGTH.fullmatch(word)
+    found = re.fullmatch(LENGTH, word, re.ASCII)
     if not found:
         raise argparse.ArgumentTypeError(f"{word!r} is no length of time, as 5s, 500ms or 2m")
     unit = UNITS[found[3]]
@@ -55,9 +55,9 @@ class OfDay(NamedTuple):
 
 def moment(word: str) -> Since | OfDay:
     """`14:03:22.117`, the same with a day in front, as logcat has it, or `+2.288` seconds since the first frame."""
-    if found := SINCE.fullmatch(word):
+    if found := re.fullmatch(SINCE, word, re.ASCII):
         return Since(int(found[1]) * SECOND + fraction(found[2], SECOND))
-    if found := OF_DAY.fullmatch(word):
+    if found := re.fullmatch(OF_DAY, word, re.ASCII):
         year, month, day = (int(it) if it else None for it in found.groups()[:3])
         with contextlib.suppress(ValueError):
             time = datetime.time(int(found[4]), int(found[5]), int(found[6] or 0))

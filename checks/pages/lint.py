@@ -26,7 +26,7 @@ from checks.pages.clean import KEPT, READS, Clean
 from checks.pages.sources import paths
 
 # By the suffix, and without one by the first line.
-PYTHON = re.compile(r"#!.*\bpython3?$")
+PYTHON = re.compile(r"#!.*\bpython3?( -S)?$")
 SHELL = re.compile(r"#!.*\b(?:bash|sh)$")
 
 TOOLS = ("flake8", "mypy", "shellcheck")

@@ -7,27 +7,28 @@ import re
 from collections import Counter
 from typing import Iterator, NamedTuple, TypeVar
 
-TRANSACTION = re.compile(
+# Each form of a line is compiled by `re` when it is needed first: a recording may have none.
+TRANSACTION = (
     r"(outgoing|incoming|bad|pending|pending async) transaction (\d+): \S+ from (-?\d+):(-?\d+) to (-?\d+):(-?\d+)"
     r"(?: context \S+)? code ([0-9a-f]+) flags ([0-9a-f]+)(?: .*?\b(a\d+ )?r(\d+))?(?:.* node (\d+) )?")
-NODE = re.compile(r"node (\d+): u([0-9a-f]+) c([0-9a-f]+) (?:pri \d+:\d+ )?hs (\d+) hw (\d+) ls (-?\d+) lw (-?\d+)")
-REF = re.compile(r"ref \d+: desc (\d+) (dead )?node (\d+) s (-?\d+) w (-?\d+) d ([0-9a-f]+|\(____ptrval____\))")
-BUFFER = re.compile(r"buffer (\d+): ([0-9a-f]+) size (\d+):(\d+):(\d+) (active|delivered)")
+NODE = r"node (\d+): u([0-9a-f]+) c([0-9a-f]+) (?:pri \d+:\d+ )?hs (\d+) hw (\d+) ls (-?\d+) lw (-?\d+)"
+REF = r"ref \d+: desc (\d+) (dead )?node (\d+) s (-?\d+) w (-?\d+) d ([0-9a-f]+|\(____ptrval____\))"
+BUFFER = r"buffer (\d+): ([0-9a-f]+) size (\d+):(\d+):(\d+) (active|delivered)"
 TF_ONE_WAY = 1
 
 # Lines of the driver in Rust. It ends no line of a handle: the next one, or what comes after the handles, is on the
 # same line. A buffer has no number, but its place in the mapping, in decimal digits, and its data, offsets and the rest
 # together. It is reserved until its receiver has read of it.
-RUST_TRANSACTION = re.compile(
+RUST_TRANSACTION = (
     r"(outgoing|incoming|bad|pending|pending async) transaction (\d+): from (-?\d+):(-?\d+) to (-?\d+)"
     r" code ([0-9a-f]+) flags ([0-9a-f]+) elapsed \d+ms(?: node (\d+))? size")
-RUST_NODE = re.compile(r"node (\d+): u([0-9a-f]+) c([0-9a-f]+) hs (true|false) hw (true|false) cs \d+ cw \d+")
-RUST_REF = re.compile(r"ref \d+: desc (\d+) (dead )?node (\d+) s (-?\d+) w (-?\d+)(?!\d| d )")
-NEXT_RUST_REF = re.compile(rf"\s*{RUST_REF.pattern}")
-RUST_BUFFER = re.compile(
+RUST_NODE = r"node (\d+): u([0-9a-f]+) c([0-9a-f]+) hs (true|false) hw (true|false) cs \d+ cw \d+"
+RUST_REF = r"ref \d+: desc (\d+) (dead )?node (\d+) s (-?\d+) w (-?\d+)(?!\d| d )"
+NEXT_RUST_REF = rf"\s*{RUST_REF}"
+RUST_BUFFER = (
     r"buffer(?: \d+)?: (\d+) size (\d+) pid -?\d+(?: oneway(?: true| false)?)? (reserved|allocated)")
-RUST_LINE = re.compile("|".join((r"thread \d+: l \w+ need_return (?:true|false)$", *(
-    one.pattern for one in (RUST_TRANSACTION, RUST_NODE, RUST_REF, RUST_BUFFER)))), re.M)
+RUST_LINE = "(?m:%s)" % "|".join((
+    r"thread \d+: l \w+ need_return (?:true|false)$", RUST_TRANSACTION, RUST_NODE, RUST_REF, RUST_BUFFER))
 
 
 class Transaction(NamedTuple):
@@ -100,17 +101,17 @@ class Opening:
 
     def take(self, line: str, thread: int) -> None:
         word = line.strip()
-        if found := TRANSACTION.match(word):
+        if found := re.match(TRANSACTION, word):
             self.take_transaction(found, thread)
-        elif found := NODE.match(word):
+        elif found := re.match(NODE, word):
             node = int(found[2], 16), int(found[3], 16)
             self.nodes[node] = int(found[4]), int(found[5]), int(found[6]), int(found[7])
             self.node_numbers[node] = int(found[1])
-        elif found := REF.match(word):
+        elif found := re.match(REF, word):
             self.refs[int(found[1])] = Handle(int(found[4]), int(found[5]), int(found[3]), found[2] is not None)
             if found[6].strip("0"):
                 self.requests.add(int(found[1]))
-        elif found := BUFFER.match(word):
+        elif found := re.match(BUFFER, word):
             self.areas[int(found[1])] = Buffer(int(found[2], 16), int(found[3]), int(found[4]))
             if found[6] == "active":
                 self.active.add(int(found[1]))
@@ -158,23 +159,23 @@ class RustOpening(Opening):
 
     def take_line(self, line: str, thread: int) -> None:
         at = 0
-        while found := NEXT_RUST_REF.match(line, at):
+        while found := re.compile(NEXT_RUST_REF).match(line, at):
             self.refs[int(found[1])] = Handle(int(found[4]), int(found[5]), int(found[3]), found[2] is not None)
             at = found.end()
         self.take(line[at:], thread)
 
     def take(self, line: str, thread: int) -> None:
         word = line.strip()
-        if found := RUST_TRANSACTION.match(word):
+        if found := re.match(RUST_TRANSACTION, word):
             # Only a call, or a oneway send, has a node.
             flags = int(found[7], 16)
             self.add(found[1], int(found[2]), thread, int(found[6], 16), flags, int(found[8] or 0),
                      found[1] == "pending" and found[8] is None and not flags & TF_ONE_WAY)
-        elif found := RUST_NODE.match(word):
+        elif found := re.match(RUST_NODE, word):
             node = int(found[2], 16), int(found[3], 16)
             self.nodes[node] = int(found[4] == "true"), int(found[5] == "true"), None, None
             self.node_numbers[node] = int(found[1])
-        elif found := RUST_BUFFER.match(word):
+        elif found := re.match(RUST_BUFFER, word):
             place = int(found[1])
             self.areas[place] = Buffer(place, None, None)
             if found[3] == "reserved":
@@ -197,14 +198,14 @@ class Counts(NamedTuple):
     oneway_free: int | None
 
 
-RUST_STATS = re.compile(r"^  (?:free oneway space|outstanding transactions): ", re.M)
+RUST_STATS = r"(?m:^  (?:free oneway space|outstanding transactions): )"
 
 
-def sections_of(text: str, name: str, of_rust: re.Pattern[str]) -> Iterator[tuple[str, str]]:
+def sections_of(text: str, name: str, of_rust: str) -> Iterator[tuple[str, str]]:
     """What each driver wrote of a book, with the driver."""
     for section in re.split(rf"^binder {name}:\n", text, flags=re.M):
         if section:
-            yield "Rust" if of_rust.search(section) else "C", section
+            yield "Rust" if re.search(of_rust, section) else "C", section
 
 
 Listed = TypeVar("Listed")

@@ -8,7 +8,7 @@ from viewer.database.beside import bytes_beside
 from viewer.files import shown_name
 
 # A package has a user id for each user of the device.
-LINE = re.compile(r"package:(?P<name>\S{1,256}) uid:(?P<users>[0-9]{1,10}(,[0-9]{1,10})*)")
+LINE = r"package:(?P<name>\S{1,256}) uid:(?P<users>[0-9]{1,10}(,[0-9]{1,10})*)"
 
 
 def load(database: sqlite3.Connection, sides: list[str]) -> str | None:
@@ -19,7 +19,7 @@ def load(database: sqlite3.Connection, sides: list[str]) -> str | None:
     path, data = found
     rows: list[tuple[int, str]] = []
     for at, line in enumerate(data.decode(errors="replace").splitlines(), 1):
-        told = LINE.fullmatch(line)
+        told = re.fullmatch(LINE, line)
         if not told:
             return f"line {at} of {shown_name([str(path)])} names no package with its user id"
         rows += [(int(user), told["name"]) for user in told["users"].split(",")]

@@ -3,6 +3,7 @@
 import os
 import pathlib
 import subprocess
+from typing import Iterator
 
 from viewer.files import Stopped
 from viewer.program_names import LIBRARY, PACKED, called
@@ -11,13 +12,54 @@ from viewer.program_names import LIBRARY, PACKED, called
 LARGE_PAGES = {"GLIBC_TUNABLES": "glibc.malloc.hugetlb=1"}
 
 
+# The programs, and the endings and folders of their sources.
+BUILT = ("binder_audit", "binder_listing")
+ENDINGS, FOLDERS, OTHERS = (".rt", ".antt"), ("src", "specs", "proofs"), ("out", "must-fail")
+
+
+def crates_of(root: pathlib.Path) -> set[str]:
+    """The crates that the programs are made of. In crates.txt a crate comes after the crates that it uses."""
+    below = set(BUILT)
+    for line in reversed((root / "crates.txt").read_text("utf-8").splitlines()):
+        name, _, others = line.partition(":")
+        if name in below:
+            below.update(others.split())
+    return {name for name in below if (root / "crates" / name).is_dir()}
+
+
+def times_in(folder: str, is_of_sources: bool = False) -> Iterator[int]:
+    """When the sources in a folder were changed, and the folders of sources: only they show that a file is gone."""
+    with os.scandir(folder) as entries:
+        for entry in entries:
+            if entry.is_dir(follow_symlinks=False):
+                if entry.name not in OTHERS:
+                    of = is_of_sources or entry.name.startswith(FOLDERS)
+                    if of:
+                        yield entry.stat(follow_symlinks=False).st_mtime_ns
+                    yield from times_in(entry.path, of)
+            elif entry.name.endswith(ENDINGS):
+                yield entry.stat(follow_symlinks=False).st_mtime_ns
+
+
+def are_fresh(root: pathlib.Path) -> bool:
+    """Whether the programs are there, and no source is newer. crates/run finds that by several programs, which takes
+    longer than to read a small capture."""
+    try:
+        made = [(root / "crates" / name / "out" / name).stat() for name in BUILT]
+        oldest = min(it.st_mtime_ns for it in made)
+        return (all(it.st_mode & 0o100 for it in made) and (root / "crates.txt").stat().st_mtime_ns <= oldest
+                and all(time <= oldest for name in crates_of(root) for time in times_in(str(root / "crates" / name))))
+    except OSError:
+        return False
+
+
 def build_programs(root: pathlib.Path) -> None:
     """Builds the auditor and the listing in one go if they are missing or older than a source: they share most crates.
     A package has them."""
-    if PACKED:
+    if PACKED or are_fresh(root):
         return
     try:
-        built = subprocess.run([root / "crates/run", "view", "binder_audit", "binder_listing"],
+        built = subprocess.run([root / "crates/run", "view", *BUILT],
                                stdin=subprocess.DEVNULL)
     except OSError as error:
         raise Stopped(1, f"crates/run: {error.strerror}") from error

@@ -9,6 +9,7 @@ import os
 import pathlib
 import re
 import sqlite3
+import sys
 from typing import Iterator
 
 from viewer.database.report import columns_of
@@ -27,7 +28,10 @@ FOLDER = pathlib.Path(__file__).resolve().parent
 
 
 def refuse_no_engine() -> None:
-    """Stops before anything is made if there is no engine."""
+    """Stops before anything is made if there is no engine. It is among the modules that a system adds to Python."""
+    if sys.flags.no_site:
+        import site
+        site.main()
     if importlib.util.find_spec("jinja2") is None:
         raise Stopped(1, "jinja2 is missing to make the page; this installs it: apt-get install python3-jinja2")
 

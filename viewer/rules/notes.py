@@ -20,7 +20,7 @@ class Values(NamedTuple):
 
 
 # A value by its name, and of a number of things what is counted: `{how_many:call}`.
-NAMED = re.compile(r"\{(\w+)(?::(\w+))?\}")
+NAMED = r"\{(\w+)(?::(\w+))?\}"
 TIMES = ("how_long", "usually")
 
 
@@ -35,4 +35,4 @@ def note_text(said: str | None, *values: object) -> str | None:
         if found[1] in TIMES:
             return duration_of(value)
         return counted(value, found[2]) if found[2] else str(value)
-    return NAMED.sub(told, said)
+    return re.sub(NAMED, told, said)
