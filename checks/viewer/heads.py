@@ -1,23 +1,29 @@
 """The heads of the SQL files of `view`: which names of which file their statements need, and what they make. And no
-statement changes a raw table, which has what `./listing` wrote, or takes a path before it is made to be shown.
+statement changes a raw table, which has what `./listing` wrote, or takes a path before it is made to be shown. And what
+another process finds beside the others, as a comment of the statement says, is not changed meanwhile.
 
 SQLite says, as it compiles a statement, what it reads, changes and creates, and which functions it calls. The head of a
-file must have exactly that; otherwise the check says what it should be. The files run in the order of JUDGING, in which
-SQLite also refuses a statement that needs what only a later file makes."""
+file must have exactly that; otherwise the check says what it should be. The files run in the order of their heads, in
+which SQLite also refuses a statement that needs what only a later file makes."""
 
 import pathlib
+import re
 import sqlite3
 import textwrap
 from collections import defaultdict
 from itertools import takewhile
-from typing import Iterator
+from typing import Iterator, NamedTuple
 
 from checks.kit.programs import ROOT
 from viewer.database import raw_tables
 from viewer.database.sqlite import statements_in, statements_of
 from viewer.rules import judging
+from viewer.rules.catalogue import files_in_order
+from viewer.rules.idle import beside_of
+from viewer.rules.judging import LOADING
 
 VIEWER = ROOT / "viewer"
+ORDER = files_in_order(judging.FOLDER)
 QUERIES, VIEWS, FUNCTIONS = VIEWER / "page/queries", raw_tables.FOLDER / "views.sql", judging.FOLDER / "judging.py"
 
 MAKES = {sqlite3.SQLITE_CREATE_TABLE: "tables", sqlite3.SQLITE_CREATE_TEMP_TABLE: "temporary tables",
@@ -32,7 +38,7 @@ def files_of_statements() -> dict[str, pathlib.Path]:
     found: dict[str, pathlib.Path] = {}
     for name in raw_tables.SCHEMA:
         found.update(dict.fromkeys(statements_in(raw_tables.schema_of(name)), raw_tables.FOLDER / name))
-    for name in judging.JUDGING:
+    for name in ORDER:
         found.update(dict.fromkeys(statements_of(judging.FOLDER / name), judging.FOLDER / name))
     return {**found, **{path.read_text("utf-8"): path for path in QUERIES.glob("*.sql")}}
 
@@ -40,6 +46,24 @@ def files_of_statements() -> dict[str, pathlib.Path]:
 # The columns of finding that are made to be shown, by a file of their own.
 TEXTS = "texts.sql"
 SHOWN = {"path", "interface", "others", "method", "service"}
+
+
+class Ran(NamedTuple):
+    """A statement that was run, and what SQLite said of it."""
+    statement: str
+    path: pathlib.Path
+    seen: tuple[tuple, ...]
+
+    def reads(self) -> set[tuple[str, str]]:
+        """Tables with their columns."""
+        return {(first, second) for action, first, second, _ in self.seen if action == sqlite3.SQLITE_READ}
+
+    def changes(self) -> set[tuple[str, str | None]]:
+        """Tables, and of an UPDATE the column."""
+        return {(first, second) for action, first, second, _ in self.seen if action in CHANGES or action in MAKES}
+
+    def texts(self) -> set[str]:
+        return set(re.findall("'(\\w+)'", self.statement))
 
 
 class Watched:
@@ -54,6 +78,7 @@ class Watched:
         self.makes: dict[pathlib.Path, dict[str, list[str]]] = defaultdict(lambda: defaultdict(list))
         self.maker: dict[str, pathlib.Path] = {}
         self.views: list[str] = []
+        self.ran: list[Ran] = []
 
     def __getattr__(self, name: str) -> object:
         return getattr(self.database, name)
@@ -72,11 +97,12 @@ class Watched:
         try:
             answer = self.database.execute(statement, *values)
         except sqlite3.OperationalError as error:
-            raise SystemExit(f"checks/rules: {path}: {error}; or does it run too early, by JUDGING?") from error
+            raise SystemExit(f"checks/rules: {path}: {error}; or does it run too early, by its head?") from error
         except sqlite3.ProgrammingError as error:  # a parameter without a value
             raise SystemExit(f"checks/rules: {path}: {error} Parameters are thresholds, and numbers of numbers.sql"
                              ) from error
         if path is not None:
+            self.ran.append(Ran(statement, path, tuple(self.seen)))
             self.take(path)
             if path.parent == QUERIES:
                 self.makes[path]["columns"] = [column for column, *_ in answer.description]
@@ -87,7 +113,7 @@ class Watched:
 
     def is_early(self, path: pathlib.Path) -> bool:
         """Whether a file runs before texts are made."""
-        return path.parent == judging.FOLDER and judging.JUDGING.index(path.name) < judging.JUDGING.index(TEXTS)
+        return path.parent == judging.FOLDER and ORDER.index(path.name) < ORDER.index(TEXTS)
 
     def take(self, path: pathlib.Path) -> None:
         """Notes what the last statement did. What a view reads is no matter of a statement that reads the view. Of what
@@ -123,6 +149,26 @@ class Watched:
             raise SystemExit(f"checks/rules: {path}: it reads {', '.join(SHOWN & read)} of finding, which {TEXTS} makes"
                              " later")
 
+    def faults_of_beside(self) -> Iterator[str]:
+        """What other processes find while it is changed."""
+        rules = [it for it in self.ran if it.path.parent == judging.FOLDER]
+        for at, it in enumerate(rules):
+            since, _ = beside_of(it.statement)
+            if not since:
+                continue
+            begin = max((number + 1 for number, other in enumerate(rules) if other.path.name == since), default=0)
+            changed = [(other, table, column) for other in rules[begin:at] for table, column in other.changes()]
+            taken = {table for table, column in it.reads() if table in self.maker and (
+                any(is_other(it, table, column, *change) for change in changed)
+                or since == LOADING and not self.is_there_first(table))}
+            for table in sorted(taken):
+                yield f"{it.path.relative_to(ROOT)}: it takes {table} beside the others, which change that: " + \
+                      " ".join(it.statement.split())[-80:]
+
+    def is_there_first(self, table: str) -> bool:
+        """Whether the loader fills a table, or it is a view."""
+        return table.startswith("raw_") or table in raw_tables.PACKED_TABLES or self.is_view(table)
+
     def look_into_views(self) -> None:
         """Notes what the views read and call, as a matter of their file."""
         for view in self.views:
@@ -142,6 +188,16 @@ class Watched:
                  for maker in dict.fromkeys([*self.files.values(), FUNCTIONS]) if maker != path}
         makes = {kind: self.makes[path][kind] for kind in dict.fromkeys([*MAKES.values(), "columns"])}
         return f"{lines_of('needs', needs)}\n{after_of(path)}{lines_of('makes', makes)}"
+
+
+def is_other(it: Ran, table: str, column: str, other: Ran, changed: str, of: str | None) -> bool:
+    """Whether a statement changes what another one reads. Of findings that one gets the sections and codes: it reads
+    those of sections that it names."""
+    if table != changed or not column:
+        return False
+    if table == "finding" and column in ("section", "code"):
+        return of == column or of is None and bool(it.texts() & other.texts())
+    return True
 
 
 def after_of(path: pathlib.Path) -> str:
@@ -167,10 +223,11 @@ def faults_of_heads() -> Iterator[str]:
     for statement, path in watched.files.items():
         if path.parent == raw_tables.FOLDER:
             watched.execute(statement)
-    judging.judge(watched)
+    judging.judge(watched, whole=True)  # type: ignore[arg-type]
     for statement, path in watched.files.items():
         if path.parent == QUERIES:
             watched.execute(statement, {str(at): 0 for at in range(1, 9)})
+    yield from watched.faults_of_beside()
     watched.look_into_views()
     for path in sorted(VIEWER.rglob("*.sql")):
         said = "\n".join(takewhile(lambda line: line.startswith("--"), path.read_text("utf-8").splitlines()))

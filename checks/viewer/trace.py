@@ -524,7 +524,7 @@ def check_reader(folder: pathlib.Path, room: pathlib.Path, fail: Fail) -> None:
 # Is killed while another process makes lists without end.
 KILLED = """
 import os, signal
-from viewer.timeline.piped import Piped
+from viewer.piped import Piped
 def make(send):
     while True:
         send([(0,)])

@@ -240,7 +240,7 @@ static void learn_columns(sqlite3 *database, const char *table, struct rows *row
 	sqlite3_free(statement);
 }
 
-/* The tables that are packed, and the threads that pack those that come through a pipe. */
+/* The tables that are packed, and the threads that do so. */
 struct packing {
 	int tables, threads;
 	struct packed_table table[MOST_PACKED];
@@ -328,6 +328,12 @@ static int is_pipe(const char *path)
 	return !stat(path, &about) && S_ISFIFO(about.st_mode);
 }
 
+static void begin_thread(struct packing *packing, struct packed_table *table)
+{
+	if (pthread_create(&packing->thread[packing->threads++], NULL, pack_in_thread, table))
+		stop("a thread could not be started");
+}
+
 /* Begins to pack what comes through pipes. */
 static void begin_packing(sqlite3 *database, const char *to, const char *folder, struct packing *packing)
 {
@@ -337,29 +343,43 @@ static void begin_packing(sqlite3 *database, const char *to, const char *folder,
 		table->packed = sqlite3_mprintf("%s.%s", to, table->name);
 		const char *after = strncmp(table->name, "raw_", 4) ? NULL : table->name + 4;
 		table->rows = after ? sqlite3_mprintf("%s/%s.rows", folder, after) : NULL;
-		if (!table->rows || !is_pipe(table->rows))
-			continue;
-		if (pthread_create(&packing->thread[packing->threads++], NULL, pack_in_thread, table))
-			stop("a thread could not be started");
+		if (table->rows && is_pipe(table->rows))
+			begin_thread(packing, table);
 	}
 }
 
-/* Waits for what comes through pipes, and until all files are there, and packs the others. */
-static void end_packing(struct packing *packing)
+static void wait_for_threads(struct packing *packing)
 {
-	for (int number = 0; number < packing->threads; number++)
-		pthread_join(packing->thread[number], NULL);
+	while (packing->threads)
+		pthread_join(packing->thread[--packing->threads], NULL);
+}
+
+/*
+ * Waits for what comes through pipes, and until all files are there, and begins to pack the others. If nothing comes
+ * through pipes, it ends when they are packed.
+ */
+static void pack_others(struct packing *packing)
+{
+	int is_awaited = packing->threads;
 	char sign;
-	while (packing->threads && read(STDIN_FILENO, &sign, 1) > 0)
+	wait_for_threads(packing);
+	while (is_awaited && read(STDIN_FILENO, &sign, 1) > 0)
 		;
 	for (int number = 0; number < packing->tables; number++) {
 		struct packed_table *table = &packing->table[number];
-		if (!table->rows)
-			continue;
-		if (!is_pipe(table->rows))
-			pack_rows(table);
-		remove_rows(packing, table->rows);
+		if (table->rows && !is_pipe(table->rows))
+			begin_thread(packing, table);
 	}
+	if (!is_awaited)
+		wait_for_threads(packing);
+}
+
+static void end_packing(struct packing *packing)
+{
+	wait_for_threads(packing);
+	for (int number = 0; number < packing->tables; number++)
+		if (packing->table[number].rows)
+			remove_rows(packing, packing->table[number].rows);
 }
 
 /* The columns of a table, as they were declared. */
@@ -424,8 +444,9 @@ static void load(sqlite3 *database, char **words, struct packing *packing)
 	struct packed_table *times = packed_of(packing, "side_time");
 	if (side)
 		load_side_list(database, side, times, others);
-	end_packing(packing);
+	pack_others(packing);
 	load_tables(database, folder, packing, &current);
+	end_packing(packing);
 	for (int number = 0; number < packing->tables; number++)
 		if (side || &packing->table[number] != times)
 			give_packed(database, &packing->table[number]);

@@ -4,12 +4,12 @@ import contextlib
 import os
 import pathlib
 import select
-import shutil
 import sqlite3
 import subprocess
 from typing import Callable
 
 from viewer.database import packages
+from viewer.database.finders import Finders, finders_of
 from viewer.database.programs import Asked, answer, build_programs, fault_in
 from viewer.database.raw_tables import Loading, can_pack, load_as_it_comes, load_rows
 from viewer.database.report import load_findings, load_report
@@ -18,7 +18,8 @@ from viewer.database.sqlite import open_database
 from viewer.files import Stopped, linked, shown_name, unchanged
 from viewer.methods.known import Methods, load_methods
 from viewer.program_names import called
-from viewer.rules.judging import judge
+from viewer.rules.judging import begin, judge
+from viewer.scratch import remove
 from viewer.timing import Timing
 
 # The programs read a capture side by side if there is so much memory: so many times the capture, and so much besides.
@@ -40,14 +41,18 @@ def load_facts(database: sqlite3.Connection, files: list[str], malformed: str | 
 
 def fill(database: sqlite3.Connection, files: list[str], side: str | None, report: pathlib.Path,
          malformed: str | None, methods: Methods | None = None, beside: list[str] | None = None,
-         others: pathlib.Path | None = None) -> None:
+         others: pathlib.Path | None = None, finders: Finders | None = None) -> SideList:
     """Adds the side list, the report and its findings to the raw tables. The driver's books are beside the side lists
-    `beside`, or else beside the side list, of which `others` has the lines that are not loaded yet."""
+    `beside`, or else beside the side list, of which `others` has the lines that are not loaded yet. If there are
+    `finders`, `doubt_side_list` tells later whether the side list is that of the capture."""
     database.execute("BEGIN")
     taken = SideList(database)
     if side is not None:
         taken.load(side, others)
-        taken.judge()
+        if finders:
+            taken.begin_to_compare(finders)
+        else:
+            taken.facts["side_doubt"] = taken.doubt(None)
         if taken.copies:
             from viewer.database import load_books
             taken.facts["books_doubt"] = load_books.load(database, taken.copies, beside or [side], taken.met)
@@ -58,6 +63,12 @@ def fill(database: sqlite3.Connection, files: list[str], side: str | None, repor
     load_methods(database, methods or {})
     database.execute("INSERT INTO capture VALUES ('methods', ?)", (len(methods or {}),))
     database.execute("COMMIT")
+    return taken
+
+
+def doubt_side_list(database: sqlite3.Connection, taken: SideList, finders: Finders) -> None:
+    """Refuses a side list of another capture, and keeps the doubt if it may be of another."""
+    database.execute("UPDATE capture SET value = ? WHERE key = 'side_doubt'", (taken.doubt(finders),))
 
 
 def compare_with_books(database: sqlite3.Connection) -> None:
@@ -129,13 +140,19 @@ def database_of(root: pathlib.Path, files: list[str], side: str | None, made: pa
             raise Stopped(1, f"{called('listing')} and {called('audit')} do not agree: {listed!r} and {malformed!r}")
     if malformed:
         answer(root, report, "audit", "report", rows / "before-fault.cap")
-    shutil.rmtree(rows)
+    remove(rows)
     database = open_database(made)
     tell("taking the side list and the report")
-    fill(database, files, side, report, malformed, methods, beside, others)
-    report.unlink()
-    tell("applying the rules")
-    judge(database, timing=timing)
+    finders = finders_of(database)
+    with finders or contextlib.nullcontext():
+        if finders:
+            begin(database, finders)
+        taken = fill(database, files, side, report, malformed, methods, beside, others, finders)
+        report.unlink()
+        tell("applying the rules")
+        judge(database, timing=timing, finders=finders)
+        if finders and side is not None:
+            doubt_side_list(database, taken, finders)
     compare_with_books(database)
     database.close()
     return malformed

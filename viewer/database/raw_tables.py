@@ -8,11 +8,11 @@ import pathlib
 import re
 import sqlite3
 import subprocess
-import tempfile
 from contextlib import closing
 
 from viewer.database.sqlite import UNLISTED, named_numbers
 from viewer.files import Stopped
+from viewer.kept import kept
 from viewer.program_names import LIBRARY, PACKED, called
 
 FOLDER = pathlib.Path(__file__).resolve().parent
@@ -45,6 +45,14 @@ def schema_of(name: str) -> str:
 def schema() -> str:
     """The statements that make a new database."""
     return "".join(map(schema_of, SCHEMA))
+
+
+# The file that has them for the loader.
+SCHEMA_FILE = "schema"
+
+
+def write_schema(path: pathlib.Path) -> None:
+    path.write_text(schema(), "utf-8")
 
 
 # ---- the loader
@@ -94,6 +102,7 @@ def loader() -> pathlib.Path:
         return LIBRARY / "load"
     out = FOLDER / "out"
     if not is_built(out):
+        import tempfile
         out.mkdir(exist_ok=True)
         with tempfile.TemporaryDirectory(prefix="new-", dir=out) as new:
             build_loader(pathlib.Path(new))
@@ -142,8 +151,7 @@ class Loading:
               packs: bool) -> list[str | pathlib.Path]:
         """What the loader is called with: for the `.rows` files of a folder, and a side list. If the database is not
         kept, tables are packed, and `others` gets the lines of the list that are not loaded."""
-        schema_file = rows / "schema.sql"
-        schema_file.write_text(schema(), "utf-8")
+        schema_file = kept(SCHEMA_FILE, (FOLDER,), write_schema)
         packed = [word for table in PACKED_TABLES for word in ("--pack", table)] if packs else []
         return [loader(), *packed, database, rows, schema_file, *(it for it in (side, others) if it is not None)]
 

@@ -24,16 +24,19 @@ MORE = """SELECT count(*) FILTER (WHERE s.seq < c.first_seq),
     count(*) FILTER (WHERE c.last_seq IS NULL OR s.seq > c.last_seq)
   FROM raw_capture c, side_time s"""
 
+# Those that look at all frames, or at all times.
+LONG = {"untold": UNTOLD, "more": MORE}
 
-def why_other(database: sqlite3.Connection, last: int, ended: bool) -> str | None:
+
+def why_other(database: sqlite3.Connection, last: int, ended: bool, untold: tuple | None) -> str | None:
     """Why a side list with this last number can't belong to the capture; None if it can. `ended`: the list has its
-    end."""
+    end; `untold`: the row of UNTOLD."""
     def first(query: str) -> tuple | None:
         return database.execute(query, {"last": last}).fetchone()
     beyond, = first(BEYOND) or (None,)
     if ended and beyond is not None:
         return f"{OTHER}: it ends with frame {last:,}, and the capture has frame {beyond:,}"
-    if untold := first(UNTOLD):
+    if untold:
         return f"{OTHER}: it does not have frame {untold[0]:,} of the capture"
     if stranger := first(STRANGER):
         device, process, thread, seq = stranger
@@ -42,13 +45,14 @@ def why_other(database: sqlite3.Connection, last: int, ended: bool) -> str | Non
     return None
 
 
-def doubt(database: sqlite3.Connection, last: int) -> str | None:
-    """In what the side list and the capture differ, if the list may still belong to the capture."""
+def doubt(database: sqlite3.Connection, last: int, more: tuple) -> str | None:
+    """In what the side list and the capture differ, if the list may still belong to the capture; `more`: the row of
+    MORE."""
     beyond, = database.execute(BEYOND, {"last": last}).fetchone()
     if beyond is not None:
         return (f"the side list ends with frame {last:,}, before the capture does: it was cut, or belongs to another"
                 " capture")
-    before, within, after = database.execute(MORE).fetchone()
+    before, within, after = more
     told = [f"{count:,} {where}" for count, where in
             ((before, "before the first"), (within, "between"), (after, "after the last")) if count]
     if not told:

@@ -2,11 +2,11 @@
 
 import pathlib
 import re
-import shutil
 import sqlite3
 from typing import Iterable, NamedTuple
 
 from viewer.database import side_belongs
+from viewer.database.finders import Finders, Query
 from viewer.database.last_names import LastNames
 from viewer.database.process_names import is_app, is_not_yet_named, long_name
 from viewer.files import Stopped, for_owner
@@ -121,6 +121,7 @@ def joined_sides(paths: list[str], to: pathlib.Path) -> str:
     refuse_others(paths)
     if len(paths) == 1:
         return paths[0]
+    import shutil
     with open(to, "wb", opener=for_owner) as out:
         for at, path in enumerate(paths):
             with open(path, "rb") as lines:
@@ -193,11 +194,21 @@ class SideList:
             [(long_name(name, command), command.replace("\0", " "), is_app(name, command), row)
              for row, name, command in told])
 
-    def judge(self) -> None:
-        """Refuses a list that certainly belongs to another capture, and keeps the doubt if it may belong to another."""
-        if why := side_belongs.why_other(self.database, self.last(), "end_ts" in self.facts):
+    def begin_to_compare(self, finders: Finders) -> None:
+        """Has other processes compare the numbers of frames with those of the capture."""
+        finders.begin([Query(*it) for it in side_belongs.LONG.items()], [], {"last": self.last()})
+
+    def doubt(self, finders: Finders | None) -> str | None:
+        """Refuses a list that certainly belongs to another capture. Returns the doubt if it may belong to another."""
+        def first(name: str) -> tuple | None:
+            if not finders:
+                return self.database.execute(side_belongs.LONG[name], {"last": self.last()}).fetchone()
+            with finders.found(self.database, name):
+                return self.database.execute("SELECT * FROM found.rows").fetchone()
+        why = side_belongs.why_other(self.database, self.last(), "end_ts" in self.facts, first("untold"))
+        if why:
             raise Stopped(1, why)
-        self.facts["side_doubt"] = side_belongs.doubt(self.database, self.last())
+        return side_belongs.doubt(self.database, self.last(), first("more") or (0, 0, 0))
 
     def read_lines(self, lines: Iterable[str], path: str) -> None:
         for line in lines:

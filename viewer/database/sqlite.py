@@ -45,3 +45,12 @@ def open_database(path: pathlib.Path) -> sqlite3.Connection:
                     "temp_store=MEMORY"):
         database.execute(f"PRAGMA {setting}")
     return database
+
+
+def open_beside(path: str) -> sqlite3.Connection:
+    """The database for one more process, which reads what nobody changes meanwhile: it is locked. Sorting goes to the
+    disk."""
+    database = sqlite3.connect(f"{pathlib.Path(path).as_uri()}?immutable=1", uri=True, isolation_level=None)
+    for setting in ("cache_size=-16384", "temp_store=FILE"):
+        database.execute(f"PRAGMA {setting}")
+    return database

@@ -59,12 +59,18 @@ UPDATE finding SET later = (SELECT count(*) FROM (SELECT 1 FROM (SELECT depth FR
     (SELECT o.depth + (o.closer IS NULL OR o.closer > finding.place) FROM raw_call o WHERE o.utid = finding.utid
       AND o.place < finding.place ORDER BY o.place DESC LIMIT 1), 1) LIMIT :MOST_LATER))
 WHERE section IN ('calls', 'served', 'buffers');
+-- If there are many findings, the write frames of all their threads are sorted first.
 CREATE TEMP TABLE written(utid INTEGER, seq INTEGER, PRIMARY KEY(utid, seq)) WITHOUT ROWID;
 INSERT INTO written
-SELECT utid, seq FROM raw_frame WHERE direction = :WRITE AND records > 0 AND utid IN (SELECT utid FROM finding);
-UPDATE finding SET later = max(coalesce(later, 0), iif(t.last_write > finding.place, max(1, (SELECT count(*) FROM (
-    SELECT 1 FROM written w WHERE w.utid = finding.utid AND w.seq > finding.seq AND w.seq <= finding.seq + :FRAMES_AHEAD
-    LIMIT :MOST_LATER))), 0))
+SELECT f.utid, f.seq
+FROM (SELECT 1 FROM raw_capture WHERE (SELECT count(*) FROM finding) > frames / 100) CROSS JOIN raw_frame f
+WHERE f.direction = :WRITE AND f.records > 0 AND f.utid IN (SELECT utid FROM finding);
+UPDATE finding SET later = max(coalesce(later, 0), iif(t.last_write > finding.place, max(1, iif(
+    EXISTS (SELECT 1 FROM written),
+    (SELECT count(*) FROM (SELECT 1 FROM written w WHERE w.utid = finding.utid AND w.seq > finding.seq
+      AND w.seq <= finding.seq + :FRAMES_AHEAD LIMIT :MOST_LATER)),
+    (SELECT count(*) FROM (SELECT 1 FROM raw_frame w WHERE w.utid = finding.utid AND w.direction = :WRITE
+      AND w.records > 0 AND w.seq > finding.seq AND w.seq <= finding.seq + :FRAMES_AHEAD LIMIT :MOST_LATER)))), 0))
 FROM raw_thread t
 WHERE t.utid = finding.utid AND section NOT IN ('calls', 'served')
   AND (later IS NULL OR EXISTS (SELECT 1 FROM raw_record r
@@ -72,6 +78,7 @@ WHERE t.utid = finding.utid AND section NOT IN ('calls', 'served')
 
 -- What is old: older than :OLD times the longest of its path or, if there is none, the median of all buffers or calls,
 -- of which some :SAMPLE are looked at; and older than :LONG.
+-- beside: loading
 CREATE TEMP TABLE usual AS
 WITH held AS (SELECT z.ts - x.ts AS dur FROM raw_delivery d JOIN side_time x ON x.seq = d.seq
     JOIN side_time z ON z.seq = d.seq + d.dur_seq

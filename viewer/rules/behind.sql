@@ -3,7 +3,7 @@
 -- needs: database/schema.sql: finding, raw_delivery, raw_record, raw_send, raw_thread, side_time; nodes.sql: node_of;
 --   records.sql: to_frozen; ages.sql: last, process_life; rule.sql: lossy
 -- after: used_up.sql
--- makes: temporary tables: oneway_wait, slow_wait, by_quarter, not_come, behind; indexes: slow_wait_of, not_come_of
+-- makes: temporary tables: slow_wait, by_quarter, not_come, behind; indexes: slow_wait_of, not_come_of
 
 -- ---- what findings are called
 
@@ -20,19 +20,20 @@
 
 -- How long each oneway send waited for its delivery, or if it did not come, for the end of its receiver; but not those
 -- that waited for a thaw. Which of those that wait for one node a delivery belongs to may be a guess, which keeps their
--- order, as the driver does.
-CREATE TEMP TABLE oneway_wait AS
-SELECT s.place, n.upid, n.ptr, n.cookie, x.ts AS since, coalesce(y.ts, p.ended, last.ts) AS until, y.ts NOTNULL AS came
-FROM raw_send s JOIN raw_record r USING (place) JOIN node_of n USING (generation) JOIN process_life p USING (upid)
-  JOIN side_time x ON x.seq = s.seq LEFT JOIN raw_delivery d ON d.place = s.delivery
-  LEFT JOIN raw_record c ON c.place = d.place LEFT JOIN raw_thread t ON t.utid = d.utid
-  LEFT JOIN side_time y ON y.seq = d.seq, last
-WHERE r.flags & :TF_ONE_WAY AND NOT r.flags & :TF_UPDATE_TXN AND s.refused IS NULL
-  AND s.place NOT IN (SELECT place FROM to_frozen)
-  AND (d.place IS NULL OR (t.upid, c.ptr, c.cookie) = (n.upid, n.ptr, n.cookie))
-  AND n.upid NOT IN (SELECT upid FROM lossy);
--- Those of the nodes for which one waited over :VERY_LONG.
+-- order, as the driver does. Of these, those of the nodes for which one waited over :VERY_LONG.
+-- beside: rule.sql
 CREATE TEMP TABLE slow_wait AS
+WITH oneway_wait AS MATERIALIZED (
+  SELECT s.place, n.upid, n.ptr, n.cookie, x.ts AS since, coalesce(y.ts, p.ended, last.ts) AS until,
+    y.ts NOTNULL AS came
+  FROM raw_send s JOIN raw_record r USING (place) JOIN node_of n USING (generation) JOIN process_life p USING (upid)
+    JOIN side_time x ON x.seq = s.seq LEFT JOIN raw_delivery d ON d.place = s.delivery
+    LEFT JOIN raw_record c ON c.place = d.place LEFT JOIN raw_thread t ON t.utid = d.utid
+    LEFT JOIN side_time y ON y.seq = d.seq, last
+  WHERE r.flags & :TF_ONE_WAY AND NOT r.flags & :TF_UPDATE_TXN AND s.refused IS NULL
+    AND s.place NOT IN (SELECT place FROM to_frozen)
+    AND (d.place IS NULL OR (t.upid, c.ptr, c.cookie) = (n.upid, n.ptr, n.cookie))
+    AND n.upid NOT IN (SELECT upid FROM lossy))
 SELECT *, until - since AS wait FROM oneway_wait
 WHERE (upid, ptr, cookie) IN (SELECT upid, ptr, cookie FROM oneway_wait WHERE until - since > :VERY_LONG);
 CREATE INDEX temp.slow_wait_of ON slow_wait(upid, ptr, cookie, place);

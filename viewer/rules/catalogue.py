@@ -29,7 +29,6 @@ import functools
 import graphlib
 import pathlib
 import re
-import sqlite3
 from typing import Iterator, NamedTuple
 
 from viewer.rules.thresholds import in_words
@@ -128,14 +127,12 @@ def files_in_order(folder: pathlib.Path) -> tuple[str, ...]:
     return tuple(graphlib.TopologicalSorter(after).static_order())
 
 
-def fill(database: sqlite3.Connection, catalogue: Catalogue) -> None:
-    """Puts the rules into the tables of rule.sql."""
-    database.executemany("INSERT INTO rule VALUES (?, ?, ?, ?, ?, ?)", (
-        (rule.id, rule.verdict, rule.said, rule.fields.get("fault"), rule.fields.get("next"),
-         rule.fields.get("ring") == "yes") for rule in catalogue.rules))
-    database.executemany("INSERT INTO title VALUES (NULL, ?, ?, ?)", catalogue.called)
-    database.executemany("INSERT INTO title VALUES (?, ?, NULL, ?)", (
-        (rule.id, *title) for rule in catalogue.rules for title in rule.titles()))
-    database.executemany("INSERT INTO if_missing VALUES (?, ?)", (
-        (rule.id, rule.fields["where frames are missing"]) for rule in catalogue.rules
-        if "where frames are missing" in rule.fields))
+def rows_of(catalogue: Catalogue) -> dict[str, list[tuple]]:
+    """The rows of the tables of rule.sql, for each table."""
+    return {
+        "rule": [(rule.id, rule.verdict, rule.said, rule.fields.get("fault"), rule.fields.get("next"),
+                  int(rule.fields.get("ring") == "yes")) for rule in catalogue.rules],
+        "title": [(None, *called) for called in catalogue.called] + [
+            (rule.id, section, None, title) for rule in catalogue.rules for section, title in rule.titles()],
+        "if_missing": [(rule.id, rule.fields["where frames are missing"]) for rule in catalogue.rules
+                       if "where frames are missing" in rule.fields]}

@@ -1,7 +1,7 @@
 -- How many took the path of each finding, how many of these came to a good end, and how long that took at most.
 -- needs: database/schema.sql: finding, raw_call, raw_delivery, raw_record, raw_send, raw_thread, side_time; nodes.sql:
 --   node_of; paths.sql: answered, given, given_way
--- makes: temporary tables: buffer_path, send_path; indexes: buffer_path_of
+-- makes: temporary tables: buffer_path, send_path, served_path; indexes: buffer_path_of
 
 -- Buffers, by what they came for, and by the process that got them and must free them: of each path that has a finding
 -- how many there are, how many were freed, and how long these were held. Of calls the path says which process gets
@@ -9,8 +9,9 @@
 -- without, no index is used.
 CREATE TEMP TABLE buffer_path(relation TEXT, code INTEGER, about INTEGER, node INTEGER, receiver INTEGER, n INTEGER,
   good INTEGER, longest_seq INTEGER, longest INTEGER);
+-- beside: nodes.sql
 INSERT INTO buffer_path
-WITH d AS (
+WITH d AS NOT MATERIALIZED (
   SELECT
     CASE WHEN r.kind = :BR_REPLY THEN 'reply to' WHEN r.flags & :TF_ONE_WAY THEN 'oneway at' ELSE 'at' END AS relation,
     iif(r.kind = :BR_REPLY, c.code, r.code) AS code,
@@ -24,24 +25,13 @@ WITH d AS (
   FROM raw_delivery d JOIN raw_record r USING (place) JOIN raw_thread t ON t.utid = d.utid
     LEFT JOIN raw_record c ON c.place = d.call AND r.kind = :BR_REPLY
     LEFT JOIN raw_send s ON s.place = d.call AND r.kind = :BR_REPLY LEFT JOIN node_of n ON n.generation = s.generation
-  WHERE EXISTS (SELECT 1 FROM finding WHERE section = 'buffers'))
-SELECT relation, code, about, node, receiver, sum(n) AS n, sum(good) AS good, max(longest_seq) AS longest_seq,
-  max(longest) AS longest
-FROM (
-  SELECT
-    relation,
-    code,
-    about,
-    node,
-    receiver,
-    count(*) AS n,
-    count(freed_by) AS good,
-    max(dur_seq) AS longest_seq,
-    max(z.ts - x.ts) AS longest,
-    sum(count(*) - count(freed_by)) OVER (PARTITION BY relation, code, about, node, cookie) AS kept
-  FROM d LEFT JOIN side_time x ON x.seq = d.seq LEFT JOIN side_time z ON z.seq = d.seq + d.dur_seq
-  GROUP BY relation, code, about, node, cookie, receiver)
-WHERE kept > 0
+  WHERE EXISTS (SELECT 1 FROM finding WHERE section = 'buffers')),
+  kept AS MATERIALIZED (SELECT DISTINCT relation, code, about, node, cookie FROM d WHERE freed_by IS NULL)
+SELECT d.relation, d.code, d.about, d.node, d.receiver, count(*) AS n, count(d.freed_by) AS good,
+  max(d.dur_seq) AS longest_seq, max(z.ts - x.ts) AS longest
+FROM d CROSS JOIN kept k ON k.about = d.about AND k.code IS d.code AND k.node IS d.node AND k.cookie IS d.cookie
+    AND k.relation = d.relation
+  LEFT JOIN side_time x ON x.seq = d.seq LEFT JOIN side_time z ON z.seq = d.seq + d.dur_seq
 GROUP BY 1, 2, 3, 4, 5;
 CREATE UNIQUE INDEX temp.buffer_path_of ON buffer_path(about, node, code, relation, receiver);
 UPDATE finding SET (n_all, n_good, longest_seq, longest) = (
@@ -50,6 +40,7 @@ UPDATE finding SET (n_all, n_good, longest_seq, longest) = (
 WHERE section = 'buffers';
 
 -- Calls and oneway sends to a target, by code: how many were answered or delivered, and how long that took.
+-- beside: records.sql
 CREATE TEMP TABLE send_path AS
 SELECT r.code, coalesce(n.upid, -t.upid) AS upid, coalesce(n.ptr, r.handle) AS ptr, coalesce(n.cookie, 0) AS cookie,
   r.flags & :TF_ONE_WAY AS oneway, count(*) AS n, count(e.seq) AS good, max(e.seq - s.seq) AS longest_seq,
@@ -74,12 +65,15 @@ UPDATE finding SET n_good = p.good, longest_seq = p.longest_seq, longest = p.lon
 WHERE section = 'books' AND NOT p.oneway
   AND (p.code, p.upid, p.ptr, p.cookie) = (finding.code, finding.target, finding.ptr, finding.cookie);
 -- Served calls of a node, by code.
+-- beside: records.sql
+CREATE TEMP TABLE served_path AS
+SELECT r.code, t.upid, r.ptr, r.cookie, count(*) AS n, sum(c.verdict = 2) AS good,
+  max(iif(c.verdict = 2, c.dur_seq, NULL)) AS longest_seq, max(iif(c.verdict = 2, z.ts - x.ts, NULL)) AS longest
+FROM raw_call c JOIN raw_record r USING (place) JOIN raw_thread t ON t.utid = c.utid
+  LEFT JOIN side_time x ON x.seq = c.seq LEFT JOIN side_time z ON z.seq = c.seq + c.dur_seq
+WHERE c.served AND r.code IN (SELECT code FROM finding WHERE section = 'served') GROUP BY 1, 2, 3, 4;
 UPDATE finding SET n_all = p.n, n_good = p.good, longest_seq = p.longest_seq, longest = p.longest
-FROM (SELECT r.code, t.upid, r.ptr, r.cookie, count(*) AS n, sum(c.verdict = 2) AS good,
-    max(iif(c.verdict = 2, c.dur_seq, NULL)) AS longest_seq, max(iif(c.verdict = 2, z.ts - x.ts, NULL)) AS longest
-  FROM raw_call c JOIN raw_record r USING (place) JOIN raw_thread t ON t.utid = c.utid
-    LEFT JOIN side_time x ON x.seq = c.seq LEFT JOIN side_time z ON z.seq = c.seq + c.dur_seq
-  WHERE c.served AND r.code IN (SELECT code FROM finding WHERE section = 'served') GROUP BY 1, 2, 3, 4) p
+FROM served_path p
 WHERE section = 'served'
   AND (p.code, p.upid, p.ptr, p.cookie) = (finding.code, finding.upid, finding.ptr, finding.cookie);
 -- Handles that are kept, by the way they came; and calls that were answered.

@@ -177,6 +177,7 @@ CREATE TABLE traffic(upid INTEGER NOT NULL, handle INTEGER NOT NULL, generation 
   open INTEGER NOT NULL, bytes INTEGER NOT NULL, delivered INTEGER NOT NULL, one_fits INTEGER NOT NULL,
   buffers INTEGER NOT NULL, buffers_peak INTEGER, longest_seq INTEGER, node_upid INTEGER, ptr INTEGER,
   cookie INTEGER, longest INTEGER) STRICT;
+-- beside: nodes.sql
 INSERT INTO traffic
 SELECT x.upid, x.handle, x.generation, x.code, x.oneway, x.sends, x.failed, x.refused, x.open, x.bytes, x.delivered,
   x.one_fits, x.buffers, x.peak, x.longest_seq, n.upid, n.ptr, n.cookie, x.longest

@@ -6,21 +6,18 @@ import pathlib
 import sqlite3
 from typing import Callable
 
+from viewer.database.finders import Finders, Given, Query, insert
 from viewer.database.report import number_of
-from viewer.database.sqlite import named_numbers, statements_of
-from viewer.rules import waiting
-from viewer.rules.catalogue import FOLDER, catalogue_of, files_in_order, fill
+from viewer.database.sqlite import named_numbers
+from viewer.rules.effect import ANY_RULE, Effect
 from viewer.rules.names import Names, short_of
 from viewer.rules.notes import note_text
 from viewer.rules.paths import call_words, name_words, object_words, path_text, thing_words
+from viewer.rules.plan import FOLDER, Plan, Statement, plan_in, plan_of, write
 from viewer.rules.thresholds import THRESHOLDS
 from viewer.rules.verdicts import RANKS
 from viewer.timing import Timing
 from viewer.units import LETTERS, counted, defect_key, duration_of, status_name
-
-# The files that judge the rows of the report, in order. The first rule that fits a finding decides.
-JUDGING = files_in_order(FOLDER)
-
 
 # Most statements look at the findings of some sections, and a capture may have very many of others. Without statistics
 # SQLite takes it that ten findings are of a section, and that it need make no index for these few of what is joined to
@@ -40,32 +37,220 @@ WORDS: dict[str, Callable] = {
     "name_words": name_words, "thing_words": thing_words, "rank_of": RANKS.get,
     "bare_name": lambda name: name and short_of(name)}
 
+# The temporary tables that others than the statements of the rules take: here, and in agreement.py.
+OF_RULES, OF_WAITS, OF_BOOKS = ("if_missing",), ("waits", "full_pool", "queued", "step", "waited"), (
+    "lossy", "dead_record", "told_death")
 
-def judge(database: sqlite3.Connection, folder: pathlib.Path = FOLDER, timing: Timing | None = None) -> None:
-    """Gives each finding its verdict. In the statements `:BR_REPLY` is the number of that name, and `:LONG` a
-    threshold. They make texts by the functions of WORDS, and after names.sql by `call_name(code, upid, ptr)`, the name
-    of a call. `short_name(interface)` is what an interface is called, and `bare_name(interface)` without its package,
-    even if there is another one of that name."""
+
+class Tables:
+    """Which tables have no row, and which sections and rules no finding. A temporary table without a row is made only
+    where a statement names it that does something."""
+
+    def __init__(self, database: sqlite3.Connection, plan: Plan):
+        self.database, self.plan = database, plan
+        self.last = 0
+        self.made: set[str] = set()
+        self.unmade: dict[str, list[str]] = {}
+        self.views: dict[str, tuple[str, ...]] = {}
+        query = ", ".join(f"EXISTS (SELECT 1 FROM {table})" for table in plan.tables)
+        there = database.execute(f"SELECT {query}").fetchone()
+        self.lacking = {*plan.told, *(table for table, has_rows in zip(plan.tables, there) if not has_rows)}
+        self.note_sections()
+
+    def note_sections(self) -> None:
+        """Notes of which sections the findings are that have come."""
+        came = self.database.execute("SELECT DISTINCT 'section ' || section FROM finding WHERE id > ?", (self.last,))
+        self.lacking.difference_update(section for section, in came.fetchall())
+        self.last, = self.database.execute("SELECT coalesce(max(id), 0) FROM finding").fetchone()
+
+    def do_nothing(self, effect: Effect) -> bool:
+        """Whether a statement finds nothing, and need not run: what it would make has no row."""
+        if effect.does == "index" and effect.to in self.unmade:
+            return True
+        if effect.does not in ("make", "insert", "update", "delete"):
+            return False
+        return not any(all(not self.lacking.issuperset(names) for names in needs) for needs in effect.needs)
+
+    def leave(self, effect: Effect, text: str) -> None:
+        """Takes note of a statement that need not run."""
+        if effect.does == "make":
+            self.unmade[effect.to] = [self.plan.empty[effect.to]]
+            self.lacking.add(effect.to)
+        elif effect.does == "index":
+            self.unmade[effect.to].append(text)
+
+    def make(self, names: tuple[str, ...]) -> None:
+        """Makes those of these tables that are not there yet, and what views of these names take."""
+        for name in names:
+            if name in self.unmade:
+                self.made.add(name)
+            for statement in self.unmade.pop(name, ()):
+                self.database.execute(statement)
+            if name in self.views:
+                self.make(self.views[name])
+
+    def note(self, effect: Effect, changed: int) -> None:
+        """Takes note of what a statement did."""
+        if effect.does == "view":
+            self.views[effect.to] = tuple(word for word in effect.words if word != effect.to)
+        elif effect.does == "table":
+            self.lacking.add(effect.to)
+        elif effect.does == "make":
+            self.made.add(effect.to)
+            if not self.database.execute(f"SELECT 1 FROM {effect.to} LIMIT 1").fetchone():
+                self.lacking.add(effect.to)
+        elif changed:
+            self.note_rows(effect)
+
+    def note_rows(self, effect: Effect) -> None:
+        if effect.does == "insert":
+            self.lacking.discard(effect.to)
+            if effect.to == "finding":
+                self.note_sections()
+        if ANY_RULE in effect.rules:
+            self.lacking = {name for name in self.lacking if not name.startswith("rule ")}
+        self.lacking.difference_update(f"rule {rule}" for rule in effect.rules)
+
+
+# The statements of which other processes may find rows as soon as the raw tables are there say `-- beside: loading`.
+LOADING = "loading"
+
+
+def name_of(number: int) -> str:
+    """The name by which the rows of a statement are asked for."""
+    return f"statement {number}"
+
+
+def query_of(number: int, statement: Statement) -> Query:
+    return Query(name_of(number), statement.text[statement.query:].rstrip().removesuffix(";"))
+
+
+def begin(database: sqlite3.Connection, finders: Finders) -> None:
+    """Has other processes find what the rules take of the raw tables alone, while the database is filled."""
+    plan = plan_of(FOLDER, run)
+    due = [(number, it) for number, it in enumerate(plan.statements) if it.beside == LOADING]
+    finders.begin([query_of(number, it) for number, it in due], [], numbers_of(database))
+
+
+class Judging:
+    """The rules at work on a database. Some rows come of other processes, if there are `finders`: of statements that
+    say `-- beside: FILE`, from the end of that file on."""
+
+    def __init__(self, database: sqlite3.Connection, plan: Plan, timing: Timing | None, finders: Finders | None):
+        self.database, self.plan, self.timing = database, plan, timing
+        self.finders = finders if plan.empty else None
+        self.numbers = numbers_of(database)
+        self.tables = Tables(database, plan) if plan.empty else None
+
+    def judge(self) -> None:
+        file = ""
+        for number, statement in enumerate(self.plan.statements):
+            if statement.file != file:
+                self.after(file)
+                self.begin(file)
+                file = statement.file
+            if self.tables and self.tables.do_nothing(statement.effect):
+                self.tables.leave(statement.effect, statement.text)
+                continue
+            self.make(statement.effect.words)
+            with self.timing.statement(file, statement.text) if self.timing else contextlib.nullcontext():
+                changed = self.run(number, statement)
+            if self.tables:
+                self.tables.note(statement.effect, changed)
+        self.make(OF_BOOKS)
+
+    def run(self, number: int, statement: Statement) -> int:
+        """Runs a statement, or takes its rows from another process. How many rows it changed, if it changes any."""
+        if not self.finders or not self.finders.has(name_of(number)):
+            return self.database.execute(statement.text, self.numbers).rowcount
+        into = f"INSERT INTO {statement.effect.to} " if statement.effect.does == "make" else \
+            statement.text[:statement.query]
+        with self.finders.found(self.database, name_of(number)):
+            if statement.effect.does == "make":
+                self.database.execute(self.plan.empty[statement.effect.to])
+            return self.database.execute(f"{into}SELECT * FROM found.rows").rowcount
+
+    def begin(self, file: str) -> None:
+        """Has other processes find the rows of statements for which all is there after a file."""
+        if not self.finders or not self.tables or not file:
+            return
+        due = [(number, it) for number, it in enumerate(self.plan.statements)
+               if it.beside == file and not self.tables.do_nothing(it.effect)]
+        if due:
+            self.database.execute("COMMIT")
+            names = {word for _, it in due for word in it.effect.words}
+            given = [self.of_findings(), *(self.given(self.tables, name) for name in self.plan.empty if name in names)]
+            self.finders.begin([query_of(number, it) for number, it in due], given, self.numbers)
+            self.database.execute("BEGIN")
+
+    def of_findings(self) -> Given:
+        """The sections and codes of the findings."""
+        rows = self.database.execute("SELECT DISTINCT section, code FROM finding").fetchall()
+        return Given("CREATE TEMP TABLE finding(section TEXT, code INTEGER)", "finding", rows)
+
+    def given(self, tables: Tables, name: str) -> Given:
+        """A temporary table, as far as it is made."""
+        rows = self.database.execute(f"SELECT * FROM temp.{name}").fetchall() if name in tables.made else []
+        return Given(self.plan.empty[name], name, rows)
+
+    def make(self, names: tuple[str, ...]) -> None:
+        if self.tables:
+            self.tables.make(names)
+
+    def has_rows(self, *names: str) -> bool:
+        return self.tables is None or not self.tables.lacking.issuperset(names)
+
+    def after(self, file: str) -> None:
+        """What follows the statements of a file, and is none of them."""
+        if file == "names.sql":
+            names_of = Names(self.database)
+            self.database.create_function("call_name", 3, names_of.call, deterministic=True)
+            self.database.create_function("short_name", 1, names_of.short.get, deterministic=True)
+        elif file == "rule.sql":
+            self.make(OF_RULES)
+            for table, rows in self.plan.rows.items():
+                insert(self.database, table, rows)
+                self.note_rows(table)
+        elif file == "waits.sql" and self.has_rows(*OF_WAITS):
+            from viewer.rules import waiting
+            self.make(OF_WAITS)
+            waiting.count(self.database, int(THRESHOLDS["POOLS"]))
+            self.note_rows("waited")
+
+    def note_rows(self, table: str) -> None:
+        if self.tables:
+            self.tables.lacking.discard(table)
+
+
+def numbers_of(database: sqlite3.Connection) -> dict[str, float]:
+    """The values of the parameters of statements."""
+    return {**named_numbers(database), **THRESHOLDS, "FIRST_LETTERS": LETTERS.start, "LAST_LETTERS": LETTERS[-1]}
+
+
+def run(database: sqlite3.Connection, plan: Plan, timing: Timing | None = None, finders: Finders | None = None) -> None:
+    """Runs the statements of a plan: all if it does not say which tables they make."""
     for name, function in WORDS.items():
         database.create_function(name, -1, functools.lru_cache(4096)(function), deterministic=True)
     database.create_function("number_in", 3, number_of, deterministic=True)
-    numbers: dict[str, float] = {**named_numbers(database), **THRESHOLDS, "FIRST_LETTERS": LETTERS.start,
-                                 "LAST_LETTERS": LETTERS[-1]}
     for statement in BY_SECTION:
         database.execute(statement)
-    for name in JUDGING:
-        database.execute("BEGIN")
-        for statement in statements_of(folder / name):
-            with timing.statement(name, statement) if timing else contextlib.nullcontext():
-                database.execute(statement, numbers)
-        if name == "rule.sql":
-            fill(database, catalogue_of(folder))
-        if name == "waits.sql":
-            waiting.count(database, int(THRESHOLDS["POOLS"]))
-        database.execute("COMMIT")
-        if name == "names.sql":
-            names_of = Names(database)
-            database.create_function("call_name", 3, names_of.call, deterministic=True)
-            database.create_function("short_name", 1, names_of.short.get, deterministic=True)
+    database.execute("BEGIN")
+    Judging(database, plan, timing, finders).judge()
+    database.execute("COMMIT")
     for statement in NO_LONGER:
         database.execute(statement)
+
+
+def write_plan(path: pathlib.Path) -> None:
+    """Writes the plan of the rules of this folder."""
+    write(plan_in(FOLDER, run), path)
+
+
+def judge(database: sqlite3.Connection, folder: pathlib.Path = FOLDER, timing: Timing | None = None,
+          whole: bool = False, finders: Finders | None = None) -> None:
+    """Gives each finding its verdict; `whole`: also by the statements that find nothing. In the statements `:BR_REPLY`
+    is the number of that name, and `:LONG` a threshold. They make texts by the functions of WORDS, and after names.sql
+    by `call_name(code, upid, ptr)`, the name of a call. `short_name(interface)` is what an interface is called, and
+    `bare_name(interface)` without its package, even if there is another one of that name."""
+    plan = plan_of(folder, run)
+    run(database, plan._replace(empty={}) if whole else plan, timing, finders)

@@ -6,6 +6,7 @@
 -- after: counts.sql
 -- makes: temporary tables: late; indexes: late_frame
 
+-- beside: nodes.sql
 CREATE TEMP TABLE late AS
 SELECT f.seq, f.place FROM capture e JOIN side_time x ON x.ts > e.value JOIN raw_frame f USING (seq)
 WHERE e.key = 'end_ts';

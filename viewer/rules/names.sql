@@ -2,17 +2,20 @@
 -- registered as services.
 -- needs: database/schema.sql: call_interface, method, object_interface, object_service, raw_call, raw_generation,
 --   raw_object, raw_record, raw_thread; database/views.sql: came_to, interface, sent_to, service; nodes.sql: node_of
+-- after: records.sql
 -- makes: temporary tables: naming, told_name, to_manager, is_service, call_named, code_named, object_named,
 --   service_named; indexes: call_named_of, code_named_of, object_named_of, service_named_of
 
 -- How many records of each code and node name an interface; of a handle whose node is not known, its process with a
 -- minus in place of the node's, and the handle in place of its ptr. The driver knows a node of a process by its ptr.
 -- A code of NULL: the reply to _NTF names the interface of the node that was asked.
+-- beside: nodes.sql
 CREATE TEMP TABLE naming AS
 SELECT code, upid, ptr, interface, count(*) AS n
 FROM (SELECT code, upid, ptr, interface FROM came_to WHERE interface NOTNULL
   UNION ALL SELECT code, upid, ptr, interface FROM sent_to WHERE interface NOTNULL)
 WHERE EXISTS (SELECT 1 FROM interface) GROUP BY 1, 2, 3, 4;
+-- beside: loading
 CREATE TEMP TABLE told_name AS
 SELECT r.place, b.interface FROM raw_record r JOIN raw_call c USING (place) JOIN raw_record b ON b.place = c.closer
 WHERE r.code = :_NTF AND b.interface NOTNULL AND EXISTS (SELECT 1 FROM interface);
@@ -42,6 +45,7 @@ WHERE nth = 1;
 
 -- What is sent to the manager of names about a service, and how many objects of processes it has. In HIDL a name is
 -- where an object points, so that only the code tells `add` and `addWithChain`.
+-- beside: nodes.sql
 CREATE TEMP TABLE to_manager AS
 SELECT r.place, r.service, t.upid, r.data_size, length(v.name) AS letters, c.verdict, c.closer,
   (SELECT count(*) FROM raw_object o WHERE o.place = r.place AND o.sort IN (:BINDER, :WEAK_BINDER, :HANDLE)) AS objects

@@ -1,12 +1,11 @@
 -- Which node each generation of a handle leads to: who talks to whom.
--- needs: database/schema.sql: book_handle, raw_call, raw_delivery, raw_generation, raw_object, raw_process, raw_record,
---   raw_send, raw_thread, side_device; database/views.sql: device, process
--- makes: tables: who, peer, node_of; temporary tables: handed, passed_on, manager; indexes: call_of_thread,
---   object_of_record, send_refused, generation_of_handle, passed_on_from, node_of_object
+-- needs: database/schema.sql: book_handle, raw_delivery, raw_generation, raw_object, raw_process, raw_record, raw_send,
+--   raw_thread, side_device; database/views.sql: device, process
+-- makes: tables: who, peer, node_of; temporary tables: handed, passed_on, manager; indexes: object_of_record,
+--   send_refused, generation_of_handle, passed_on_from, node_of_object
 
 -- ---- indexes: a query below, or one of the page, was slow without them
 
-CREATE INDEX call_of_thread ON raw_call(utid, place);
 CREATE INDEX object_of_record ON raw_object(place, idx);
 CREATE INDEX send_refused ON raw_send(refused) WHERE refused IS NOT NULL;
 CREATE INDEX generation_of_handle ON raw_generation(upid, handle, begin);
@@ -25,6 +24,7 @@ FROM process p LEFT JOIN side_device d USING (device);
 CREATE TABLE peer(generation INTEGER NOT NULL, node_upid INTEGER NOT NULL, ptr INTEGER NOT NULL,
   cookie INTEGER NOT NULL, deliveries INTEGER NOT NULL, certain INTEGER NOT NULL,
   PRIMARY KEY(generation, node_upid, ptr, cookie)) STRICT;
+-- beside: loading
 INSERT INTO peer
 SELECT s.generation, t.upid, r.ptr, r.cookie, count(*), sum(s.certain)
 FROM raw_send s JOIN raw_record r ON r.place = s.delivery JOIN raw_thread t ON t.utid = r.utid

@@ -3,15 +3,18 @@
 -- needs: database/schema.sql: finding, raw_call, raw_delivery, raw_record, raw_send, raw_thread, side_time;
 --   database/views.sql: sent_to; nodes.sql: node_of; ages.sql: last, life; rule.sql: lossy; waits.sql: queued;
 --   judging.py: call_name
--- makes: temporary tables: long_wait, looper_says, pool_looper, busy, full_wait, full_time, kept_by, kept_by_method,
---   kept_for; indexes: pool_looper_of, busy_at, full_wait_of
+-- makes: temporary tables: served_late, long_wait, looper_says, pool_looper, busy, full_wait, full_time, kept_by,
+--   kept_by_method, kept_for; indexes: pool_looper_of, busy_at, full_wait_of
 
 -- The calls that waited over :VERY_LONG, from the send to the delivery to a thread that was in no call, or to the end.
-CREATE TEMP TABLE long_wait AS
+-- beside: loading
+CREATE TEMP TABLE served_late AS
 SELECT s.place, s.utid, t.upid AS server, x.ts AS since, y.ts AS until
 FROM raw_call v JOIN raw_delivery d USING (place) JOIN raw_send s ON s.place = d.send
   JOIN raw_thread t ON t.utid = v.utid JOIN side_time x ON x.seq = s.seq JOIN side_time y ON y.seq = v.seq
-WHERE v.served AND v.depth = 1 AND s.certain AND y.ts - x.ts > :VERY_LONG AND t.upid NOT IN (SELECT upid FROM lossy)
+WHERE v.served AND v.depth = 1 AND s.certain AND y.ts - x.ts > :VERY_LONG;
+CREATE TEMP TABLE long_wait AS
+SELECT place, utid, server, since, until FROM served_late WHERE server NOT IN (SELECT upid FROM lossy)
 UNION ALL SELECT f.place, f.utid, q.upid, x.ts, x.ts + f.age
 FROM queued q JOIN waits w USING (id) JOIN finding f USING (id) JOIN side_time x USING (seq)
 WHERE f.age > :VERY_LONG AND q.upid NOT IN (SELECT upid FROM lossy);

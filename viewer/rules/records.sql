@@ -3,8 +3,12 @@
 -- needs: database/schema.sql: book_open, finding, raw_call, raw_delivery, raw_generation, raw_record, raw_send,
 --   raw_thread, report; database/views.sql: delivery, status; nodes.sql: node_of
 -- after: freeze_facts.sql
--- makes: temporary tables: to_frozen, from_before, dead_record, told_death, asked; indexes: to_frozen_place,
---   dead_cookie, dead_handle, dead_place, told_generation, asked_node
+-- makes: temporary tables: to_frozen, from_before, dead_record, told_death, asked; indexes: call_of_thread,
+--   to_frozen_place, dead_cookie, dead_handle, told_generation, asked_node
+
+-- The calls of a thread, for statements here and later. To sort all calls takes long, so it is done here, while other
+-- processes find what they can since nodes.sql.
+CREATE INDEX call_of_thread ON raw_call(utid, place);
 
 -- ---- findings that are not rows of the report
 
@@ -42,7 +46,9 @@ SELECT id, 'books', 'open', upid, utid, code, server, ptr, cookie FROM from_befo
 
 -- ---- what each finding is about
 
-CREATE TEMP TABLE dead_record AS
+CREATE TEMP TABLE dead_record(place INTEGER PRIMARY KEY, upid INTEGER, utid INTEGER, kind INTEGER, handle INTEGER,
+  cookie INTEGER);
+INSERT INTO dead_record
 SELECT r.place, t.upid, r.utid, r.kind, r.handle, r.cookie
 FROM (SELECT 1 FROM report WHERE section = 'codes' AND text GLOB '*DEA[TD]*' LIMIT 1)
   CROSS JOIN raw_record r JOIN raw_thread t USING (utid)
@@ -50,7 +56,6 @@ WHERE r.kind IN (:BC_REQUEST_DEATH_NOTIFICATION, :BC_CLEAR_DEATH_NOTIFICATION, :
   :BR_CLEAR_DEATH_NOTIFICATION_DONE);
 CREATE INDEX temp.dead_cookie ON dead_record(upid, cookie, kind, place);
 CREATE INDEX temp.dead_handle ON dead_record(upid, handle, kind, place);
-CREATE UNIQUE INDEX temp.dead_place ON dead_record(place);
 -- The deaths that were reported to a process, each with the generation that the latest request with its cookie names.
 CREATE TEMP TABLE told_death AS
 SELECT d.place, d.upid, d.cookie, q.handle, (SELECT g.id FROM raw_generation g WHERE g.upid = q.upid
@@ -65,6 +70,7 @@ UPDATE finding SET generation = g.id, place = coalesce(g.held_since, g.given_by,
 WHERE section = 'handles' AND g.id = (SELECT x.id FROM raw_generation x WHERE x.upid = finding.upid
   AND x.handle = finding.handle ORDER BY x.begin DESC LIMIT 1);
 -- For a node: the last record by which the driver asks for a reference to it.
+-- beside: nodes.sql
 CREATE TEMP TABLE asked AS
 SELECT t.upid, r.ptr, r.cookie, max(r.place) AS place FROM raw_record r JOIN raw_thread t USING (utid)
 WHERE r.kind IN (:BR_INCREFS, :BR_ACQUIRE) AND EXISTS (SELECT 1 FROM finding WHERE section = 'nodes') GROUP BY 1, 2, 3;

@@ -1,12 +1,10 @@
 """The rows of which a timeline is made, in the order of the capture."""
 
 import operator
-import pathlib
-import sqlite3
 from typing import Iterator
 
-from viewer.database.sqlite import named_numbers
-from viewer.timeline.piped import Send
+from viewer.database.sqlite import named_numbers, open_beside
+from viewer.piped import Send
 
 # What a row is about, and its order among rows of one place. A mark is no row of the database.
 MARK, SEND, DELIVERY, RECORD, FINDING = range(5)
@@ -63,17 +61,9 @@ class Ahead:
             self.next = next(self.rows, None)
 
 
-def opened(path: str) -> sqlite3.Connection:
-    """The database for one more process. Nobody writes to it meanwhile, and it is locked. Sorting goes to the disk."""
-    database = sqlite3.connect(f"{pathlib.Path(path).as_uri()}?immutable=1", uri=True)
-    for setting in ("cache_size=-16384", "temp_store=FILE"):
-        database.execute(f"PRAGMA {setting}")
-    return database
-
-
 def read(path: str, send: Send) -> None:
     """Reads the rows from the database and sends them, stretch after stretch."""
-    database = opened(path)
+    database = open_beside(path)
     numbers = named_numbers(database)
     findings = Ahead(database.execute(FINDINGS, {"what": FINDING}))
     last, = database.execute("SELECT coalesce(max(place), 0) FROM raw_record").fetchone()

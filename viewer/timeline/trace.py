@@ -13,7 +13,7 @@ from viewer.timeline.events import Drawn, Events
 from viewer.timeline.json_events import JsonEvents
 from viewer.timeline.packed import File
 from viewer.timeline.packets import Packets, compressed
-from viewer.timeline.piped import Piped
+from viewer.piped import Piped
 from viewer.timeline.rows import read
 from viewer.timeline.suffixes import NATIVE
 from viewer.timeline.tracks import Axis, Tracks, Window

@@ -25,6 +25,7 @@ def run(make: Callable[[Send], None], into: int) -> NoReturn:
             def send(made: list[tuple]) -> None:
                 data = marshal.dumps(made, WITHOUT_REFERENCES)
                 pipe.write(len(data).to_bytes(LENGTH_BYTES, "little") + data)
+                pipe.flush()
             make(send)
             pipe.write(bytes(LENGTH_BYTES))
     except (sqlite3.Error, OSError):
@@ -51,9 +52,9 @@ class Piped:
         return self.received()
 
     def __exit__(self, *_: object) -> None:
-        self.pipe.close()
         os.kill(self.maker, signal.SIGKILL)
         os.waitpid(self.maker, 0)
+        self.pipe.close()
 
     def received(self) -> Iterator[list[tuple]]:
         """The lists. If the last one does not come, the other process met an error, or was killed."""

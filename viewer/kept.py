@@ -1,0 +1,36 @@
+"""Files that are made of sources and kept, since to make them takes longer than a small capture: in a folder `out`
+beside the sources. In the repository they are made anew when a source is newer; a package has them."""
+
+import os
+import pathlib
+from typing import Callable, Iterator
+
+from viewer.program_names import PACKED
+
+
+def times_of(folders: tuple[pathlib.Path, ...]) -> Iterator[float]:
+    """When sources were changed, and their folders: only these show that a file is gone."""
+    for folder in folders:
+        yield folder.stat().st_mtime
+        with os.scandir(folder) as entries:
+            yield from (entry.stat().st_mtime for entry in entries if entry.name.endswith((".sql", ".py")))
+
+
+def is_fresh(path: pathlib.Path, folders: tuple[pathlib.Path, ...]) -> bool:
+    """Whether the file is there, and none of its sources is newer."""
+    try:
+        return path.stat().st_mtime >= max(times_of(folders))
+    except OSError:
+        return False
+
+
+def kept(name: str, folders: tuple[pathlib.Path, ...], write: Callable[[pathlib.Path], None]) -> pathlib.Path:
+    """The file of this name, which is made of the sources in these folders and kept in the first. If it is missing or
+    older than a source, `write` makes it."""
+    path = folders[0] / "out" / name
+    if not PACKED and not is_fresh(path, folders):
+        path.parent.mkdir(exist_ok=True)
+        new = path.with_name(f"{name}.{os.getpid()}")
+        write(new)
+        new.replace(path)
+    return path
