@@ -70,14 +70,25 @@ class Counted(NamedTuple):
         return sum((digit & captures).bit_count() << at for at, digit in enumerate(self.digits))
 
 
+def mask_of(places: list[int]) -> int:
+    """A mask with these bits. It is made of a text, since each bit more in a number takes time for all of them."""
+    bits = bytearray(b"0") * (max(places, default=0) + 1)
+    for place in places:
+        bits[-1 - place] = ord("1")
+    return int(bits, 2)
+
+
 def counted(numbers: Iterable[tuple[int, int]]) -> Counted:
     """The number of each capture, by its place."""
-    digits: list[int] = []
+    alike: dict[int, list[int]] = {}
     for place, number in numbers:
+        alike.setdefault(number, []).append(place)
+    digits = [0] * max(map(int.bit_length, alike), default=0)
+    for number, places in alike.items():
+        captures = mask_of(places)
         for at in range(number.bit_length()):
-            if at == len(digits):
-                digits.append(0)
-            digits[at] |= (number >> at & 1) << place
+            if number >> at & 1:
+                digits[at] |= captures
     return Counted(digits)
 
 

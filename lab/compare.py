@@ -1,6 +1,7 @@
 """Builds of a lab compared: which defects are new, worse, grown or gone in one since others, on enough devices and in
 enough captures to say so."""
 
+import functools
 import json
 import math
 import pathlib
@@ -144,8 +145,8 @@ class Sides:
         seconds = [max(1, round(one.seconds or 0)) if self.timed else 1 for one in self.captures.values()]
         self.seconds_old, self.seconds_new = sum(seconds[:self.old]), sum(seconds[self.old:])
         self.orders = chance.Orders(seconds, self.new)
+        self.found = self.all_found()
         self.met = {who for who, in self.rows("met.sql")}
-        self.called = set(self.rows("called.sql"))
 
     def refuse_side_lists_of_one(self) -> None:
         """Without times and names, defects have other keys and verdicts."""
@@ -155,22 +156,24 @@ class Sides:
             raise Stopped(1, f"only captures of the {'new' if having[True] else 'old'} side have side lists: keys and"
                              " verdicts differ without them")
 
-    def rows(self, query: str) -> Iterator[tuple]:
+    def rows(self, query: str, **more: str) -> Iterator[tuple]:
         text = (FOLDER / "compared" / query).read_text("utf-8")
-        return self.lab.execute(text, self.names)  # type: ignore[return-value]
+        return self.lab.execute(text, {**self.names, **more})  # type: ignore[return-value]
 
-    def found(self) -> dict[tuple, list[Found]]:
-        """What each defect is found in."""
-        found: dict[tuple, list[Found]] = {}
-        for key, kind, who, path, call, *one in self.rows("found.sql"):
-            found.setdefault((key, kind, who, path, call), []).append(Found(*one))
-        return found
+    def all_found(self) -> dict[tuple, list[Found]]:
+        """What each defect is found in, by its key, kind, process, path and call."""
+        found: dict[bytes, list[Found]] = {}
+        for key, *one in self.rows("found.sql"):
+            found.setdefault(key, []).append(Found(*one))
+        defects = self.lab.execute("SELECT CAST(id AS BLOB), id, kind, who, path, call FROM defect ORDER BY id")
+        return {tuple(defect): found[key] for key, *defect in defects if key in found}
 
     def seen(self, found: list[Found], is_new: bool) -> Seen:
         """What one side has of a defect that is found in these captures."""
-        own = [one for one in found if self.captures[one.capture].is_new == is_new]
+        captures = self.captures
+        own = [one for one in found if captures[one.capture].is_new == is_new]
         real = [one for one in own if one.is_real]
-        devices, real_devices = ({self.captures[one.capture].device for one in some} for some in (own, real))
+        devices, real_devices = ({captures[one.capture].device for one in some} for some in (own, real))
         return Seen(len(own), len(real), len(devices), len(real_devices), {one.capture: one.n for one in own})
 
     def rate(self, seen: Seen, is_new: bool) -> chance.Interval | None:
@@ -179,6 +182,12 @@ class Sides:
             return None
         side = [(number, one.seconds or 0) for number, one in self.captures.items() if one.is_new == is_new]
         return chance.rate_of([seen.n.get(number, 0) for number, _ in side], [seconds for _, seconds in side])
+
+    @functools.cached_property
+    def called(self) -> set[tuple[str, str]]:
+        """Who makes or gets which of the calls of the defects in the new build."""
+        calls = json.dumps(sorted({call for *_, call in self.found if call is not None}))
+        return {(who, call) for *both, call in self.rows("called.sql", calls=calls) for who in both}
 
     def could_come(self, who: str, call: str | None) -> bool:
         """Whether the new build could have a defect: its process is there, and makes or gets the call."""
@@ -200,7 +209,7 @@ class Comparison:
         self.devices_before = len({one.device for one in self.sides.captures.values() if not one.is_new})
         self.devices_now = self.builds[-1].devices
         self.enough_before, self.enough_now = enough.of(self.devices_before), enough.of(self.devices_now)
-        self.rows = self.tested(self.sides.found())
+        self.rows = self.tested(self.sides.found)
         self.limit = chance.limit((p for row in self.rows for p in row.tests), self.rate)
         self.whats = {row.key: self.what(row) for row in self.rows}
 
@@ -261,8 +270,7 @@ class Comparison:
         before, now = row.before, row.now
         if self.is_past(row.key) and now.devices >= self.enough_now:
             return BACK
-        could_come = bool(now.captures) or self.sides.could_come(row.who, row.call)
-        if not could_come and before.devices >= self.enough_before:
+        if not now.captures and before.devices >= self.enough_before and not self.sides.could_come(row.who, row.call):
             return NOT_MET
         if not self.tells(row.p):
             return SAME

@@ -6,7 +6,8 @@ has the names of its columns once, and rows without names. This is form 2; in fi
 
 import math
 import re
-from typing import Callable, NamedTuple
+from types import NoneType
+from typing import Callable, Collection, NamedTuple, Sequence
 
 from viewer.defects.seen import RANKS
 
@@ -18,6 +19,25 @@ class Kind(NamedTuple):
     fits: Callable[[object], bool]
     types: tuple[str, ...]
     may_lack: bool = False
+
+    def takes(self, value: object) -> bool:
+        return value is None and self.may_lack or self.fits(value)
+
+    def takes_all(self, values: Sequence[object]) -> bool:
+        """Whether all are such values. Each is looked at once, however often it is there."""
+        types = {*map(type, values)} - {NoneType}
+        if len(types) > 1:  # values of several types can be equal, as 1 and true are
+            return all(map(self.takes, values))
+        try:
+            return all(map(self.takes, ends_of({*values}) if types == {int} else {*values}))
+        except TypeError:  # a list, or an object
+            return False
+
+
+def ends_of(numbers: set) -> set:
+    """The least and the largest number, and None if that is there: if both are of a kind, so are those between."""
+    whole = numbers - {None}
+    return numbers & {None} | {min(whole), max(whole)}
 
 
 def is_text(value: object) -> bool:
@@ -76,10 +96,9 @@ def wrong_in(where: str, given: object, form: dict[str, Kind]) -> str | None:
     """What is wrong with an object of a result, if something is."""
     if not isinstance(given, dict):
         return f"{where} is no object"
-    for name, (what, fits, _, may_lack) in form.items():
-        value = given.get(name)
-        if not (value is None and may_lack or fits(value)):
-            return f"{where}.{name} is not {what}"
+    for name, kind in form.items():
+        if not kind.takes(given.get(name)):
+            return f"{where}.{name} is not {kind.what}"
     return None
 
 
@@ -90,13 +109,13 @@ def wrong_rows(name: str, given: object) -> str | None:
     return next(filter(None, (wrong_in(f"{name}[{at}]", row, ROWS[name]) for at, row in enumerate(given))), None)
 
 
-def wrong(result: object) -> str | None:
-    """What is wrong with the form of a result; None if nothing is."""
+def wrong(result: object, right: Collection[str] = ()) -> str | None:
+    """What is wrong with the form of a result; None if nothing is. The lists `right` are known to be right."""
     if not isinstance(result, dict):
         return "it is no object"
     why = wrong_in("capture", result.get("capture"), CAPTURE)
     for name in ROWS:
-        why = why or wrong_rows(name, result.get(name))
+        why = why or (None if name in right else wrong_rows(name, result.get(name)))
     if why is None and len({row["key"] for row in result["found"]}) < len(result["found"]):
         return "found has a key twice"
     return why
@@ -130,8 +149,9 @@ class Unfolding:
 
     def __init__(self, given: dict):
         names = given.get("names")
-        self.names = names if isinstance(names, list) else []
+        self.names: dict[object, object] = dict(enumerate(names)) if isinstance(names, list) else {}
         self.why = None if isinstance(names, list) else "names is no list"
+        self.right: set[str] = set()
         self.result = {"capture": given.get("capture"), **{name: self.rows(name, given.get(name)) for name in ROWS}}
 
     def rows(self, name: str, given: object) -> list[dict]:
@@ -143,18 +163,21 @@ class Unfolding:
             self.why = self.why or f"{name}.rows[{others[0]}] is no row of {len(columns)} values"
         if self.why:
             return []
-        known = [(at, column, is_named(kind)) for at, column in enumerate(columns)
-                 if (kind := ROWS[name].get(column)) is not None]
-        return [{column: self.named(name, at, column, row[place]) if named else row[place]
-                 for place, column, named in known} for at, row in enumerate(rows)]
+        there: dict[str, Sequence[object]] = {
+            column: self.named(f"{name}.rows", column, values) if is_named(ROWS[name][column]) else values
+            for column, values in zip(columns, zip(*rows)) if column in ROWS[name]}
+        if all(kind.takes_all(there.get(column, (None,))) for column, kind in ROWS[name].items()):
+            self.right.add(name)
+        return [dict(zip(there, row)) for row in zip(*there.values())]
 
-    def named(self, name: str, at: int, column: str, value: object) -> str | None:
-        """The text of which a row has the place."""
-        if type(value) is int and 0 <= value < len(self.names):
-            return self.names[value]
-        if value is not None:
-            self.why = self.why or f"{name}.rows[{at}].{column} is no place in names"
-        return None
+    def named(self, where: str, column: str, places: Sequence[object]) -> Sequence[object]:
+        """The texts of which the rows have the places in a column."""
+        if {*map(type, places)} <= {int, NoneType} and {*places} - {None} <= self.names.keys():
+            return [*map(self.names.get, places)]
+        at = next(at for at, place in enumerate(places)
+                  if place is not None and (type(place) is not int or place not in self.names))
+        self.why = self.why or f"{where}[{at}].{column} is no place in names"
+        return [None] * len(places)
 
 
 def unfolded(given: object) -> tuple[dict, str | None]:
@@ -167,4 +190,4 @@ def unfolded(given: object) -> tuple[dict, str | None]:
     if form != FORM:
         return {}, f"it is of form {form!a}, and not of form {FORM} or before"
     unfolding = Unfolding(given)
-    return unfolding.result, unfolding.why or wrong(unfolding.result)
+    return unfolding.result, unfolding.why or wrong(unfolding.result, unfolding.right)

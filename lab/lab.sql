@@ -17,6 +17,8 @@ CREATE TABLE IF NOT EXISTS talk(capture INTEGER NOT NULL, caller TEXT, server TE
   buffers INTEGER, longest INTEGER);
 CREATE TABLE IF NOT EXISTS held(capture INTEGER NOT NULL, process TEXT, buffers INTEGER, buffers_most INTEGER,
   bytes INTEGER, bytes_most INTEGER, refs INTEGER, refs_most INTEGER, calls_most INTEGER);
+CREATE TABLE IF NOT EXISTS loaded(text BLOB PRIMARY KEY, digest TEXT NOT NULL, build TEXT NOT NULL,
+  device TEXT NOT NULL, made REAL NOT NULL, failed INTEGER NOT NULL) WITHOUT ROWID;
 CREATE INDEX IF NOT EXISTS found_of_defect ON found(defect);
 CREATE INDEX IF NOT EXISTS talk_of_capture ON talk(capture);
 CREATE INDEX IF NOT EXISTS held_of_capture ON held(capture);

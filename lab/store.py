@@ -2,12 +2,13 @@
 
 import contextlib
 import functools
+import hashlib
 import json
 import os
 import pathlib
 import sqlite3
 import time
-from typing import Iterator
+from typing import Iterator, NamedTuple
 
 from lab.form import CAPTURE, ROWS, Kind, unfolded
 from lab.result import LARGEST
@@ -109,16 +110,30 @@ def open_lab(path: str, may_make: bool = False) -> sqlite3.Connection:
     return lab
 
 
-def is_better(new: dict, failed: object, made: float) -> bool:
-    """Whether a result takes the place of another one of its capture: one that did not fail comes first, then the later
-    one. So the order in which both are loaded does not matter."""
-    return (new.get("failed") is None, new["made"]) > (failed is None, made)
+class Made(NamedTuple):
+    """A result: when it was made, whether that failed, and of which build and device its capture is."""
+    made: float
+    failed: int
+    build: str
+    device: str
+
+    def is_better(self, other: "Made") -> bool:
+        """Whether it takes the place of another one of its capture: one that did not fail comes first, then the later
+        one. So the order in which both are loaded does not matter."""
+        return (not self.failed, self.made) > (not other.failed, other.made)
+
+    def is_of(self, other: "Made") -> bool:
+        return (self.build, self.device) == (other.build, other.device)
 
 
-def elsewhere(lab: sqlite3.Connection, capture: dict) -> tuple[str, str] | None:
-    """The build and the device of which the lab has the same capture, if they are others."""
-    there = lab.execute("SELECT build, device FROM capture WHERE digest = ?", (capture["digest"],)).fetchone()
-    return there if there and there != (capture["build"], capture["device"]) else None
+def made_of(capture: dict) -> Made:
+    return Made(capture["made"], int(capture.get("failed") is not None), capture["build"], capture["device"])
+
+
+def there(lab: sqlite3.Connection, digest: str) -> Made | None:
+    """The result that the lab has of a capture."""
+    row = lab.execute("SELECT made, failed NOTNULL, build, device FROM capture WHERE digest = ?", (digest,)).fetchone()
+    return row and Made(*row)
 
 
 @functools.cache
@@ -134,22 +149,18 @@ def insert(lab: sqlite3.Connection, table: str, given: list[dict], how: str = "I
     lab.executemany(insertion(table, how, tuple(more)), ([*map(row.get, names), *others] for row in given))
 
 
-def put(lab: sqlite3.Connection, result: dict) -> bool:
-    """Puts a result into the lab. Returns whether it was not there already, or is better than what was."""
-    capture = result["capture"]
-    before = lab.execute("SELECT id, failed, made FROM capture WHERE digest = ?", (capture["digest"],)).fetchone()
-    if before and not is_better(capture, *before[1:]):
-        return False
-    if before:
+def put(lab: sqlite3.Connection, result: dict) -> None:
+    """Puts a result into the lab, in the place of another one of its capture."""
+    digest = result["capture"]["digest"]
+    for before in lab.execute("SELECT id FROM capture WHERE digest = ?", (digest,)).fetchall():
         for table in ("found", "talk", "held"):
-            lab.execute(f"DELETE FROM {table} WHERE capture = ?", before[:1])
-        lab.execute("DELETE FROM capture WHERE id = ?", before[:1])
-    insert(lab, "capture", [capture])
-    number, = lab.execute("SELECT id FROM capture WHERE digest = ?", (capture["digest"],)).fetchone()
+            lab.execute(f"DELETE FROM {table} WHERE capture = ?", before)
+        lab.execute("DELETE FROM capture WHERE id = ?", before)
+    insert(lab, "capture", [result["capture"]])
+    number, = lab.execute("SELECT id FROM capture WHERE digest = ?", (digest,)).fetchone()
     insert(lab, "defect", result["found"], "INSERT OR IGNORE")
     for table in ("found", "talk", "held"):
         insert(lab, table, result[table], capture=number)
-    return True
 
 
 def text_in(path: pathlib.Path) -> bytes:
@@ -166,9 +177,8 @@ def text_in(path: pathlib.Path) -> bytes:
     return text
 
 
-def read(path: pathlib.Path) -> dict:
-    """A result."""
-    text = text_in(path)
+def read(path: pathlib.Path, text: bytes) -> dict:
+    """The result that a file has."""
     try:
         result, why = unfolded(json.loads(text.decode("utf-8")))
     except (ValueError, RecursionError) as error:
@@ -189,26 +199,69 @@ def results_in(paths: list[str], unread: list[str]) -> Iterator[pathlib.Path]:
         yield from map(pathlib.Path, sorted(found))
 
 
-def load(lab: sqlite3.Connection, paths: list[str]) -> tuple[int, int, list[str], list[str]]:
-    """Loads results, some at a time. Returns how many were added, how many were there already, what is wrong with the
-    others, and which of the loaded ones are of a capture that the lab had as one of another build or device."""
-    added = there = 0
-    unread: list[str] = []
-    moved: list[str] = []
-    files = list(results_in(paths, unread))
+# What a lab knows of the text of a result. A lab may come from anywhere, and two times are compared.
+KNOWN = "SELECT digest, made, failed, build, device FROM loaded WHERE text = ? AND typeof(made) IN ('real', 'integer')"
+
+
+class Given(NamedTuple):
+    """A result that is to be loaded: its file, the digest of its text and of its capture. `result` is None if the lab
+    knows the text, which then need not be read."""
+    path: pathlib.Path
+    text: bytes
+    digest: str
+    made: Made
+    result: dict | None
+
+
+def given_by(lab: sqlite3.Connection, path: pathlib.Path) -> Given:
+    text = text_in(path)
+    name = hashlib.blake2b(text, digest_size=16).digest()
+    known = lab.execute(KNOWN, (name,)).fetchone()
+    if known:
+        digest, made = known[0], Made(*known[1:])
+        has = there(lab, digest)
+        if has is not None and not made.is_better(has):
+            return Given(path, name, digest, made, None)
+    result = read(path, text)
+    return Given(path, name, result["capture"]["digest"], made_of(result["capture"]), result)
+
+
+class Loaded:
+    """What was done with results: how many were added, how many were there already, what is wrong with others, and
+    which are of a capture that the lab had as one of another build or device."""
+
+    def __init__(self) -> None:
+        self.added = self.there = 0
+        self.unread: list[str] = []
+        self.moved: list[str] = []
+
+    def take(self, lab: sqlite3.Connection, one: Given) -> None:
+        """Loads a result, if the lab has no better one of its capture."""
+        has = there(lab, one.digest)
+        if has is not None and not one.made.is_of(has):
+            self.moved.append(f"{one.path} (build {has.build}, device {has.device})")
+        is_new = one.result is not None and (has is None or one.made.is_better(has))
+        self.added, self.there = self.added + is_new, self.there + (not is_new)
+        if one.result is not None:
+            if is_new:
+                put(lab, one.result)
+            lab.execute("INSERT OR REPLACE INTO loaded(text, digest, made, failed, build, device)"
+                        " VALUES (?, ?, ?, ?, ?, ?)", (one.text, one.digest, *one.made))
+
+
+def load(lab: sqlite3.Connection, paths: list[str]) -> Loaded:
+    """Loads results, some at a time."""
+    loaded = Loaded()
+    files = list(results_in(paths, loaded.unread))
     for begin in range(0, len(files), AT_A_TIME):
         some = []
         for path in files[begin:begin + AT_A_TIME]:
             try:
-                some.append((path, read(path)))
+                some.append(given_by(lab, path))
             except Stopped as stopped:
-                unread.append(str(stopped))
+                loaded.unread.append(str(stopped))
         lab.execute("BEGIN IMMEDIATE")
-        new = 0
-        for path, result in some:
-            if of := elsewhere(lab, result["capture"]):
-                moved.append(f"{path} (build {of[0]}, device {of[1]})")
-            new += put(lab, result)
+        for one in some:
+            loaded.take(lab, one)
         lab.execute("COMMIT")
-        added, there = added + new, there + len(some) - new
-    return added, there, unread, moved
+    return loaded

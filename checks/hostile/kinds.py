@@ -49,7 +49,8 @@ def stock_of(player: Player, room: pathlib.Path) -> Stock:
     for number, name in enumerate(("leaks", "hello-sessions", "twice")):
         words = str(DRIVER / name / "capture-1.cap"), "--side", str(DRIVER / name / "capture.side")
         player.play(Play("./fleet", ("one", *words, "--build", "b1", "--device", "d1", "-o", f"{name}.json")), room)
-        made.append(store.read(room / f"{name}.json"))
+        text = (room / f"{name}.json").read_bytes()
+        made.append(store.read(room / f"{name}.json", text))
         if not number:
             player.play(Play("./view", (*words, "--groups", "--database", "kept.db")), room)
     player.play(Play("./fleet", ("load", "lab.db", *(f"{name}.json" for name in ("leaks", "twice")))), room)

@@ -337,6 +337,11 @@ def check_better(folder: pathlib.Path, room: pathlib.Path, of: dict[str, dict], 
         database = sqlite3.connect(lab)
         compare(f"results of one capture, {order}", [database.execute("SELECT build FROM capture").fetchall(), database
                 .execute("SELECT count(DISTINCT capture) FROM found").fetchone()], [[("later",)], (1,)], fail)
+    with contextlib.closing(sqlite3.connect(lab, isolation_level=None)) as database:
+        for table in ("capture", "found", "talk", "held"):
+            database.execute(f"DELETE FROM {table}")
+    compare("a capture that was taken out of the lab", fleet(folder, "load", lab, room / "better-0.json")[:2],
+            (0, "1 added, 0 there already\n"), fail)
     (room / "no.json").write_text("{}", "utf-8")
     status, out, told = fleet(folder, "load", room / "lab.db", room / "no.json")
     compare("what is no result", (status, out, told.count("\n")), (4, "0 added, 0 there already\n", 1), fail)
