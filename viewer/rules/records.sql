@@ -3,8 +3,8 @@
 -- needs: database/schema.sql: book_open, finding, raw_call, raw_delivery, raw_generation, raw_record, raw_send,
 --   raw_thread, report; database/views.sql: delivery, status; nodes.sql: node_of
 -- after: freeze_facts.sql
--- makes: temporary tables: to_frozen, from_before, dead_record, told_death, asked; indexes: call_of_thread,
---   to_frozen_place, dead_cookie, dead_handle, told_generation, asked_node
+-- makes: temporary tables: to_frozen, from_before, dead_record, told_death, asked, replied; indexes: call_of_thread,
+--   to_frozen_place, dead_cookie, dead_handle, told_generation, asked_node, replied_by
 
 -- The calls of a thread, for statements here and later. To sort all calls takes long, so it is done here, while other
 -- processes find what they can since nodes.sql.
@@ -93,8 +93,12 @@ WHERE d.place = finding.place AND section = 'buffers';
 UPDATE finding SET ptr = r.ptr, cookie = r.cookie FROM raw_record r
 WHERE r.place = finding.place AND section = 'served';
 -- A reply has no code of its own: it is about the served call that it closes.
-UPDATE finding SET code = r.code, ptr = r.ptr, cookie = r.cookie FROM raw_call c JOIN raw_record r ON r.place = c.place
-WHERE c.served AND c.closer = finding.place AND section = 'objects' AND c.utid = finding.utid;
+CREATE TEMP TABLE replied AS
+SELECT place, closer FROM raw_call
+WHERE served AND closer IN (SELECT place FROM finding WHERE section = 'objects');
+CREATE INDEX temp.replied_by ON replied(closer);
+UPDATE finding SET code = r.code, ptr = r.ptr, cookie = r.cookie FROM replied c JOIN raw_record r USING (place)
+WHERE section = 'objects' AND c.closer = finding.place;
 UPDATE finding SET cookie = d.cookie, handle = coalesce(d.handle, finding.handle) FROM dead_record d
 WHERE d.place = finding.place AND section IN ('requests', 'deaths', 'clears');
 UPDATE finding SET handle = t.handle, generation = t.generation FROM told_death t
