@@ -1,10 +1,11 @@
 #!/usr/bin/env bash
 # Builds the recorder into a folder, as a static program `record`.
 #
-#     recorder/build.sh [--sanitize] [--strip] [--machine MACHINE] FOLDER
+#     recorder/build.sh [--sanitize] [--strip] [--by-helper] [--machine MACHINE] FOLDER
 #
 # With --sanitize the program is dynamic, and runs under the address and undefined-behaviour sanitizers, which end it at
-# a fault. With --strip it has no symbols. MACHINE is x86_64 or aarch64; by default it is this machine. CC names the
+# a fault. With --strip it has no symbols. With --by-helper there is also `by_helper.bpf.o`, for a check: the programs for
+# newer kernels, as they are verified with the BTF of another kernel (task.bpf.h). MACHINE is x86_64 or aarch64; by default it is this machine. CC names the
 # compiler; by default it is gcc, and for another machine the one of Debian, or for arm64 what CC_FOR_ARM64 names.
 # packager/needs says what else the build needs.
 set -euo pipefail
@@ -12,7 +13,7 @@ set -euo pipefail
 here=$(dirname -- "$(readlink -f -- "${BASH_SOURCE[0]}")")
 link=(-static)
 flags=(-O2)
-machine=
+machine='' by_helper=''
 while [[ ${1:-} == --* ]]; do
   case $1 in
     --sanitize)
@@ -20,6 +21,7 @@ while [[ ${1:-} == --* ]]; do
       flags=(-O1 -g -fno-omit-frame-pointer "-fsanitize=address,undefined" -fno-sanitize-recover=all)
       ;;
     --strip) link+=(-s) ;;
+    --by-helper) by_helper=1 ;;
     --machine)
       machine=${2:?--machine takes a name}
       shift
@@ -28,7 +30,7 @@ while [[ ${1:-} == --* ]]; do
   esac
   shift
 done
-folder=${1:?usage: recorder/build.sh [--sanitize] [--strip] [--machine MACHINE] FOLDER}
+folder=${1:?usage: recorder/build.sh [--sanitize] [--strip] [--by-helper] [--machine MACHINE] FOLDER}
 mkdir -p -- "$folder"
 folder=$(readlink -f -- "$folder")
 # shellcheck source=recorder/machine.sh
@@ -53,6 +55,7 @@ variables_of() { # NAME
 
 compile_programs record
 compile_programs older -DOLDER_KERNELS
+if [[ -n $by_helper ]]; then compile_programs by_helper -DREADS_BY_HELPER; fi
 # One skeleton opens both (kernel.c).
 if [[ $(variables_of record) != "$(variables_of older)" ]]; then
   printf 'record: the programs for older kernels have other variables\n' >&2 && exit 1

@@ -32,14 +32,12 @@ static __always_inline long read_command(struct command *c, struct task_struct *
 }
 
 /* Reports the command line and the user of the caller, the process that opened the device, if they are others than it
- * reported. It looks at the first call, and then at most once a second, or after exec, or when the first thread has
- * another name. A command line that was read before and is away now, for example swapped out, counts as the same. */
-static __noinline int look_at_command(struct opening *o)
+ * reported. A command line that was read before and is away now, for example swapped out, counts as the same. */
+static __noinline int tell_command(struct opening *o, u64 time, u64 memory)
 {
 	struct scratch *s = scratch();
 	struct task_struct *task = current_task();
-	u64 time = bpf_ktime_get_ns(), memory = (u64)BPF_CORE_READ(task, mm);
-	if (!s || !o || (time < o->look_at && memory == o->looked_in))
+	if (!s || !o)
 		return 0;
 	struct command *c = &s->command;
 	int is_away = read_command(c, task) != 0, is_first = !o->has_command || memory != o->looked_in;
@@ -59,5 +57,13 @@ static __noinline int look_at_command(struct opening *o)
 	o->look_at = time + LOOK_AGAIN;
 	o->looked_in = memory;
 	return 0;
+}
+
+/* Looks at the command line at the first call, and then at most once a second, or after exec, or when the first thread
+ * has another name. `memory` is the caller's mm. */
+static __always_inline void look_at_command(struct opening *o, u64 memory, u64 time)
+{
+	if (time >= o->look_at || memory != o->looked_in)
+		tell_command(o, time, memory);
 }
 #endif

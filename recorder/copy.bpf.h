@@ -38,8 +38,16 @@ static __always_inline int take_room(struct thread *t, u64 bytes)
 /* Begins to count what this run of a program copies, and how long it tries. */
 static __always_inline void begin_run(struct scratch *s)
 {
-	s->until = bpf_ktime_get_ns() + LONGEST_TRY;
-	s->attached = 0;
+	s->until = s->attached = 0;
+}
+
+/* After a try that failed: whether this run has tried for long enough. */
+static __always_inline int has_tried(struct scratch *s)
+{
+	u64 time = bpf_ktime_get_ns();
+	if (!s->until)
+		s->until = time + LONGEST_TRY;
+	return time > s->until;
 }
 
 STEP(try_chunk)
@@ -50,7 +58,7 @@ STEP(try_chunk)
 	u64 length = s->length;
 	BOUND(length, 0xffff);
 	s->failed = read_memory(s->chunk_bytes, length, s->from);
-	return s->failed == 0 || bpf_ktime_get_ns() > s->until;
+	return s->failed == 0 || has_tried(s);
 }
 
 STEP(try_call)
@@ -59,21 +67,23 @@ STEP(try_call)
 	if (!s)
 		return 1;
 	s->failed = read_memory(&s->call, sizeof s->call, s->from);
-	return s->failed == 0 || bpf_ktime_get_ns() > s->until;
+	return s->failed == 0 || has_tried(s);
 }
 
-/* Copies the binder_write_read at `call` into the scratch. Returns 0 if it could be read. */
-static __noinline int read_call(u64 call)
+static __noinline int try_to_read_call(struct scratch *s, u64 call)
 {
-	struct scratch *s = scratch();
 	if (!s)
 		return 1;
 	s->from = call;
-	begin_run(s);
-	if (!read_memory(&s->call, sizeof s->call, call))
-		return 0;
 	LOOP(TRIES, try_call);
 	return s->failed != 0;
+}
+
+/* Copies the binder_write_read at `call` into the scratch. Returns 0 if it could be read. */
+static __always_inline int read_call(struct scratch *s, u64 call)
+{
+	begin_run(s);
+	return read_memory(&s->call, sizeof s->call, call) && try_to_read_call(s, call);
 }
 
 /* Copies bytes of the process into the chunk, and tries again if need be. Returns 0 if they could be read. */
@@ -86,6 +96,18 @@ static __noinline int read_chunk(u64 from, u32 bytes)
 	s->length = bytes;
 	LOOP(TRIES, try_chunk);
 	return s->failed != 0;
+}
+
+/* Begins a message with commands of a frame. */
+static __always_inline void begin_chunk(struct scratch *s, const struct thread *t, u32 direction, u64 number, u64 time)
+{
+	struct message *h = &s->chunk.head;
+	h->type = MESSAGE_CHUNK;
+	h->direction = direction;
+	h->number = number;
+	h->time = time;
+	h->opening = t->opening;
+	h->thread = t->id;
 }
 
 /* Copies what can be read of the bytes, page by page. Returns how many bytes that is. */
@@ -305,13 +327,7 @@ static __noinline int copy_write(struct thread *t, u64 taken, u32 try_again)
 	struct scratch *s = scratch();
 	if (!s || !t)
 		return REASON_UNREADABLE;
-	struct message *h = &s->chunk.head;
-	h->type = MESSAGE_CHUNK;
-	h->direction = DIRECTION_WRITE;
-	h->number = t->write_number;
-	h->time = bpf_ktime_get_ns();
-	h->opening = t->opening;
-	h->thread = t->id;
+	begin_chunk(s, t, DIRECTION_WRITE, t->write_number, bpf_ktime_get_ns());
 	s->taken = taken;
 	s->try_again = try_again;
 	s->failed = 0;
@@ -456,13 +472,7 @@ static __noinline int copy_read(struct thread *t, u64 from, u64 bytes, u64 numbe
 	w->left = bytes;
 	w->base = w->failed = w->records = 0;
 	t->is_over = t->spent = 0;
-	struct message *h = &s->chunk.head;
-	h->type = MESSAGE_CHUNK;
-	h->direction = DIRECTION_READ;
-	h->number = number;
-	h->time = bpf_ktime_get_ns();
-	h->opening = t->opening;
-	h->thread = t->id;
+	begin_chunk(s, t, DIRECTION_READ, number, bpf_ktime_get_ns());
 	LOOP(MOST_CHUNKS, copy_returns);
 	return w->failed ? w->failed : w->left ? REASON_TOO_LARGE : 0;
 }

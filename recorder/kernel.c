@@ -57,9 +57,32 @@ static void set_up_tables(void)
 			bpf_map__set_map_flags(map, bpf_map__map_flags(map) & ~(u32)BPF_F_NO_PREALLOC);
 }
 
+/* Whether the programs are attached to the driver's tracepoints as raw ones, without perf's help, which costs less. The
+ * kernel looks for such a tracepoint by its name alone, and so finds that of one driver. From 7.0 on it lets a raw
+ * program lose its processor. */
+static int takes_raw(void)
+{
+	return kernel_is_before(7, 0) && !driver_is_recorded(DRIVER_IN_RUST);
+}
+
+static struct bpf_program *program_named(const char *name)
+{
+	return bpf_object__find_program_by_name(program->obj, name);
+}
+
+static void make_raw(void)
+{
+	program->rodata->is_raw = 1;
+	bpf_program__set_type(program->progs.look_at_preemption, BPF_PROG_TYPE_RAW_TRACEPOINT);
+	for (const struct tracepoint *each = tracepoints_of_driver; each->program; each++)
+		bpf_program__set_type(program_named(each->program), BPF_PROG_TYPE_RAW_TRACEPOINT);
+}
+
 static void set_up(const struct options *options)
 {
 	set_up_tables();
+	if (takes_raw())
+		make_raw();
 	bpf_program__set_autoattach(program->progs.meet_openings, false);
 	bpf_program__set_autoattach(program->progs.look_at_preemption, false);
 	bpf_map__set_max_entries(program->maps.ring, (u32)options->ring);
@@ -87,6 +110,13 @@ static void name_wanted(const struct options *options)
 	}
 }
 
+static struct bpf_link *attach_tracepoint(const struct bpf_program *to, const char *system, const char *name)
+{
+	if (takes_raw())
+		return bpf_program__attach_raw_tracepoint(to, name);
+	return bpf_program__attach_tracepoint(to, system, name);
+}
+
 /* The programs share one memory for each processor: two that run by turns there would mix their bytes. */
 static void need_processor_kept(void)
 {
@@ -94,7 +124,7 @@ static void need_processor_kept(void)
 		need_no_preemption(PREEMPTION_UNKNOWN);
 		return;
 	}
-	struct bpf_link *link = bpf_program__attach(program->progs.look_at_preemption);
+	struct bpf_link *link = attach_tracepoint(program->progs.look_at_preemption, "sched", "sched_process_exit");
 	if (!link)
 		fail_to_load("attach the recorder's program", errno);
 	pid_t child = fork();
@@ -122,9 +152,8 @@ static int attach_tracepoints(enum driver driver)
 	const char *system = driver_system(driver);
 	int error = 0;
 	for (; each->program && !error; each++) {
-		struct bpf_program *to = bpf_object__find_program_by_name(program->obj, each->program);
 		const char *name = tracepoint_name(each, system);
-		error = name ? keep_link(bpf_program__attach_tracepoint(to, system, name)) : -ENOENT;
+		error = name ? keep_link(attach_tracepoint(program_named(each->program), system, name)) : -ENOENT;
 	}
 	return error;
 }

@@ -24,7 +24,7 @@
 #define BEYOND_END 76u
 
 enum message_type {
-	MESSAGE_CHUNK = 1,	/* commands of a frame; a write waits for MESSAGE_WRITTEN */
+	MESSAGE_CHUNK = 1,	/* commands of a frame, and perhaps pieces; a write waits for MESSAGE_WRITTEN */
 	MESSAGE_PIECE,		/* bytes of an attachment */
 	MESSAGE_WRITTEN,	/* the driver has finished a write */
 	MESSAGE_LOST,		/* the number goes unused */
@@ -61,6 +61,9 @@ enum reason {
 
 /* Whether one of the recorder's programs in the kernel keeps its processor until its end. */
 enum preemption { PREEMPTION_NOT_SEEN, PREEMPTION_UNKNOWN, PREEMPTION_IS_ON, PREEMPTION_IS_OFF };
+
+/* Behind the commands of a chunk may be pieces of the same frame, each at a multiple of 8 bytes of the message. */
+#define MULTIPLE_OF_8(bytes) (((bytes) + 7) & ~7ull)
 
 enum direction { DIRECTION_WRITE = 1, DIRECTION_READ = 2 };
 

@@ -1,5 +1,6 @@
 /* The recorder's program in the kernel: what it does at each event of the driver and of the scheduler. */
 #include "command.bpf.h"
+#include "small.bpf.h"
 #include "stacks.bpf.h"
 #include "tracepoints.h"
 
@@ -7,7 +8,32 @@
 extern const void binder_fops __ksym __weak, rust_binder_fops __ksym __weak;
 
 /* Both drivers have the same tracepoints. So kernel.c attaches the programs below whose section is only `tp` or `kprobe`
- * to each driver that is there. */
+ * to each driver that is there. It may make those of the tracepoints raw ones, which get arguments in place of fields. */
+const volatile u32 is_raw = 0;
+
+/* The verifier must see each place as it is here: not as a sum that the compiler makes of two. */
+#define TAKE(to, size, context, place) \
+	asm volatile("%0 = *(" #size " *)(%1 + %2)" : "=r"(to) : "r"(context), "i"(place))
+
+static __always_inline u32 number_of(void *context)
+{
+	u64 number;
+	if (is_raw)
+		TAKE(number, u64, context, 0);
+	else
+		TAKE(number, u32, context, __builtin_offsetof(struct number_fields, number));
+	return number;
+}
+
+static __always_inline u64 argument_of(void *context)
+{
+	u64 argument;
+	if (is_raw)
+		TAKE(argument, u64, context, sizeof argument);
+	else
+		TAKE(argument, u64, context, __builtin_offsetof(struct ioctl_fields, argument));
+	return argument;
+}
 
 static __always_inline int is_wanted(u32 process, u32 device)
 {
@@ -188,14 +214,14 @@ static __noinline int add_thread(struct task_struct *task, u32 id, u32 process)
 	t->process = process;
 	t->start = BPF_CORE_READ(task, start_boottime);
 	t->bits = 0;
+	t->comm[0] = t->comm[1] = 0;
 	__builtin_memset(t->name, 0, sizeof t->name);
 	bpf_get_current_comm(t->name, sizeof t->name);
 	bpf_map_update_elem(&processes, &process, &one, BPF_ANY);
 	return IS_GIVEN(t->id) ? bpf_map_update_elem(&threads, &id, t, BPF_NOEXIST) : 1;
 }
 
-/* Reports the opening and the thread if they are not reported yet. Returns 0 if both are reported. */
-static __noinline int introduce(struct opening *o, struct thread *t, u32 id)
+static __noinline int introduce_anew(struct opening *o, struct thread *t, u32 id)
 {
 	if (!o || !t)
 		return 1;
@@ -208,10 +234,17 @@ static __noinline int introduce(struct opening *o, struct thread *t, u32 id)
 	return !o->told || !t->told;
 }
 
-/* Returns 1 if the thread has another name. */
-static __noinline int look_at_name(struct thread *t, u32 id)
+/* Reports the opening and the thread if they are not reported yet. Returns 0 if both are reported. */
+static __always_inline int introduce(struct opening *o, struct thread *t, u32 id)
 {
-	char name[NAME_BYTES] = {};	/* a kernel before 6.2 does not clear the bytes after the name */
+	return (!o->told || !t->told) && introduce_anew(o, t, id);
+}
+
+/* Reports another name of the thread. Returns 1 if it has one. */
+static __noinline int tell_name(struct thread *t, u32 id)
+{
+	/* A kernel before 6.2 does not clear the bytes after the name. */
+	char name[NAME_BYTES] __attribute__((aligned(8))) = {};
 	bpf_get_current_comm(name, sizeof name);
 	if (!t || (*(u64 *)name == *(u64 *)t->name && *(u64 *)(name + 8) == *(u64 *)(t->name + 8)))
 		return 0;
@@ -221,13 +254,21 @@ static __noinline int look_at_name(struct thread *t, u32 id)
 	return 1;
 }
 
+/* Returns 1 if the thread has another name than at its last call. */
+static __always_inline int look_at_name(struct task_struct *task, struct thread *t, u32 id)
+{
+	if (is_its_name(task, t->comm))
+		return 0;
+	return tell_name(t, id);
+}
+
 /* Begins a call of BINDER_WRITE_READ: keeps its fields as they are at entry, and copies what it writes. */
-static __noinline int begin_call(struct thread *t, u64 call, u32 told)
+static __noinline int begin_call(struct thread *t, u64 call, u32 told, u64 time)
 {
 	struct scratch *s = scratch();
 	if (!s || !t)
 		return 0;
-	if (read_call(call)) {
+	if (read_call(s, call)) {
 		lose(t, take_number(), REASON_CALL_UNREADABLE);
 		number_is_told();
 		return 0;
@@ -237,7 +278,7 @@ static __noinline int begin_call(struct thread *t, u64 call, u32 told)
 	t->read_consumed = s->call.read_consumed;
 	t->read_size = s->call.read_size;
 	t->read_buffer = s->call.read_buffer;
-	t->consumed = t->write_number = t->copied = t->attached = t->spent = 0;
+	t->consumed = t->write_number = t->copied = t->looked_at = t->attached = t->spent = 0;
 	t->commands = t->has_late = t->attachments = t->is_over = 0;
 	t->write_told = t->write_failed = t->has_chunk = 0;
 	t->call_is = CALL_RECORDED;
@@ -250,7 +291,7 @@ static __noinline int begin_call(struct thread *t, u64 call, u32 told)
 	t->write_number = take_number();
 	if (!IS_GIVEN(t->write_number))
 		return 0;
-	int reason = told ? copy_write(t, 0, 0) : REASON_RING_FULL;
+	int reason = !told ? REASON_RING_FULL : copy_small_write(s, t, time) ? copy_write(t, 0, 0) : 0;
 	if (reason) {
 		lose(t, t->write_number, reason);
 		t->write_told = 1;
@@ -268,11 +309,12 @@ static __always_inline void leave_out(u32 id)
 }
 
 /* Looks at the caller, and reports what is new of it. Returns 0 if all is reported that frames need. */
-static __always_inline int meet_caller(struct task_struct *task, struct opening *o, struct thread *t, u32 bits)
+static __always_inline int meet_caller(struct task_struct *task, struct opening *o, struct thread *t, u64 both, u32 bits,
+				       u64 time)
 {
-	u64 both = bpf_get_current_pid_tgid();
 	u32 id = both, process = both >> 32;
-	if (look_at_name(t, id) && id == process)
+	u64 memory = (u64)READ(task, mm);
+	if (look_at_name(task, t, id) && id == process)
 		o->look_at = 0;
 	if (t->bits != bits) {		/* it is told anew, with the other bits */
 		t->bits = bits;
@@ -280,16 +322,16 @@ static __always_inline int meet_caller(struct task_struct *task, struct opening 
 	}
 	int untold = introduce(o, t, id);
 	if (!untold && o->process == process)
-		look_at_command(o);
+		look_at_command(o, memory, time);
 	t->opening = o->id;
-	t->reads_own_memory = (u64)BPF_CORE_READ(task, mm) == o->memory;
+	t->reads_own_memory = memory == o->memory;
 	return untold;
 }
 
 /* At the entry of any ioctl on a Binder device. */
 static __always_inline int enter(struct task_struct *task, struct file *file, u32 command, u64 argument, u32 bits)
 {
-	u64 both = bpf_get_current_pid_tgid(), key = (u64)file;
+	u64 key = (u64)file, both = bpf_get_current_pid_tgid();
 	u32 id = both, process = both >> 32;
 	struct opening *o = bpf_map_lookup_elem(&openings, &key);
 	if (!o) {
@@ -310,14 +352,15 @@ static __always_inline int enter(struct task_struct *task, struct file *file, u3
 		leave_out(id);
 		return 0;
 	}
-	int told = !meet_caller(task, o, t, bits);
+	u64 time = bpf_ktime_get_ns();
+	int told = !meet_caller(task, o, t, both, bits, time);
 	if (t->call_is)
 		__sync_fetch_and_add(&half_calls, 1);
 	t->call_is = CALL_NOT_RECORDED;
 	if (command == BINDER_THREAD_EXIT)
 		say(MESSAGE_LEFT, t->id, o->id, LAST(number), id, process, 0, 0);
 	if (command == BINDER_WRITE_READ)
-		begin_call(t, argument, told);
+		begin_call(t, argument, told, time);
 	return 0;
 }
 
@@ -325,67 +368,56 @@ static __always_inline int enter(struct task_struct *task, struct file *file, u3
 static __always_inline int is_32_bit(struct task_struct *task, struct pt_regs *registers)
 {
 #ifdef __TARGET_ARCH_x86
-	return (BPF_CORE_READ(task, thread_info.status) & TS_COMPAT) != 0;
+	return (READ(task, thread_info.status) & TS_COMPAT) != 0;
 #endif
 #ifdef __TARGET_ARCH_arm64
-	u64 state = 0;
-	bpf_probe_read_kernel(&state, sizeof state, &((struct user_pt_regs *)registers)->pstate);
-	return (state & 0x10) != 0;
+	return (READ_FROM(&((struct user_pt_regs *)registers)->pstate) & 0x10) != 0;
 #endif
 }
 
 /* The first argument of the system call. */
 static __always_inline u32 descriptor_of_call(struct pt_regs *registers, int bits)
 {
-	u64 descriptor = 0;
 #ifdef __TARGET_ARCH_x86
-	if (bits == 32) {
-		bpf_probe_read_kernel(&descriptor, sizeof descriptor, &registers->rbx);
-		return descriptor;
-	}
+	if (bits == 32)
+		return READ_FROM(&registers->rbx);
 #endif
-	bpf_probe_read_kernel(&descriptor, sizeof descriptor, &PT_REGS_PARM1(registers));
-	return descriptor;
+	return READ_FROM(&PT_REGS_PARM1(registers));
 }
 
 /* The second and the third argument: the command of an ioctl, and its argument. */
 static __always_inline u64 command_of_call(struct pt_regs *registers, int bits, u64 *argument)
 {
-	u64 command = 0;
 #ifdef __TARGET_ARCH_x86
 	if (bits == 32) {
-		bpf_probe_read_kernel(&command, sizeof command, &registers->rcx);
-		bpf_probe_read_kernel(argument, sizeof *argument, &registers->rdx);
-		*argument &= 0xffffffff;
-		return command & 0xffffffff;
+		*argument = READ_FROM(&registers->rdx) & 0xffffffff;
+		return READ_FROM(&registers->rcx) & 0xffffffff;
 	}
 #endif
-	bpf_probe_read_kernel(&command, sizeof command, &PT_REGS_PARM2(registers));
-	bpf_probe_read_kernel(argument, sizeof *argument, &PT_REGS_PARM3(registers));
-	return command & 0xffffffff;
+	*argument = READ_FROM(&PT_REGS_PARM3(registers));
+	return READ_FROM(&PT_REGS_PARM2(registers)) & 0xffffffff;
 }
 
 /* The file of a descriptor: it identifies the opening. */
-static __noinline u64 file_of(struct task_struct *task, u32 descriptor)
+static __always_inline u64 file_of(struct task_struct *task, u32 descriptor)
 {
 	struct file *file = 0, **files;
-	unsigned int most;
-	struct fdtable *table = BPF_CORE_READ(task, files, fdt);
-	most = BPF_CORE_READ(table, max_fds);
-	files = BPF_CORE_READ(table, fd);
-	if (descriptor >= most || bpf_probe_read_kernel(&file, sizeof file, files + descriptor))
+	struct fdtable *table = READ(task, files, fdt);
+	files = READ(table, fd);
+	if (descriptor >= READ(table, max_fds) || bpf_probe_read_kernel(&file, sizeof file, files + descriptor))
 		return 0;
 	return (u64)file;
 }
 
-SEC("tp") int at_entry(struct ioctl_fields *fields)
+SEC("tp") int at_entry(void *context)
 {
+	u32 command = number_of(context);
 	if (stopped)
 		return 0;
 	struct task_struct *task = current_task();
 	struct pt_regs *registers = registers_of(task);
 	int bits = is_32_bit(task, registers) ? 32 : 64;
-	if (fields->command == WRITE_READ_OF_PROTOCOL_7) {
+	if (command == WRITE_READ_OF_PROTOCOL_7) {
 		__sync_fetch_and_add(&calls_32_bit, 1);
 		leave_out(bpf_get_current_pid_tgid());
 		return 0;
@@ -396,7 +428,13 @@ SEC("tp") int at_entry(struct ioctl_fields *fields)
 		leave_out(bpf_get_current_pid_tgid());
 		return 0;
 	}
-	return enter(task, file, fields->command, fields->argument, bits);
+	return enter(task, file, command, argument_of(context), bits);
+}
+
+/* Whether the command at `record` has data that is not copied yet. */
+static __always_inline int has_uncopied_data(const struct thread *t, u32 record, u32 word)
+{
+	return !no_attachments && record >= t->looked_at && has_data(DIRECTION_WRITE, word);
 }
 
 /* The driver begins the command that is at `record` of the write. */
@@ -412,31 +450,33 @@ static __noinline int take_command(struct thread *t, u32 record, u32 word)
 		return lose(t, t->write_number, reason);
 	}
 	attach_late(t, record);
-	if (!no_attachments && !t->is_over && has_data(DIRECTION_WRITE, word))
+	if (!t->is_over && has_uncopied_data(t, record, word))
 		attach_to_write(t, record, 0);
 	return 0;
 }
 
-SEC("tp") int at_command(struct number_fields *fields)
+SEC("tp") int at_command(void *context)
 {
-	u32 id = bpf_get_current_pid_tgid(), word = fields->number;
+	u32 id = bpf_get_current_pid_tgid(), word = number_of(context);
 	struct thread *t = bpf_map_lookup_elem(&threads, &id);
 	if (!t || t->call_is != CALL_RECORDED)
 		return 0;
 	u32 record = t->consumed;
 	t->consumed += CODE_WORD + (word >> 16 & 0x3fff);
 	t->commands++;
-	if (t->write_number && !t->write_told)
+	if (t->write_number && !t->write_told &&
+	    (t->copied < t->consumed || t->has_late || has_uncopied_data(t, record, word)))
 		take_command(t, record, word);
 	if (takes_stacks && wants_stack(t, word))
-		take_stack(fields, t);
+		take_stack(context, t);
 	return 0;
 }
 
 /* The driver has finished the write, and consumed this many of its bytes. */
 static __noinline int end_write(struct thread *t, u64 consumed)
 {
-	if (!t)
+	struct scratch *s = scratch();
+	if (!s || !t)
 		return 0;
 	int reason = t->copied < consumed ? copy_write(t, consumed, 1) : 0;
 	if (!reason && t->copied < consumed)
@@ -446,19 +486,20 @@ static __noinline int end_write(struct thread *t, u64 consumed)
 		return lose(t, t->write_number, reason);
 	}
 	attach_late(t, consumed);
-	if (!say(MESSAGE_WRITTEN, t->id, t->opening, t->write_number, consumed, 0, 0, 0))
+	if (!say_written(s, t, consumed))
 		t->write_told = 1;
 	return 0;
 }
 
 /* When the driver has finished the write. After an error the last command that it began is not consumed, or the next
  * code word could not be read; then the return of the call says what it consumed. */
-SEC("tp") int at_write_done(struct number_fields *fields)
+SEC("tp") int at_write_done(void *context)
 {
+	int result = number_of(context);
 	u32 id = bpf_get_current_pid_tgid();
 	struct thread *t = bpf_map_lookup_elem(&threads, &id);
 	struct scratch *s = scratch();
-	if (t && (int)fields->number < 0)
+	if (t && result < 0)
 		t->write_failed = 1;
 	else if (s && t && t->call_is == CALL_RECORDED && t->write_number && !t->write_told) {
 		begin_run(s);
@@ -472,12 +513,17 @@ SEC("tp") int at_write_done(struct number_fields *fields)
 /* Copies what the call read. */
 static __noinline int end_read(struct thread *t, u64 bytes)
 {
-	if (!t)
+	struct scratch *s = scratch();
+	if (!s || !t)
 		return 0;
-	u64 number = take_number();
+	u64 number = take_number(), from = t->read_buffer + t->read_consumed;
 	if (!IS_GIVEN(number))
 		return 0;
-	int reason = bytes ? copy_read(t, t->read_buffer + t->read_consumed, bytes, number) : REASON_EFAULT;
+	int reason = 0;
+	if (!bytes)
+		reason = REASON_EFAULT;
+	else if (copy_small_read(s, t, from, bytes, number))
+		reason = copy_read(t, from, bytes, number);
 	if (reason)
 		lose(t, number, reason);
 	number_is_told();
@@ -502,12 +548,12 @@ static __noinline int meet_return(u32 id, u32 process)
 	struct scratch *s = scratch();
 	if (!t || !s)
 		return 0;
-	meet_caller(task, o, t, bits);
+	meet_caller(task, o, t, (u64)process << 32 | id, bits, bpf_ktime_get_ns());
 	t->call = argument;
 	t->write_number = t->attached = t->spent = t->write_consumed = t->read_consumed = 0;
 	t->commands = t->has_late = t->attachments = t->is_over = 0;
 	t->read_size = 1;
-	t->read_buffer = read_call(argument) ? 0 : s->call.read_buffer;
+	t->read_buffer = read_call(s, argument) ? 0 : s->call.read_buffer;
 	t->call_is = CALL_RECORDED;
 	return 0;
 }
@@ -524,11 +570,11 @@ static __noinline int failed_at_once(struct thread *t)
 	       !bpf_probe_read_user(&word, sizeof word, (void *)(t->write_from + t->consumed));
 }
 
-SEC("tp") int at_return(struct number_fields *fields)
+SEC("tp") int at_return(void *context)
 {
+	int result = number_of(context);
 	u64 both = bpf_get_current_pid_tgid();
 	u32 id = both;
-	int result = fields->number;
 	struct thread *t = bpf_map_lookup_elem(&threads, &id);
 	struct scratch *s = scratch();
 	if (!t && !stopped) {
@@ -543,14 +589,14 @@ SEC("tp") int at_return(struct number_fields *fields)
 		__sync_fetch_and_add(&half_calls, 1);
 	if (call_is != CALL_RECORDED)
 		return 0;
-	int unreadable = read_call(t->call);
+	int unreadable = read_call(s, t->call);
 	u64 written = s->call.write_consumed - t->write_consumed;
 	s64 read = s->call.read_consumed - t->read_consumed;
 	int unknown = unreadable || (result == -EFAULT && written == 0 && read == 0);
 	if (t->write_number && t->write_told && result == 0 && !unreadable && written != t->consumed)
 		__sync_fetch_and_add(&half_calls, 1);
 	if (t->write_number && t->write_told == 2)
-		say(MESSAGE_WRITTEN, t->id, t->opening, t->write_number, t->consumed, 0, 0, 0);
+		say_written(s, t, t->consumed);
 	if (t->write_number && !t->write_told) {	/* the write failed, and nothing was read */
 		if (unknown && t->commands && !failed_at_once(t))
 			lose(t, t->write_number, REASON_EFAULT);

@@ -1,7 +1,7 @@
 /* What the BPF program keeps: its tables, the counter of numbers, and the way of a message into the ring. */
 #ifndef RECORDER_STATE_BPF_H
 #define RECORDER_STATE_BPF_H
-#include "helped.bpf.h"
+#include "task.bpf.h"
 
 struct opening {
 	u32 id;
@@ -29,7 +29,7 @@ struct thread {
 	u32 commands;			/* how many the driver began in this call */
 	u64 write_number;		/* 0 if the call writes nothing */
 	u64 consumed;			/* bytes of those commands */
-	u64 copied;			/* how many bytes of the write are in the ring */
+	u64 copied, looked_at;		/* how many bytes of the write are in the ring; those with the data of theirs */
 	u64 call;			/* the address of the binder_write_read */
 	u64 write_from, write_bytes;
 	u64 write_consumed, read_consumed, read_size, read_buffer;	/* at entry */
@@ -40,6 +40,7 @@ struct thread {
 	u32 bits;			/* of its last call: 32 or 64 */
 	u32 stack_of;			/* the last 32 bits of the number of the last write whose stack was asked for */
 	u64 start;
+	u64 comm[NAME_BYTES / 8];	/* its name as the kernel has it, with what is behind its end */
 	char name[NAME_BYTES];
 };
 
@@ -73,7 +74,7 @@ struct scratch {
 	struct attachment attachment;
 	struct walk walk;
 	u64 from, length, failed, taken, try_again;
-	u64 until, attached;		/* of this run: when it tries no more; bytes of attachments */
+	u64 until, attached;		/* of this run: when it tries no more, 0 if all went well; bytes of attachments */
 	struct binder_write_read call;
 	struct chunk chunk;
 	u8 chunk_bytes[2 * CHUNK];
@@ -182,6 +183,21 @@ static __always_inline long say(u32 type, u32 thread, u32 opening, u64 number, u
 	if (name)
 		__builtin_memcpy(e->name, name, NAME_BYTES);
 	return bpf_ringbuf_output(&ring, e, sizeof *e, QUIETLY);
+}
+
+/* Reports that the driver has finished the write. Returns 0 if there was room. The message ends with what is used of
+ * it. */
+static __always_inline long say_written(struct scratch *s, const struct thread *t, u64 consumed)
+{
+	struct event *e = &s->event;
+	e->head.type = MESSAGE_WRITTEN;
+	e->head.direction = 0;
+	e->head.number = t->write_number;
+	e->head.time = 0;
+	e->head.opening = t->opening;
+	e->head.thread = t->id;
+	e->written.consumed = consumed;
+	return bpf_ringbuf_output(&ring, e, __builtin_offsetof(struct event, written) + sizeof e->written, QUIETLY);
 }
 
 /* Reports a lost frame. For REASON_RING_FULL half of the room for events is left to other events, which could not be

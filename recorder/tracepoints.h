@@ -4,7 +4,7 @@
 #ifndef RECORDER_TRACEPOINTS_H
 #define RECORDER_TRACEPOINTS_H
 
-/* The fields, where the programs read them. */
+/* The fields, where the programs read them. The command of an ioctl is a number_fields.number, too. */
 struct ioctl_fields { unsigned long long common; unsigned int command, unused; unsigned long long argument; };
 struct number_fields { unsigned long long common; unsigned int number; };
 struct exec_fields { unsigned long long common; unsigned int path, id, old_id; };

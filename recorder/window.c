@@ -276,6 +276,19 @@ static void hear_piece(const struct piece *piece)
 	memory += frame->memory;
 }
 
+/* A small frame has the pieces of its attachments in the message of its only chunk, behind the commands. */
+static void hear_whole_chunk(const struct chunk *chunk, u64 bytes)
+{
+	u64 at = sizeof *chunk + MULTIPLE_OF_8(chunk->commands);
+	while (at + sizeof(struct piece) <= bytes) {
+		const struct piece *piece = (const void *)((const u8 *)chunk + at);
+		at += MULTIPLE_OF_8(sizeof *piece + piece->bytes);
+		if (at <= MULTIPLE_OF_8(bytes))
+			hear_piece(piece);
+	}
+	hear_chunk(chunk);
+}
+
 static void hear_written(const struct event *event)
 {
 	struct slot *slot = slot_of(event->head.number);
@@ -360,7 +373,7 @@ void window_hear(const void *message, u64 bytes)
 	if (bytes < sizeof *head || is_after_end(head))
 		return;
 	if (head->type == MESSAGE_CHUNK)
-		hear_chunk(message);
+		hear_whole_chunk(message, bytes);
 	else if (head->type == MESSAGE_PIECE)
 		hear_piece(message);
 	else if (head->type == MESSAGE_COMMAND)

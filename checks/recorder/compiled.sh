@@ -2,7 +2,7 @@
 # Checks that the recorder compiles for x86-64 and for arm64, its programs for the kernel too; that the program runs; and
 # that the verifier of this machine's kernel passes the programs for the kernel, those for older kernels too. It verifies
 # them with the places of fields of this kernel, and of each kernel whose BTF is in systems/: a field that one of them
-# calls differently is refused. What an older verifier refuses is seen on older kernels only: `checks/run driver`.
+# calls differently is refused. For the other kernels those for newer ones are compiled with READS_BY_HELPER. What an older verifier refuses is seen on older kernels only: `checks/run driver`.
 # So does cost/opens.c, which runs some of these programs, but is played by hand only.
 #
 #     checks/run compiled
@@ -29,14 +29,14 @@ verify() { # PROGRAMS [BTF]
 
 programs_of() { # SYSTEM: those that its kernel gets
   if [[ $(printf '5.17\n%s\n' "$(<"$1/release")" | sort -V | head -n 1) == 5.17 ]]; then
-    printf record
+    printf by_helper
   else
     printf older
   fi
 }
 
 compile() { # MACHINE
-  "$root/recorder/build.sh" --machine "$1" "$room/$1" || status=1
+  "$root/recorder/build.sh" --by-helper --machine "$1" "$room/$1" || status=1
 }
 
 machines=("$(uname -m)")

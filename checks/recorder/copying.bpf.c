@@ -3,7 +3,8 @@
 
 /* Where the caller has what is copied, and how long the last run took. */
 u64 commands_from = 0, returns_from = 0, returns_bytes = 0, took = 0;
-u32 first_word = 0, reason_of_loss = 0;
+u64 bytes_looked_at = 0;
+u32 first_word = 0, reason_of_loss = 0, attachments = 0;
 
 static __always_inline struct thread *caller(void)
 {
@@ -24,7 +25,7 @@ static __always_inline struct thread *measured_call(void)
 		return NULL;
 	t->reads_own_memory = 1;
 	t->attachments = t->is_over = t->has_late = t->commands = 0;
-	t->attached = t->spent = 0;
+	t->attached = t->spent = t->looked_at = 0;
 	return t;
 }
 
@@ -81,6 +82,35 @@ SEC("raw_tp/played") int play_write_done(void *unused)
 	return end_write(t, t->consumed);
 }
 
+/* ---- calls that write and read little: the returned value is 0 if one message takes all */
+
+SEC("raw_tp/played") int play_small_write(void *unused)
+{
+	struct thread *t = measured_call();
+	struct scratch *s = scratch();
+	if (!s || !t)
+		return 2;
+	t->write_number = 1;
+	t->write_from = commands_from;
+	t->write_bytes = returns_bytes;
+	t->copied = 0;
+	u32 failed = copy_small_write(s, t, 0);
+	attachments = t->attachments;
+	bytes_looked_at = t->looked_at;
+	return failed;
+}
+
+SEC("raw_tp/played") int play_small_read(void *unused)
+{
+	struct thread *t = measured_call();
+	struct scratch *s = scratch();
+	if (!s || !t)
+		return 2;
+	u32 failed = copy_small_read(s, t, returns_from, returns_bytes, 1);
+	attachments = t->attachments;
+	return failed;
+}
+
 /* ---- the command line of the caller */
 
 static struct opening looked_at;
@@ -89,7 +119,8 @@ static struct opening looked_at;
 SEC("raw_tp/played") int play_look(void *unused)
 {
 	looked_at.look_at = 0;
-	return look_at_command(&looked_at);
+	look_at_command(&looked_at, (u64)READ(current_task(), mm), bpf_ktime_get_ns());
+	return 0;
 }
 
 /* ---- openings of the caller, of files that are not there */

@@ -193,6 +193,137 @@ static void play_full_ring(const u8 *data, u8 *returns)
 		fail("of %d reads %u came, and %u attachments were left out", READS, chunks, others);
 }
 
+/* ---- calls that write and read little */
+
+static u8 small[4 * CHUNK];		/* the messages that came, one behind the other */
+static u64 small_bytes;
+
+static void hear_small(const void *message, u64 bytes)
+{
+	memcpy(small + small_bytes, message, bytes);
+	small_bytes += bytes;
+}
+
+static u32 run_small(const struct bpf_program *played, u64 bytes)
+{
+	LIBBPF_OPTS(bpf_test_run_opts, options);
+	program->bss->returns_bytes = bytes;
+	small_bytes = 0;
+	if (bpf_prog_test_run_opts(bpf_program__fd(played), &options))
+		fail("a program does not run");
+	while (ring_drain(&ring, hear_small) > 0)
+		continue;
+	return options.retval;
+}
+
+/* Where the piece of this record must be, with its bytes; returns where the next one is. */
+static const u8 *need_piece(const u8 *at, u32 direction, u32 record, const struct binder_transaction_data *of)
+{
+	const struct piece *piece = (const void *)at;
+	const u8 *bytes = (const u8 *)(piece + 1), *data = (const void *)of->data.ptr.buffer;
+	if (piece->head.type != MESSAGE_PIECE || piece->head.direction != direction || piece->head.number != 1 ||
+	    piece->record != record || piece->data != of->data_size || piece->offsets != of->offsets_size || piece->at ||
+	    piece->bytes != of->data_size + of->offsets_size || memcmp(bytes, data, of->data_size) ||
+	    memcmp(bytes + of->data_size, (const void *)of->data.ptr.offsets, of->offsets_size))
+		fail("a small frame: the piece of record %u is another one", record);
+	return at + MULTIPLE_OF_8(sizeof *piece + piece->bytes);
+}
+
+/* The message must have these commands first. Returns where the pieces are. */
+static const u8 *need_commands(u32 direction, const u8 *commands, u32 bytes)
+{
+	const struct chunk *chunk = (const void *)small;
+	if (chunk->head.type != MESSAGE_CHUNK || chunk->head.direction != direction || chunk->head.number != 1 ||
+	    chunk->commands != bytes || chunk->base || chunk->late ||
+	    chunk->next != (direction == DIRECTION_WRITE ? bytes : 0) || memcmp(chunk + 1, commands, bytes))
+		fail("a small frame: its commands are others");
+	return small + sizeof *chunk + MULTIPLE_OF_8(bytes);
+}
+
+/* The commands must be left to copy.bpf.h: nothing of them is in the ring, or counted. */
+static void need_left(const struct bpf_program *played, const char *what, u64 bytes)
+{
+	if (run_small(played, bytes) != 1 || small_bytes || program->bss->attachments)
+		fail("a small frame, %s: it is taken", what);
+}
+
+enum { FIRST = 4, SECOND = FIRST + RECORD + 4, SMALL_END = SECOND + RECORD };	/* where the records are that have data */
+static struct binder_transaction_data *first, *second;
+
+static void fill_small(u8 *to, u32 first_word, u32 between, u32 second_word, u8 *data)
+{
+	const u32 noop = BR_NOOP;
+	for (u32 i = 0; i < 100; i++)
+		data[i] = (u8)i;
+	memcpy(to, &noop, 4);
+	put_record(to + FIRST, first_word, data, 100);
+	memcpy(to + FIRST + RECORD, &between, 4);
+	put_record(to + SECOND, second_word, data + 7, 3);
+	first = (void *)(to + FIRST + 4);
+	second = (void *)(to + SECOND + 4);
+	first->offsets_size = 16;
+	first->data.ptr.offsets = (u64)data + 50;
+}
+
+static void *memory_that_is_away(void)
+{
+	void *page = mmap(NULL, 4096, PROT_READ | PROT_WRITE, MAP_PRIVATE | MAP_ANONYMOUS, -1, 0);
+	if (page == MAP_FAILED)
+		fail("no memory");
+	return page;
+}
+
+static void play_small_read(u8 *data, u8 *returns)
+{
+	const struct bpf_program *played = program->progs.play_small_read;
+	const u32 noop = BR_NOOP;
+	fill_small(returns, BR_TRANSACTION, BR_TRANSACTION_COMPLETE, BR_REPLY, data);
+	program->bss->returns_from = (u64)returns;
+	if (run_small(played, SMALL_END) || program->bss->attachments != 2)
+		fail("a small read is not taken");
+	const u8 *at = need_commands(DIRECTION_READ, returns, SMALL_END);
+	at = need_piece(at, DIRECTION_READ, FIRST, first);
+	at = need_piece(at, DIRECTION_READ, SECOND, second);
+	if (MULTIPLE_OF_8(small_bytes) != (u64)(at - small))
+		fail("a small read: its message has %llu bytes", (unsigned long long)small_bytes);
+	need_left(played, "cut in a record", SMALL_END - 1);
+	second->data_size = 1 << 14;
+	need_left(played, "with much data", SMALL_END);
+	second->data_size = 3;
+	second->data.ptr.buffer = (u64)memory_that_is_away();
+	need_left(played, "with data that is not there", SMALL_END);
+	for (u32 i = 0; i < 17; i++)
+		memcpy(returns + 4 * i, &noop, 4);
+	need_left(played, "of many records", 17 * 4);
+	if (run_small(played, 16 * 4))
+		fail("a small read of as many records as are looked at is not taken");
+	need_commands(DIRECTION_READ, returns, 16 * 4);
+	need_left(played, "of many bytes", 516);
+}
+
+/* Data that is not there is left to the next run of a program, and what is behind it too. */
+static void play_small_write(u8 *data, u8 *commands)
+{
+	const struct bpf_program *played = program->progs.play_small_write;
+	fill_small(commands, BC_TRANSACTION, BC_ENTER_LOOPER, BC_REPLY, data);
+	if (run_small(played, SMALL_END) || program->bss->attachments != 2 || program->bss->bytes_looked_at != SMALL_END)
+		fail("a small write is not taken");
+	const u8 *at = need_commands(DIRECTION_WRITE, commands, SMALL_END + BEYOND_END);
+	at = need_piece(at, DIRECTION_WRITE, FIRST, first);
+	at = need_piece(at, DIRECTION_WRITE, SECOND, second);
+	second->data.ptr.buffer = (u64)memory_that_is_away();
+	if (run_small(played, SMALL_END) || program->bss->attachments != 1 || program->bss->bytes_looked_at != SECOND)
+		fail("a small write without some data is not taken");
+	at = need_commands(DIRECTION_WRITE, commands, SMALL_END + BEYOND_END);
+	at = need_piece(at, DIRECTION_WRITE, FIRST, first);
+	if (MULTIPLE_OF_8(small_bytes) != (u64)(at - small))
+		fail("a small write: its message has %llu bytes", (unsigned long long)small_bytes);
+	if (run_small(played, SECOND + 5) || program->bss->bytes_looked_at != SECOND || run_small(played, 512))
+		fail("a small write whose last command is cut is not taken");
+	need_commands(DIRECTION_WRITE, commands, 512 + BEYOND_END);
+	need_left(played, "of many bytes", 513);
+}
+
 /* ---- a command line */
 
 static char line[COMMAND_BYTES];	/* that came last; empty if none came */
@@ -423,6 +554,8 @@ int main(int words, char **word)
 	play_openings();
 	play(commands);
 	play_full_ring(data, returns);
+	play_small_read(data, returns);
+	play_small_write(data, commands);
 	pthread_t thread;
 	if (strlen(word[0]) < sizeof "second" || pthread_create(&thread, NULL, play_lines, word[0]) ||
 	    pthread_join(thread, NULL))

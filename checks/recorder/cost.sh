@@ -1,7 +1,7 @@
 #!/usr/bin/env bash
 # Measures what recording costs, on a kernel of Debian in QEMU, and prints a table; it is run by hand. A client makes
-# calls to a service (cost/calls.c), bare, recorded, and recorded with stacks; and files of no driver are opened, bare
-# and looked at by the recorder (cost/opens.c):
+# calls to a service (cost/calls.c), bare, recorded, recorded with stacks, without data (--no-attachments), and while
+# another device alone is recorded; and files of no driver are opened, bare and looked at by the recorder (cost/opens.c):
 #
 #   counted  QEMU counts the instructions of the kernel between the first call and the last (cost/count.c), while the
 #            recorder's loader is stopped, on one processor and on four. On one, the guest's clock counts instructions

@@ -12,6 +12,7 @@
 #include <string.h>
 
 enum { CLIENT = 1, SERVICE, MOST_DATA = 1 << 16, ANSWER = 4, RECORD = 4 + sizeof(struct binder_transaction_data) };
+#define MOST_BEHIND 16383u		/* bytes of data in the message of a small frame: small.bpf.h */
 #define CALLS_AT_ONCE 8			/* of which the messages are in the ring together */
 
 static u64 last;			/* the number that was taken last */
@@ -47,21 +48,47 @@ static void free_buffer(void)
 	command(BC_FREE_BUFFER, &address, sizeof address);
 }
 
-/* The frame of the commands, with the data of its last record. */
-static void hear(u32 direction, u32 thread, u32 data)
+/* The data of the last record of the commands, in pieces. */
+static void hear_pieces(struct message head, u32 record, u32 data)
 {
-	u32 commands = (u32)(end - (u8 *)(&message.chunk + 1));
-	message.chunk = (struct chunk){ .head = head_of(MESSAGE_CHUNK, direction, ++last, thread),
-		.commands = commands, .next = direction == DIRECTION_WRITE ? commands : 0 };
-	window_hear(&message, sizeof message.chunk + commands);
+	static union {
+		u8 bytes[sizeof(struct piece) + CHUNK];
+		struct piece piece;
+	} more;
 	for (u32 at = 0, bytes; at < data; at += bytes) {
 		bytes = data - at < CHUNK ? data - at : CHUNK;
-		message.piece = (struct piece){ .head = head_of(MESSAGE_PIECE, direction, last, thread),
-			.record = commands - RECORD, .data = data, .at = at, .bytes = bytes };
-		window_hear(&message, sizeof message.piece + bytes);
+		more.piece = (struct piece){ .head = head, .record = record, .data = data, .at = at, .bytes = bytes };
+		window_hear(&more, sizeof more.piece + bytes);
 	}
+}
+
+/* Puts the data of the last record behind the commands. Returns how many bytes the message has then. */
+static u64 put_piece(struct message head, u32 commands, u32 data)
+{
+	u64 at = MULTIPLE_OF_8(sizeof message.chunk + commands);
+	struct piece *piece = (void *)(message.bytes + at);
+	*piece = (struct piece){ .head = head, .record = commands - RECORD, .data = data, .bytes = data };
+	return at + sizeof *piece + data;
+}
+
+/* The frame of the commands, with the data of its last record: in the same message if that is little, else, of a read,
+ * before it. */
+static void hear(u32 direction, u32 thread, u32 data)
+{
+	u32 commands = (u32)(end - (u8 *)(&message.chunk + 1)), more = data > MOST_BEHIND ? data : 0;
+	u64 bytes = sizeof message.chunk + commands;
+	struct message head = head_of(MESSAGE_CHUNK, direction, ++last, thread), of_piece = head;
+	of_piece.type = MESSAGE_PIECE;
+	message.chunk = (struct chunk){ .head = head, .commands = commands,
+					.next = direction == DIRECTION_WRITE ? commands : 0 };
+	if (direction == DIRECTION_READ)
+		hear_pieces(of_piece, commands - RECORD, more);
+	if (data && !more)
+		bytes = put_piece(of_piece, commands, data);
+	window_hear(&message, bytes);
 	if (direction == DIRECTION_READ)
 		return;
+	hear_pieces(of_piece, commands - RECORD, more);
 	struct event event = { .head = head_of(MESSAGE_WRITTEN, direction, last, thread), .written = { commands } };
 	window_hear(&event, sizeof event);
 }

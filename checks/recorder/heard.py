@@ -21,7 +21,7 @@ from checks.kit.checking import FLAG, Fail, check, row
 from checks.kit.programs import CHECKS
 
 # How many instructions a call may take, by the bytes of its data.
-CEILINGS = {128: 11_100, 65_536: 146_500}
+CEILINGS = {128: 11_900, 65_536: 282_500}
 CALLS = 400
 
 

@@ -1,5 +1,6 @@
 #!/bin/busybox sh
-# The first process of a guest for checks/cost. It plays each size of data bare, recorded and recorded with stacks:
+# The first process of a guest for checks/cost. It plays each size of data bare, recorded, recorded with stacks, without
+# data, and while another device alone is recorded:
 #   calls   some calls while the loader is stopped, so that they alone are counted
 #   rate    if there is /rates, 1,000 calls a second beside the loader, whose processor time is told, and what it has
 #           written
@@ -17,7 +18,7 @@ mount -t devtmpfs dev /dev
 mount -t debugfs debug /sys/kernel/debug
 mount -t tracefs trace /sys/kernel/tracing 2>/dev/null
 mount -t tmpfs -o size=80% out /out
-insmod /modules/binder_linux.ko devices=binder || echo "init: no driver"
+insmod /modules/binder_linux.ko devices=binder,hwbinder || echo "init: no driver"
 echo 1 >/proc/sys/kernel/kptr_restrict
 
 processor_time() { # of the loader, in nanoseconds
@@ -74,9 +75,13 @@ if [ -e /opens ]; then /opens 2000 || echo "init: no files were opened"; fi
 # So many calls fit into the ring of the recorder.
 while read -r bytes count more; do
 	calls bare $bytes $count
-	for how in recorded stacks; do
-		options=
-		[ $how = stacks ] && options=--stacks
+	for how in recorded stacks no-data elsewhere; do
+		case $how in
+		recorded) options= ;;
+		stacks) options=--stacks ;;
+		no-data) options=--no-attachments ;;
+		elsewhere) options='--device hwbinder' ;;
+		esac
 		begin $options
 		calls $how $bytes $count
 		[ -e /rates ] && rate $how $bytes $more

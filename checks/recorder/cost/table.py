@@ -6,7 +6,7 @@ import sys
 from collections import defaultdict
 from typing import Iterator, NamedTuple
 
-HOW = ("bare", "recorded", "stacks")
+HOW = ("bare", "recorded", "stacks", "no-data", "elsewhere")
 BUSY = 10_000  # calls a second of a busy device
 
 
@@ -92,7 +92,7 @@ def print_bytes(all_runs: dict[str, list[Run]]) -> None:
     print(f"bytes for a call, and how many minutes of {BUSY:,} calls a second are 1 GiB of captures")
     print(f"    {'guest':22} {'data, bytes':>11}{'how':>12}{'capture':>12}{'side list':>12}{'minutes':>12}")
     guest, runs = next(iter(all_runs.items()))
-    for run in (it for it in runs if it.kind == "rate"):
+    for run in (it for it in runs if it.kind == "rate" and it.how != "elsewhere"):
         capture, side = (size / run.count for size in run.more[2:])
         print(f"    {told(guest):22} {run.size:11}{run.how:>12}{capture:12,.0f}{side:12,.0f}"
               f"{(1 << 30) / (capture * BUSY * 60):12.2g}")
