@@ -71,10 +71,10 @@ _binder_record() { # COMMAND WORD BEFORE
     --) mapfile -t COMPREPLY < <(compgen -c -- "$2") ;;
     -o) _binder_audit_files ;;
     --device) _binder_audit_words "$2" 'binder hwbinder vndbinder' ;;
-    --size | --files | --pid | --ring) ;;
+    --size | --files | --pid | --only | --ring) ;;
     *)
-      _binder_audit_words "$2" '-o --size --files --pid --device --redact --no-attachments --stacks --ring --check
-        --adb --detach --fetch --no-names --collect --help --version --'
+      _binder_audit_words "$2" '-o --size --files --pid --only --device --redact --no-attachments --stacks --ring
+        --check --adb --detach --fetch --no-names --collect --help --version --'
       ;;
   esac
 }

@@ -91,6 +91,7 @@ case $service in
       '--size[most bytes of a file]:65536 to 1073741824:' \
       '--files[keep only the newest files]:2 to 65536:' \
       '*--pid[only this process]:process:_pids' \
+      '*--only[only processes of this name or user]:name or user id:' \
       '*--device[only this device]:device:(binder hwbinder vndbinder)' \
       '--redact[replace what is secret]' \
       '--no-attachments[leave out the data]' \

@@ -92,13 +92,28 @@ static void set_up(const struct options *options)
 	program->rodata->takes_stacks = (u32)options->stacks;
 	if (options->stacks)
 		bpf_map__set_max_entries(program->maps.stack_scratches, (u32)libbpf_num_possible_cpus());
-	program->rodata->by_process = options->process_count != 0;
+	program->rodata->by_process = options->process_count + options->called_count != 0;
+	program->rodata->by_name = options->called_count != 0;
 	program->rodata->by_device = options->device_count != 0;
+}
+
+/* A name, or only digits: a user. */
+static void name_called(const char *text)
+{
+	char name[CALLED_BYTES] = "";
+	u32 one = 1, user = (u32)strtoul(text, NULL, 10);
+	snprintf(name, sizeof name, "%s", text);
+	if (text[strspn(text, "0123456789")])
+		bpf_map__update_elem(program->maps.wanted_names, name, sizeof name, &one, sizeof one, BPF_ANY);
+	else
+		bpf_map__update_elem(program->maps.wanted_users, &user, sizeof user, &one, sizeof one, BPF_ANY);
 }
 
 static void name_wanted(const struct options *options)
 {
 	u32 one = 1;
+	for (u32 i = 0; i < options->called_count; i++)
+		name_called(options->called[i]);
 	for (u32 i = 0; i < options->process_count; i++) {
 		need_process(options->processes[i]);
 		bpf_map__update_elem(program->maps.wanted_processes, &options->processes[i], sizeof one, &one,

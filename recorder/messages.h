@@ -16,6 +16,7 @@
 #define SHARES 32768u		/* processes whose ids differ by a multiple of this have one share together */
 #define TICKET_BYTES 16u	/* of a ring, for each number that an older kernel gives: see helped.bpf.h */
 #define NAME_BYTES 16u
+#define CALLED_BYTES 64u	/* the most bytes of what --only calls a process, with the NUL behind it */
 #define COMMAND_BYTES 256u	/* the most bytes of a command line */
 #define MOST_OF_STACK 64u	/* the most addresses of a stack */
 

@@ -1,4 +1,5 @@
 #include "options.h"
+#include "messages.h"
 #include "parts.h"
 #include <errno.h>
 #include <getopt.h>
@@ -13,8 +14,8 @@
 #define MOST_FILES 65536u
 
 static const char usage[] =
-	"record [-o OUT] [--size BYTES] [--files N] [--pid PID].. [--device NAME].. [--redact]"
-	" [--no-attachments] [--ring BYTES] [--stacks] [--check | --version | -- PROGRAM ARGUMENT...]";
+	"record [-o OUT] [--size BYTES] [--files N] [--pid PID].. [--only PROCESS].. [--device NAME].."
+	" [--redact] [--no-attachments] [--ring BYTES] [--stacks] [--check | --version | -- PROGRAM ARGUMENT...]";
 
 static const char usage_of_adb[] =
 	"record --adb [SERIAL] [--detach | --fetch] [--no-names] [--collect[=NAME,..]] [OPTION].."
@@ -29,6 +30,8 @@ static const char help[] =
 	"--size BYTES       the most bytes of a file, 65536 to 1073741824; by default 268435456\n"
 	"--files N          keeps only the newest N files, 2 to 65536, each with a side list of its own, OUT-1.side and so on\n"
 	"--pid PID          records only the openings of this process; may be given several times\n"
+	"--only PROCESS     records only the openings of processes of this name, or of this user id, also of such as begin\n"
+	"                   later; may be given several times, also beside --pid\n"
 	"--device NAME      records only this device, for example binder or /dev/binder; may be given several times\n"
 	"--redact           replaces what is secret in the data of transactions and replies by bytes that tell nothing of it,\n"
 	"                   and keeps of command lines only what programs are called, without folders\n"
@@ -71,6 +74,15 @@ static void add_process(struct options *options, const char *text)
 	options->processes[options->process_count++] = (u32)number("--pid", text, 1, 4194304);
 }
 
+static void add_called(struct options *options, const char *text)
+{
+	if (options->called_count == MOST_NAMED)
+		fail("at most %d processes can be named", MOST_NAMED);
+	if (!*text || strlen(text) >= CALLED_BYTES)
+		fail("--only takes a name of 1 to %u bytes, or a user id, not %s", CALLED_BYTES - 1, text);
+	options->called[options->called_count++] = text;
+}
+
 static void add_device(struct options *options, const char *text)
 {
 	if (options->device_count == MOST_NAMED)
@@ -86,6 +98,7 @@ static void take(struct options *options, int letter)
 	case 'f': options->files = (u32)number("--files", optarg, FEWEST_FILES, MOST_FILES); break;
 	case 'p': add_process(options, optarg); break;
 	case 'd': add_device(options, optarg); break;
+	case 'n': add_called(options, optarg); break;
 	case 'x': options->redact = 1; break;
 	case 'a': options->no_attachments = 1; break;
 	case 't': options->stacks = 1; break;
@@ -103,6 +116,7 @@ void options_read(struct options *options, int count, char **words)
 		{ "out", required_argument, NULL, 'o' }, { "size", required_argument, NULL, 's' },
 		{ "files", required_argument, NULL, 'f' },
 		{ "pid", required_argument, NULL, 'p' }, { "device", required_argument, NULL, 'd' },
+		{ "only", required_argument, NULL, 'n' },
 		{ "redact", no_argument, NULL, 'x' }, { "no-attachments", no_argument, NULL, 'a' },
 		{ "ring", required_argument, NULL, 'r' },
 		{ "stacks", no_argument, NULL, 't' }, { "check", no_argument, NULL, 'c' },

@@ -13,6 +13,8 @@ struct options {
 	u32 processes[MOST_NAMED], process_count;
 	const char *devices[MOST_NAMED];
 	u32 device_count;
+	const char *called[MOST_NAMED];	/* names and users of --only */
+	u32 called_count;
 	int redact, no_attachments, stacks;
 	int check;			/* only looks whether a recording can be made */
 	char **program;			/* NULL if there is none */

@@ -1,5 +1,5 @@
 /* The recorder's program in the kernel: what it does at each event of the driver and of the scheduler. */
-#include "command.bpf.h"
+#include "called.bpf.h"
 #include "small.bpf.h"
 #include "stacks.bpf.h"
 #include "tracepoints.h"
@@ -35,11 +35,21 @@ static __always_inline u64 argument_of(void *context)
 	return argument;
 }
 
-static __always_inline int is_wanted(u32 process, u32 device)
+static __always_inline enum wanted is_wanted(u32 process, u32 device)
 {
-	if (by_process && !bpf_map_lookup_elem(&wanted_processes, &process))
-		return 0;
-	return !by_device || bpf_map_lookup_elem(&wanted_devices, &device);
+	if (by_device && !bpf_map_lookup_elem(&wanted_devices, &device))
+		return NOT_WANTED;
+	if (!by_process || bpf_map_lookup_elem(&wanted_processes, &process))
+		return WANTED;
+	return by_name ? WANTED_BY_NAME_PERHAPS : NOT_WANTED;
+}
+
+/* Whether the opening, on which the process calls, is recorded. */
+static __always_inline int is_recorded(struct opening *o, u32 process)
+{
+	if (by_name && o->recorded == WANTED_BY_NAME_PERHAPS && o->process == process)
+		look_whether_wanted(o);
+	return o->recorded == WANTED;
 }
 
 /* The namespace of the ids of a process, and its id there; both stay 0 for a process of the first one. */
@@ -182,8 +192,8 @@ SEC("iter/task_file") int meet_openings(struct bpf_iter__task_file *context)
 	if (bpf_map_lookup_elem(&openings, &key))
 		return 0;
 	struct opening o = {};
-	o.told = 1;
-	if (keep_opening(&o, task, file) || !o.recorded)
+	o.told = !by_name;	/* else it is told when its process calls, and says what it is called */
+	if (keep_opening(&o, task, file) || !o.told || !o.recorded)
 		return 0;
 	struct met_opening met = {};
 	met.process = o.process;
@@ -338,7 +348,7 @@ static __always_inline int enter(struct task_struct *task, struct file *file, u3
 		add_opening(task, file);
 		o = bpf_map_lookup_elem(&openings, &key);
 	}
-	if (o ? !o->recorded : !is_wanted(process, BPF_CORE_READ(file, f_inode, i_rdev))) {
+	if (o ? !is_recorded(o, process) : !is_wanted(process, BPF_CORE_READ(file, f_inode, i_rdev))) {
 		leave_out(id);
 		return 0;
 	}
@@ -542,7 +552,7 @@ static __noinline int meet_return(u32 id, u32 process)
 		return 0;
 	key = file_of(task, descriptor_of_call(registers, bits));
 	struct opening *o = bpf_map_lookup_elem(&openings, &key);
-	if (!o || !o->recorded || add_thread(task, id, process))
+	if (!o || !is_recorded(o, process) || add_thread(task, id, process))
 		return 0;
 	struct thread *t = bpf_map_lookup_elem(&threads, &id);
 	struct scratch *s = scratch();

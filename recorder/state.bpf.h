@@ -3,9 +3,12 @@
 #define RECORDER_STATE_BPF_H
 #include "task.bpf.h"
 
+/* Whether an opening is recorded. What its process is called is asked when the process itself calls. */
+enum wanted { NOT_WANTED, WANTED, WANTED_BY_NAME_PERHAPS };
+
 struct opening {
 	u32 id;
-	u8 recorded, told;
+	u8 recorded, told;	/* recorded: enum wanted */
 	u8 born;		/* it was opened after the recording began */
 	u8 has_command;		/* a command line was reported */
 	u32 process, device;
@@ -19,6 +22,11 @@ struct opening {
 };
 
 enum call { NO_CALL, CALL_RECORDED, CALL_NOT_RECORDED };
+
+/* What a process is called, and zeros behind it. */
+struct called {
+	char name[CALLED_BYTES];
+};
 
 /* A thread that has called a Binder device. */
 struct thread {
@@ -83,6 +91,8 @@ struct scratch {
 	struct command command;		/* not the last one: see BOUND in command.bpf.h */
 	struct event event;
 	struct thread new_thread;
+	struct called called;		/* what the caller's process is called, */
+	u64 letters;			/* and how many letters that has */
 };
 
 struct { __uint(type, BPF_MAP_TYPE_RINGBUF); __uint(max_entries, 1 << 26); } ring SEC(".maps");
@@ -109,11 +119,13 @@ TABLE(openings, u64, struct opening);	/* by the address of the file; see MOST_OP
 TABLE(processes, u32, u32);		/* those whose end will be reported */
 TABLE(wanted_processes, u32, u32);	/* of --pid */
 TABLE(wanted_devices, u32, u32);	/* of --device */
+TABLE(wanted_users, u32, u32);		/* of --only, as the next one */
+TABLE(wanted_names, struct called, u32);
 TABLE(driver_devices, u32, u32);	/* that the driver made itself */
 
 /* From here on the room of the ring is only for events. */
 const volatile u64 ring_limit = 60 << 20;
-const volatile u32 by_process = 0, by_device = 0, no_attachments = 0;
+const volatile u32 by_process = 0, by_name = 0, by_device = 0, no_attachments = 0;
 
 u32 stopped = 1;		/* no number is taken: the recording has not begun, or has ended (kernel_stop) */
 u64 last_number = 0;		/* these three are NEXT and LAST in helped.bpf.h */

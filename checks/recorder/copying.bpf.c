@@ -123,6 +123,15 @@ SEC("raw_tp/played") int play_look(void *unused)
 	return 0;
 }
 
+/* Whether the caller is one of --only. */
+SEC("raw_tp/played") int play_wanted(void *unused)
+{
+	looked_at.look_at = 0;
+	looked_at.recorded = WANTED_BY_NAME_PERHAPS;
+	look_whether_wanted(&looked_at);
+	return looked_at.recorded == WANTED;
+}
+
 /* ---- openings of the caller, of files that are not there */
 
 u64 played_file = 0;

@@ -366,6 +366,40 @@ static void *play_lines(void *own_line)
 	return NULL;
 }
 
+/* ---- what --only asks of a process */
+
+static u32 is_wanted(const struct bpf_map *names, const void *key, u64 bytes)
+{
+	LIBBPF_OPTS(bpf_test_run_opts, run);
+	u32 one = 1;
+	if (bpf_map__update_elem(names, key, bytes, &one, sizeof one, BPF_ANY) ||
+	    bpf_prog_test_run_opts(bpf_program__fd(program->progs.play_wanted), &run) ||
+	    bpf_map__delete_elem(names, key, bytes, 0))
+		fail("--only: the program did not run");
+	return run.retval;
+}
+
+static u32 is_called(const char *name)
+{
+	char key[CALLED_BYTES] = "";
+	strncpy(key, name, sizeof key - 1);
+	return is_wanted(program->maps.wanted_names, key, sizeof key);
+}
+
+/* The process is called by its first thread, and by its program without folders. It is a user's. */
+static void play_called(char *own_line)
+{
+	u32 user = geteuid(), other = user + 1;
+	if (!is_called("copying") || is_called("copyin") || is_called("copying2"))
+		fail("--only: the name of the first thread");
+	strcpy(own_line, "/x/pro");
+	if (!is_called("pro") || is_called("x") || is_called("/x/pro") || is_called("pr"))
+		fail("--only: the name of the program");
+	if (!is_wanted(program->maps.wanted_users, &user, sizeof user) ||
+	    is_wanted(program->maps.wanted_users, &other, sizeof other))
+		fail("--only: the user");
+}
+
 /* ---- the stack of a call */
 
 static const struct stack *stack;
@@ -560,6 +594,7 @@ int main(int words, char **word)
 	if (strlen(word[0]) < sizeof "second" || pthread_create(&thread, NULL, play_lines, word[0]) ||
 	    pthread_join(thread, NULL))
 		fail("no command line that can be written over, or no thread");
+	play_called(word[0]);
 	put_record(commands, BC_TRANSACTION, data, MOST_AT_ONCE);
 	printf("%-66s %8s %8s %8s\n", "microseconds", "least", "median", "of 10, 9");
 	measure("a write's next bytes, and the largest attachment", program->progs.measure_command, rounds,
