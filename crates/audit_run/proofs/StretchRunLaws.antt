@@ -1,6 +1,6 @@
 -- Laws of runs on a capture that was read in stretches.
 use Rattle.std.proofs.Common.{◌≡◌, ℕ, ◌+◌, ◌≤◌, List, [], ◌∷◌, ◌++◌, length, map, drop, All, Vec, Global, Option, Some, None, Result, Ok, Err, refl, sym, ap, subst, ◌∙◌, arith}
-use Rattle.std.specs.Prelude.{is_ok, true, IsOk}
+use Rattle.std.specs.Prelude.{⊤, is_ok, true, IsOk}
 use Rattle.std.specs.List.{flat_map}
 use Rattle.std.proofs.lemmas.List.{length-map}
 use Rattle.std.proofs.lemmas.List.Concat.{flat_map-cons}
@@ -99,7 +99,7 @@ one_file_given (known ∷ []) parts read =
 one_file_given (known ∷ other ∷ more) parts read = absurd read
 
 -- an error of reading a stretch is one that files may give
-pub stretch_gives : (known : List (Option (List ℕ))) (error : RunError) → IsStretchError error → FilesGive known (Err error)
+pub stretch_gives : (known : List (Option (List ℕ))) (error : RunError) → IsStretchError (λ e. ⊤) error → FilesGive known (Err error)
 stretch_gives known Memory fault = tt
 stretch_gives known TooLarge fault = absurd fault
 stretch_gives known Read fault = tt

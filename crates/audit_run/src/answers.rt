@@ -1,12 +1,12 @@
 //! Answers a question about a capture whose parts come from readers or from files.
-ghost use Rattle.std.specs.Prelude.{◌≡◌, ◌<◌, ◌^◌, length, map, vec_len, IfErr, IfOk, IfSome, IsOkUnless};
+ghost use Rattle.std.specs.Prelude.{◌≡◌, ◌<◌, ◌^◌, ℕ, List, length, map, vec_len, Err, IfErr, IfOk, IfSome, IsOkUnless, ⊤};
 ghost use Rattle.std.specs.List.{AllZip};
 ghost use Rattle.transaction_view.specs.Grammar.{frames_of_parts};
 ghost use Rattle.audit_join.specs.declared.limits.TheConstants.{CAPTURE_LIMIT};
 ghost use Rattle.audit_streams.specs.Stretches.{AreStretchesOf, IsStretchError};
 ghost use Rattle.audit_run.specs.PartRuns.{AreOfOneFile, FilesGive, IsOpeningError, ReadersGive};
 ghost use Rattle.audit_run.specs.Stretches.{unless_not_opened};
-ghost use Rattle.audit_run.specs.Question.{answer_to, names_of, reading_status};
+ghost use Rattle.audit_run.specs.Question.{IsByAll, answer_to, names_of, reading_status};
 ghost use Rattle.audit_run.specs.Run.{RunEnds};
 ghost use Rattle.audit_run.specs.Store.{HasLeft};
 
@@ -74,7 +74,9 @@ fn read_together<T: Threads + Sync, S: Store>(
     ensures read { IfOk result (λ found. IfSome found (λ parts.
         AreOfOneFile (map (S.bytes_of store.now) (names_of request.entry))
         (map (λ part. part.items) parts.items))) }
-    ensures faults { IfErr result IsStretchError }
+    ensures faults { IfErr result (IsStretchError (λ error. ⊤)) }
+    ensures always { (name : List ℕ) → IsByAll request.entry name →
+        IfSome (S.always_of store.now name) (λ error. result ≡ unless_not_opened (Err error)) }
 {
     let Question::Report { workers, piece: _ } = request.question else {
         return Ok(None);
@@ -95,7 +97,9 @@ fn read_file<T: Threads + Sync, S: Store>(
 ) -> Result<Option<Vec<Vec<u8>>>, RunError>
     ensures read { IfOk result (λ found. IfSome found (λ parts. AreStretchesOf CAPTURE_LIMIT
         (S.bytes_of store.now name.now) (map (λ part. part.items) parts.items))) }
-    ensures faults { IfErr result IsStretchError }
+    ensures faults { IfErr result (IsStretchError (S.errors_of store.now name.now)) }
+    ensures always { IfSome (S.always_of store.now name.now) (λ error.
+        result ≡ unless_not_opened (Err error)) }
 {
     let Some(files) = store.shared() else {
         return Ok(None);

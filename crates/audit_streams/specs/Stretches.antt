@@ -29,10 +29,10 @@ pub record AreStretchesOf (limit : ℕ) (known : Option (List ℕ)) (parts : Lis
   pub within : 16 + bytes_of parts ≤ limit
   pub are : IfSome known (λ all. joined_as version parts ≡ all)
 
--- an error that reading a stretch may end with: `Memory`, `Read` or `Open`
-abbrev pub IsStretchError : RunError → Type 0
-IsStretchError Memory = ⊤
-IsStretchError TooLarge = ⊥
-IsStretchError Read = ⊤
-IsStretchError Write = ⊥
-IsStretchError Open = ⊤
+-- an error that reading a stretch may end with: `Memory`, or `Read` or `Open` if a reading of the file may end so
+abbrev pub IsStretchError : (RunError → Type 0) → RunError → Type 0
+IsStretchError errors Memory = ⊤
+IsStretchError errors TooLarge = ⊥
+IsStretchError errors Read = errors Read
+IsStretchError errors Write = ⊥
+IsStretchError errors Open = errors Open

@@ -12,10 +12,14 @@ use std::os::unix::fs::MetadataExt;
 const WORTH_SHARING: u64 = 1_048_576;
 
 impl SharedFiles for HostRuntime {
-    ghost use Rattle.std.specs.Prelude.{None};
+    ghost use Rattle.std.specs.Prelude.{None, ⊤};
 
-    // No contract can say which bytes a file has.
+    // No contract can say which bytes a file has, or how a reading of it ends.
     ghost known = { λ files name. None };
+
+    ghost errors = { λ files name error. ⊤ };
+
+    ghost always = { λ files name. None };
 
     fn find(&self, name: &str) -> Option<FoundFile> {
         match fs::metadata(self, name) {

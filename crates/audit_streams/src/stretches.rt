@@ -1,5 +1,5 @@
 //! Reads a capture in stretches, by several threads at once.
-ghost use Rattle.std.specs.Prelude.{◌≡◌, ◌<◌, ◌≤◌, ◌+◌, ◌-◌, ◌^◌, ◌++◌, ℕ, List, length, map, drop, take, Ok, Option, All, IfOk, IfErr, IfSome, IsTrue, vec_len};
+ghost use Rattle.std.specs.Prelude.{◌≡◌, ◌<◌, ◌≤◌, ◌+◌, ◌-◌, ◌^◌, ◌++◌, ℕ, List, length, map, drop, take, Ok, Option, All, Err, IfOk, IfErr, IfSome, IsOkUnless, IsSome, IsTrue, vec_len};
 ghost use Rattle.std.specs.List.{flat_map};
 ghost use Rattle.std.specs.Thread.{IsSync};
 ghost use Rattle.capture_frame.specs.Envelope.{file_header};
@@ -32,11 +32,21 @@ pub struct FoundFile {
 
 /// Files that several threads may read at once, each a stretch of its own.
 pub trait SharedFiles {
+    ghost use Rattle.audit_streams.specs.declared.run_error.RunError.{RunError};
+
     /// All bytes of the file of this name, if a contract can say which these are.
     ghost known: { Self → List ℕ → Option (List ℕ) };
 
+    /// The errors with which a reading of the file of this name may end.
+    ghost errors: { Self → List ℕ → RunError → Type 0 };
+
+    /// The error with which each reading of the file of this name ends, if a contract can say that
+    /// the file is found and that each does.
+    ghost always: { Self → List ℕ → Option RunError };
+
     /// The file of this name, if it can be read from any place on, and is worth it.
-    fn find(&self, name: &str) -> Option<FoundFile>;
+    fn find(&self, name: &str) -> Option<FoundFile>
+        ensures { IfSome (always self.now name.now) (λ error. IsSome result) };
 
     /// The bytes of a file from `start` on: `most` of them, or fewer where it ends. `Open` if it
     /// can't be opened, or if the name has become that of another file.
@@ -50,7 +60,8 @@ pub trait SharedFiles {
     ) -> Result<Vec<u8>, RunError>
         ensures bytes { IfOk result (λ bytes.
             IsStretch (known self.now name.now) start most bytes.items) }
-        ensures faults { IfErr result IsStretchError };
+        ensures faults { IfErr result (IsStretchError (errors self.now name.now)) }
+        ensures always { IfSome (always self.now name.now) (λ error. result ≡ Err error) };
 }
 
 /// The bytes of a file from `start` on that are before `end`, after its file header.
@@ -92,7 +103,8 @@ pub fn read_stretches<T: Threads + Sync, F: SharedFiles + Sync>(
     ensures read { IfOk result (λ found. IfSome found (λ parts.
         AreStretchesOf limit (F.known files.now name.now)
         (map (λ part. part.items) parts.items))) }
-    ensures faults { IfErr result IsStretchError }
+    ensures faults { IfErr result (IsStretchError (F.errors files.now name.now)) }
+    ensures always { IfSome (F.always files.now name.now) (λ error. result ≡ Err error) }
 {
     let head = files.bytes(alloc, name, found, 0, FILE_HEADER)?;
     let Some(version) = version_of(head.as_slice()) else {
@@ -211,7 +223,8 @@ impl<F: SharedFiles> SharedFile<'_, F> {
         ensures read { IfOk result (λ parts.
             ArePartsOf (F.known self.now.files.now self.now.name.now) stretch.start
             (stretch.end - stretch.start) (map (λ part. part.items) parts.items)) }
-        ensures faults { IfErr result IsStretchError }
+        ensures faults { IfErr result (
+            IsStretchError (F.errors self.now.files.now self.now.name.now)) }
     {
         if threads < 2 {
             return self.one_part(alloc, stretch);
@@ -238,7 +251,7 @@ impl<F: SharedFiles> SharedFile<'_, F> {
                 ensures { IfOk result (λ parts.
                     ArePartsOf (F.known files.entry.now name.entry.now) front.start
                     (front.end - front.start) (map (λ part. part.items) parts.items))
-                    × IfErr result IsStretchError }
+                    × IfErr result (IsStretchError (F.errors files.entry.now name.entry.now)) }
             {
                 let file = SharedFile {
                     files,
@@ -253,7 +266,7 @@ impl<F: SharedFiles> SharedFile<'_, F> {
                 ensures { IfOk result (λ parts.
                     ArePartsOf (F.known files.entry.now name.entry.now) back.start
                     (back.end - back.start) (map (λ part. part.items) parts.items))
-                    × IfErr result IsStretchError }
+                    × IfErr result (IsStretchError (F.errors files.entry.now name.entry.now)) }
             {
                 let file = SharedFile {
                     files,
@@ -282,11 +295,13 @@ impl<F: SharedFiles> SharedFile<'_, F> {
         requires second { IfOk second (λ parts.
             ArePartsOf (F.known self.now.files.now self.now.name.now) back.start
             (back.end - back.start) (map (λ part. part.items) parts.items)) }
-        requires faults { IfErr first IsStretchError × IfErr second IsStretchError }
+        requires faults { IfErr first (IsStretchError (F.errors self.now.files.now self.now.name.now))
+            × IfErr second (IsStretchError (F.errors self.now.files.now self.now.name.now)) }
         ensures read { IfOk result (λ parts.
             ArePartsOf (F.known self.now.files.now self.now.name.now) front.start
             (back.end - front.start) (map (λ part. part.items) parts.items)) }
-        ensures faults { IfErr result IsStretchError }
+        ensures faults { IfErr result (
+            IsStretchError (F.errors self.now.files.now self.now.name.now)) }
     {
         let mut all = first?;
         let mut others = second?;
@@ -299,7 +314,8 @@ impl<F: SharedFiles> SharedFile<'_, F> {
         ensures read { IfOk result (λ parts.
             ArePartsOf (F.known self.now.files.now self.now.name.now) stretch.start
             (stretch.end - stretch.start) (map (λ part. part.items) parts.items)) }
-        ensures faults { IfErr result IsStretchError }
+        ensures faults { IfErr result (
+            IsStretchError (F.errors self.now.files.now self.now.name.now)) }
     {
         let part = self.part_of(alloc, stretch)?;
         let mut parts = Vec::new(alloc);
@@ -312,7 +328,8 @@ impl<F: SharedFiles> SharedFile<'_, F> {
         ensures read { IfOk result (λ part.
             IsStretch (F.known self.now.files.now self.now.name.now) stretch.start
             (stretch.end - stretch.start) (drop 16 part.items)) }
-        ensures faults { IfErr result IsStretchError }
+        ensures faults { IfErr result (
+            IsStretchError (F.errors self.now.files.now self.now.name.now)) }
     {
         let before = stretch.start - FILE_HEADER as u64;
         let most = (stretch.end - stretch.start) as usize + FILE_HEADER;
@@ -326,7 +343,8 @@ impl<F: SharedFiles> SharedFile<'_, F> {
     fn seam_in(&self, alloc: Global, stretch: Stretch) -> Result<Option<u64>, RunError>
         ensures within { IfOk result (λ found. IfSome found (λ seam.
             (stretch.start ≤ seam) × (seam ≤ stretch.end))) }
-        ensures faults { IfErr result IsStretchError }
+        ensures faults { IfErr result (
+            IsStretchError (F.errors self.now.files.now self.now.name.now)) }
     {
         let middle = stretch.start + (stretch.end - stretch.start) / 2;
         let before = middle - FILE_HEADER as u64;
@@ -348,7 +366,7 @@ impl<F: SharedFiles> SharedFile<'_, F> {
 /// have these, nothing else is left of the part.
 fn with_header(part: Vec<u8>, head: &[u8]) -> Result<Vec<u8>, RunError>
     ensures after { IfOk result (λ whole. drop 16 whole.items ≡ drop 16 part.items) }
-    ensures faults { IfErr result IsStretchError }
+    ensures memory { IsOkUnless result RunError.Memory }
 {
     let mut whole = part;
     if whole.len() < FILE_HEADER && head.len() == FILE_HEADER {
@@ -377,7 +395,7 @@ fn with_rest(parts: Vec<Vec<u8>>, rest: Vec<u8>) -> Result<Vec<Vec<u8>>, RunErro
     ensures read { IfOk result (λ all. (vec_len parts ≤ vec_len all)
         × (flat_map (drop 16) (map (λ part. part.items) all.items)
         ≡ flat_map (drop 16) (map (λ part. part.items) parts.items) ++ drop 16 rest.items)) }
-    ensures faults { IfErr result IsStretchError }
+    ensures memory { IsOkUnless result RunError.Memory }
 {
     let mut all = parts;
     if FILE_HEADER < rest.len() {

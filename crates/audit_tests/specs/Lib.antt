@@ -1,1 +1,2 @@
+pub mod NotInStretches
 pub mod TwoFiles

@@ -25,7 +25,13 @@ impl<'a> Store for TwoFiles<'a> {
 
     type Shared = TwoFiles<'a>;
 
+    ghost use Rattle.std.specs.Prelude.{None, ⊤};
+
     ghost bytes_of = { λ store. two_files store.first.now store.second.now };
+
+    ghost errors_of = { λ store name error. ⊤ };
+
+    ghost always_of = { λ store name. None };
 
     fn open(&self, name: &str) -> io::Result<&'a [u8]> {
         if name == "first" {
@@ -43,7 +49,13 @@ impl<'a> Store for TwoFiles<'a> {
 }
 
 impl<'a> SharedFiles for TwoFiles<'a> {
+    ghost use Rattle.std.specs.Prelude.{None, ⊤};
+
     ghost known = { λ store. two_files store.first.now store.second.now };
+
+    ghost errors = { λ store name error. ⊤ };
+
+    ghost always = { λ store name. None };
 
     fn find(&self, name: &str) -> Option<FoundFile> {
         let Ok(bytes) = self.open(name) else {
@@ -77,7 +89,7 @@ impl<'a> SharedFiles for TwoFiles<'a> {
     }
 }
 
-fn words_of(alloc: Global, line: &str) -> Result<Vec<String>, AllocError> {
+pub(super) fn words_of(alloc: Global, line: &str) -> Result<Vec<String>, AllocError> {
     let mut words = Vec::new(alloc);
     for word in line.split(' ') {
         words.push(String::from_str(alloc, word)?)?;
