@@ -1,17 +1,10 @@
 //! Makes one of the calls that take memory, on a capture, and prints its answer.
 #![tactic(auto)]
 
-mod events;
-mod fits;
 mod given;
-mod jobs;
-mod ledgers;
-mod no_answer;
 mod parts;
 mod pieces;
-mod placed;
 mod runs;
-mod sums;
 mod table;
 mod told;
 

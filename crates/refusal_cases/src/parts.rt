@@ -6,14 +6,13 @@ ghost use Rattle.std.specs.Prelude.{◌≤◌, length, map, vec_len, IfOk};
 ghost use Rattle.audit_join.specs.declared.limits.TheConstants.{CAPTURE_LIMIT};
 
 use crate::given::Given;
-use crate::no_answer::{NoAnswer, Printed};
 use crate::runs::Shown;
-use crate::told;
 use audit_join::{CAPTURE_LIMIT, PartsError, Piece, audit_parts};
 use audit_run::{Question, answer, run_first_fault_parts, run_parts};
 use audit_streams::read_parts;
 use capture_frame::{PartCut, cut_parts};
 use claim_board::{NoGate, Workers};
+use refusal_ledgers::{NoAnswer, Printed, kept_frames, value};
 use std::alloc::{AllocError, Global};
 use std::io::Write;
 use std::thread::Threads;
@@ -72,18 +71,18 @@ fn parts_of<'c>(alloc: Global, input: &'c [u8]) -> Result<Vec<&'c [u8]>, NoAnswe
 pub(crate) fn read<W: Write>(alloc: Global, input: &[u8], out: &mut W) -> Printed {
     let readers = parts_of(alloc, input)?;
     let parts = read_parts(alloc, readers, CAPTURE_LIMIT)?;
-    told::value(&parts, out)
+    value(&parts, out)
 }
 
 /// Prints the frames of the parts, or the first fault of a header and the frames before it.
 pub(crate) fn cut_all<W: Write>(alloc: Global, input: &[u8], out: &mut W) -> Printed {
     let parts = parts_of(alloc, input)?;
     match cut_parts(alloc, parts.as_slice()) {
-        Ok(frames) => told::kept_frames(&frames.as_slice(), out),
+        Ok(frames) => kept_frames(&frames.as_slice(), out),
         Err(PartCut::Memory) => Err(NoAnswer::Memory),
         Err(PartCut::Bad { found, before }) => {
-            told::value(&found, out)?;
-            told::kept_frames(&before.as_slice(), out)
+            value(&found, out)?;
+            kept_frames(&before.as_slice(), out)
         }
     }
 }
@@ -92,7 +91,7 @@ pub(crate) fn cut_all<W: Write>(alloc: Global, input: &[u8], out: &mut W) -> Pri
 pub(crate) fn ran_first_fault<W: Write>(alloc: Global, input: &[u8], out: &mut W) -> Printed {
     let readers = parts_of(alloc, input)?;
     let found = run_first_fault_parts(alloc, readers, out)?;
-    told::value(&found, out)
+    value(&found, out)
 }
 
 /// The question for a report, by this many workers and in pieces of one frame.
@@ -116,7 +115,7 @@ impl<T: Threads + Sync> Given<'_, T> {
         match audit_parts(self.rt, self.alloc, parts, workers, piece, &NoGate) {
             Ok(found) => self.tell_findings(found, Shown::Sections, out),
             Err(PartsError::Memory) => Err(NoAnswer::Memory),
-            Err(PartsError::Malformed(found)) => told::value(&found, out),
+            Err(PartsError::Malformed(found)) => value(&found, out),
         }
     }
 
@@ -125,13 +124,13 @@ impl<T: Threads + Sync> Given<'_, T> {
         let readers = parts_of(self.alloc, self.bytes)?;
         let piece = Piece::new(1).unwrap();
         let written = run_parts(self.rt, self.alloc, readers, out, workers, piece, &NoGate)?;
-        told::value(&written, out)
+        value(&written, out)
     }
 
     /// Prints the answer to a question about the parts, and the status.
     pub(crate) fn answered<W: Write>(&self, question: Question, out: &mut W) -> Printed {
         let readers = parts_of(self.alloc, self.bytes)?;
         let status = answer(self.rt, self.alloc, question, readers, out)?;
-        told::value(&status, out)
+        value(&status, out)
     }
 }

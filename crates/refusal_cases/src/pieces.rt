@@ -6,12 +6,11 @@ ghost use Rattle.audit_findings.specs.Frames.{AreGoodFrames};
 ghost use Rattle.audit_findings.specs.Summary.{SumsPiece};
 ghost use Rattle.audit_join.specs.Jobs.{AreSound};
 
-use crate::no_answer::{NoAnswer, Printed};
-use crate::sums::{self, Way};
 use crate::told;
 use audit_findings::{PieceSummary, ProcessHandles, SecondLook, Sections};
 use audit_join::{CAPTURE_LIMIT, Piece, Plan};
 use capture_frame::{FrameList, FrameSlice, PartCut, cut_parts};
+use refusal_ledgers::{NoAnswer, Printed, Way};
 use std::alloc::{AllocError, Global};
 use std::io::Write;
 use transaction_view::check_frame;
@@ -22,7 +21,7 @@ pub(crate) fn plan<W: Write>(alloc: Global, capture: &[u8], out: &mut W) -> Prin
     let piece = Piece::new(1).unwrap();
     let plan = Plan::new(alloc, &frames.as_slice(), piece)?;
     for piece in plan.pieces() {
-        told::kept_frames(piece, out)?;
+        refusal_ledgers::kept_frames(piece, out)?;
     }
     Ok(())
 }
@@ -115,6 +114,6 @@ fn tell_whole<W: Write>(sections: Sections<u64>, out: &mut W) -> Printed {
 pub(crate) fn summed<W: Write>(alloc: Global, bytes: &[u8], way: Way, out: &mut W) -> Printed {
     let frames = good_frames(alloc, bytes)?;
     let views = frames.as_slice().to_vec(alloc)?;
-    let summary = sums::summed(alloc, views.as_slice(), way)?;
+    let summary = refusal_ledgers::summed(alloc, views.as_slice(), way)?;
     tell(alloc, &frames.as_slice(), summary, out)
 }

@@ -1,7 +1,6 @@
 //! The calls from a capture, or from a command line, to findings, to a text and to streams.
 
 use crate::given::Given;
-use crate::no_answer::{NoAnswer, Printed};
 use crate::told;
 use audit_join::{AuditError, CAPTURE_LIMIT, Findings, Piece, audit, audit_one};
 use audit_program::program;
@@ -10,6 +9,7 @@ use audit_run::{
 };
 use audit_streams::read_capture;
 use claim_board::{NoGate, Workers};
+use refusal_ledgers::{NoAnswer, Printed, value};
 use report_text::{rows, text};
 use std::alloc::{AllocError, Global};
 use std::fs::Files;
@@ -23,21 +23,21 @@ const MOST_FILES: usize = 256;
 pub(crate) fn read<W: Write>(alloc: Global, bytes: &[u8], out: &mut W) -> Printed {
     let mut reader = bytes;
     let capture = read_capture(alloc, &mut reader, CAPTURE_LIMIT)?;
-    told::value(&capture, out)
+    value(&capture, out)
 }
 
 /// Prints what `run_first_fault` writes, and the fault that it answers.
 pub(crate) fn ran_first_fault<W: Write>(alloc: Global, bytes: &[u8], out: &mut W) -> Printed {
     let mut reader = bytes;
     let found = run_first_fault(alloc, &mut reader, out)?;
-    told::value(&found, out)
+    value(&found, out)
 }
 
 /// Prints a fault.
 fn tell_error<W: Write>(error: AuditError, out: &mut W) -> Printed {
     match error {
         AuditError::Memory => Err(NoAnswer::Memory),
-        AuditError::Malformed(fault) => told::value(&fault, out),
+        AuditError::Malformed(fault) => value(&fault, out),
     }
 }
 
@@ -110,7 +110,7 @@ impl<T: Threads + Sync> Given<'_, T> {
         let mut reader = self.bytes;
         let piece = Piece::new(1).unwrap();
         let written = run(self.rt, self.alloc, &mut reader, out, workers, piece)?;
-        told::value(&written, out)
+        value(&written, out)
     }
 
     pub(crate) fn ran_gated<W: Write>(&self, workers: Workers, out: &mut W) -> Printed {
@@ -125,7 +125,7 @@ impl<T: Threads + Sync> Given<'_, T> {
             piece,
             &NoGate,
         )?;
-        told::value(&written, out)
+        value(&written, out)
     }
 }
 
@@ -158,7 +158,7 @@ impl<T: Files + SharedFiles + Threads + Sync> Given<'_, T> {
         if status == 3 {
             return Err(NoAnswer::Memory);
         }
-        told::value(&status, out)
+        value(&status, out)
     }
 
     /// The bytes are names of files.
@@ -174,6 +174,6 @@ impl<T: Files + SharedFiles + Threads + Sync> Given<'_, T> {
         let store = HostFiles { files: self.rt };
         let request = Request { question, files };
         let status = answer_files(self.rt, self.alloc, &store, request, out)?;
-        told::value(&status, out)
+        value(&status, out)
     }
 }

@@ -1,35 +1,18 @@
 //! The names of the calls, and the call of each name.
 
 use crate::given::Given;
-use crate::no_answer::{NoAnswer, Printed};
 use crate::parts::report_by;
 use crate::runs::Shown;
-use crate::sums::Way;
-use crate::{events, jobs, ledgers, parts, pieces, runs};
+use crate::{parts, pieces, runs};
 use audit_join::CAPTURE_LIMIT;
 use audit_run::{Question, SharedFiles};
 use audit_streams::read_capture;
 use claim_board::Workers;
+use refusal_ledgers::{NoAnswer, Printed, Way, by_name, of_ledgers};
 use std::alloc::Global;
 use std::fs::Files;
-use std::io;
 use std::io::{Read, Write};
 use std::thread::Threads;
-
-/// Makes the call that a table has for a name. For an empty name it lists the names of the table,
-/// and then that name is `Unknown`, so that the next table is asked.
-macro_rules! by_name {
-    ($name:expr, $out:expr; $($known:literal => $call:expr,)*) => {
-        match $name {
-            "" => {
-                list(&[$($known),*], $out)?;
-                Err(NoAnswer::Unknown)
-            }
-            $($known => $call,)*
-            _ => Err(NoAnswer::Unknown),
-        }
-    };
-}
 
 /// Makes the call that the first line of the input names, on the bytes after that line, and prints
 /// its answer. Without input it lists the names.
@@ -46,7 +29,7 @@ pub(crate) fn answer<T: Files + SharedFiles + Threads + Sync, R: Read, W: Write,
         return Err(NoAnswer::Unknown);
     };
     let given = Given { rt, alloc, bytes };
-    match of_lists(alloc, name, bytes, out) {
+    match of_ledgers(rt, alloc, name, bytes, out) {
         Err(NoAnswer::Unknown) => {}
         answered => return answered,
     }
@@ -60,44 +43,14 @@ pub(crate) fn answer<T: Files + SharedFiles + Threads + Sync, R: Read, W: Write,
     }
 }
 
-/// The calls that read, and those that sum a list.
-fn of_lists<W: Write>(alloc: Global, name: &str, bytes: &[u8], out: &mut W) -> Printed {
-    by_name! { name, out;
-        "read_capture" => runs::read(alloc, bytes, out),
-        "read_parts" => parts::read(alloc, bytes, out),
-        "cut" => events::cut_all(alloc, bytes, out),
-        "cut_parts" => parts::cut_all(alloc, bytes, out),
-        "Tally: add, rows" => ledgers::tally(alloc, bytes, Way::Add, out),
-        "Tally: join, rows" => ledgers::tally(alloc, bytes, Way::Join, out),
-        "HandleLedger: add, rows" => ledgers::handles(alloc, bytes, Way::Add, out),
-        "HandleLedger: join, rows" => ledgers::handles(alloc, bytes, Way::Join, out),
-        "HandleLedger: add, rows_held" => ledgers::held(alloc, bytes, Way::Add, out),
-        "HandleLedger: join, rows_held" => ledgers::held(alloc, bytes, Way::Join, out),
-        "NodeLedger: add, rows" => ledgers::nodes(alloc, bytes, Way::Add, out),
-        "NodeLedger: join, rows" => ledgers::nodes(alloc, bytes, Way::Join, out),
-        "Buffers: add, outstanding, strays" => ledgers::buffers(alloc, bytes, Way::Add, out),
-        "Buffers: join, outstanding, strays" => ledgers::buffers(alloc, bytes, Way::Join, out),
-        "Deaths: add, outstanding, strays" => ledgers::deaths(alloc, bytes, Way::Add, out),
-        "Deaths: join, outstanding, strays" => ledgers::deaths(alloc, bytes, Way::Join, out),
-        "Clears: add, outstanding, strays" => ledgers::clears(alloc, bytes, Way::Add, out),
-        "Clears: join, outstanding, strays" => ledgers::clears(alloc, bytes, Way::Join, out),
-        "Tally by OnewayKey: add, rows" => ledgers::oneway(alloc, bytes, Way::Add, out),
-        "Tally by OnewayKey: join, rows" => ledgers::oneway(alloc, bytes, Way::Join, out),
-        "Requests: add, outstanding" => ledgers::requests(alloc, bytes, Way::Add, out),
-        "Requests: join, outstanding" => ledgers::requests(alloc, bytes, Way::Join, out),
-        "ThreadCalls: add, finish" => ledgers::calls(alloc, bytes, Way::Add, out),
-        "ThreadCalls: join, finish" => ledgers::calls(alloc, bytes, Way::Join, out),
-    }
-}
-
 impl<T: Threads + Sync> Given<'_, T> {
-    /// The calls that share frames, and those that find what is in them.
+    /// The calls that read, and those that find what is in frames.
     fn of_frames<W: Write>(&self, name: &str, out: &mut W) -> Printed {
         let (one, four) = (Workers::new(1).unwrap(), Workers::new(4).unwrap());
         by_name! { name, out;
-            "Board::new" => jobs::board(self.alloc, self.bytes, out),
-            "run_all by 1" => self.shared(one, out),
-            "run_all by 4" => self.shared(four, out),
+            "read_capture" => runs::read(self.alloc, self.bytes, out),
+            "read_parts" => parts::read(self.alloc, self.bytes, out),
+            "cut_parts" => parts::cut_all(self.alloc, self.bytes, out),
             "Plan::new" => pieces::plan(self.alloc, self.bytes, out),
             "PieceSummary: add, sections" => pieces::summed(self.alloc, self.bytes, Way::Add, out),
             "PieceSummary: join, sections" => {
@@ -144,11 +97,4 @@ fn first_line(input: &[u8]) -> (&[u8], &[u8]) {
         }
     }
     input.split_at(input.len())
-}
-
-fn list<W: Write>(names: &[&str], out: &mut W) -> io::Result<()> {
-    for name in names {
-        writeln!(out, "{name}")?;
-    }
-    Ok(())
 }

@@ -3,7 +3,7 @@ use Rattle.std.proofs.lemmas.List.{take_more, get_or_default}
 use Rattle.std.proofs.lemmas.List.Elements.{All-push, All-weaker}
 use Rattle.std.proofs.lemmas.List.Quantifiers.{all_pairs_push}
 use Rattle.summary_law.specs.Fits.{PlacesRise}
-use Rattle.refusal_cases.proofs.placed.is_placed.Goals as goal
+use Rattle.refusal_ledgers.proofs.placed.is_placed.Goals as goal
 
 pub loop-item-preserved : goal.loop-item-preserved
 loop-item-preserved g c =

@@ -1,5 +1,5 @@
 use Rattle.std.proofs.Common.{length}
-use Rattle.refusal_cases.proofs.events.push_events.Given as goal
+use Rattle.refusal_ledgers.proofs.events.push_events.Given as goal
 
 abbrev pub decreases-loop-event : goal.decreases-loop-event
 decreases-loop-event l = length l.reader

@@ -6,7 +6,6 @@ ghost use Rattle.claim_board.specs.Board.{AreJobs, EndsBefore};
 ghost use Rattle.claim_board.specs.Running.{no_place};
 
 use crate::events::frames_of;
-use crate::given::Given;
 use crate::no_answer::{NoAnswer, Printed};
 use crate::told;
 use claim_board::{Board, Job, JobStop, NoGate, Stop, Work, Workers, run_all};
@@ -120,18 +119,22 @@ pub(crate) fn board<W: Write>(alloc: Global, capture: &[u8], out: &mut W) -> Pri
     told::value(&(board.stopped(0), board.stopped(1), board.least()), out)
 }
 
-impl<T: Threads + Sync> Given<'_, T> {
-    /// Prints the results of all jobs, or their least fault.
-    pub(crate) fn shared<W: Write>(&self, workers: Workers, out: &mut W) -> Printed {
-        let jobs = jobs_of(self.alloc, self.bytes)?;
-        if !are_jobs(jobs.as_slice()) || jobs.len() > MOST_JOBS {
-            return Err(NoAnswer::Unfit);
-        }
-        let work = Listed { jobs };
-        match run_all(self.rt, self.alloc, &work, workers, &NoGate) {
-            Ok(starts) => told::value(&starts, out),
-            Err(Stop::Memory) => Err(NoAnswer::Memory),
-            Err(Stop::Least(place)) => told::value(&place, out),
-        }
+/// Prints the results of all jobs, or their least fault.
+pub(crate) fn shared<T: Threads + Sync, W: Write>(
+    rt: &T,
+    alloc: Global,
+    capture: &[u8],
+    workers: Workers,
+    out: &mut W,
+) -> Printed {
+    let jobs = jobs_of(alloc, capture)?;
+    if !are_jobs(jobs.as_slice()) || jobs.len() > MOST_JOBS {
+        return Err(NoAnswer::Unfit);
+    }
+    let work = Listed { jobs };
+    match run_all(rt, alloc, &work, workers, &NoGate) {
+        Ok(starts) => told::value(&starts, out),
+        Err(Stop::Memory) => Err(NoAnswer::Memory),
+        Err(Stop::Least(place)) => told::value(&place, out),
     }
 }

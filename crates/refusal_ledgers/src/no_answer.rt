@@ -1,13 +1,14 @@
+//! Why a call prints no answer.
 use audit_streams::RunError;
 use std::alloc::AllocError;
 use std::io;
 
 /// Whether the answer of a call is printed.
-pub(crate) type Printed = Result<(), NoAnswer>;
+pub type Printed = Result<(), NoAnswer>;
 
 /// Why no answer is printed.
 #[derive(Clone, Copy, Debug)]
-pub(crate) enum NoAnswer {
+pub enum NoAnswer {
     /// The call, or what comes before it, was refused memory.
     Memory,
     /// A stream failed, even if it failed because memory was refused.
@@ -21,7 +22,7 @@ pub(crate) enum NoAnswer {
 impl NoAnswer {
     /// The status that the process ends with. It is 0 if the call answered, even with a fault of
     /// the capture, and if the names were listed.
-    pub(crate) fn status(self) -> u8 {
+    pub fn status(self) -> u8 {
         match self {
             NoAnswer::Memory => 3,
             NoAnswer::Stream => 4,

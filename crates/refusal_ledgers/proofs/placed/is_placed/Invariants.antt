@@ -1,6 +1,6 @@
 use Rattle.std.proofs.Common.{◌≡◌, ◌+◌, ℕ, ◌<◌, All, take, get_or}
 use Rattle.summary_law.specs.Fits.{PlacesRise}
-use Rattle.refusal_cases.proofs.placed.is_placed.Given as goal
+use Rattle.refusal_ledgers.proofs.placed.is_placed.Given as goal
 
 abbrev pub invariant-loop-item : goal.invariant-loop-item
 invariant-loop-item g l = record {

@@ -1,5 +1,5 @@
 use Rattle.std.proofs.Common.{length, ap, arith}
-use Rattle.refusal_cases.proofs.events.push_events.Goals as goal
+use Rattle.refusal_ledgers.proofs.events.push_events.Goals as goal
 
 pub loop-event-smaller : goal.loop-event-smaller
 loop-event-smaller c =

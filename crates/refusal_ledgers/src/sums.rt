@@ -7,7 +7,7 @@ use summary_law::{Summary, summary_of};
 
 /// How a list is summed.
 #[derive(Clone, Copy)]
-pub(crate) enum Way {
+pub enum Way {
     /// Item by item.
     Add,
     /// Each half item by item, and then both are joined.
@@ -15,11 +15,7 @@ pub(crate) enum Way {
 }
 
 /// The summary of the items.
-pub(crate) fn summed<S: Summary>(
-    alloc: Global,
-    items: &[S::Item],
-    way: Way,
-) -> Result<S, AllocError>
+pub fn summed<S: Summary>(alloc: Global, items: &[S::Item], way: Way) -> Result<S, AllocError>
 where
     S::Item: Copy,
     requires { S.fits items.now }
