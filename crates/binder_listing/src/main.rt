@@ -1,7 +1,7 @@
 //! Lists the records of a capture of Android Binder traffic.
 #![tactic(auto)]
 
-use listing_lines::ended;
+use listing_program::ended;
 use std::env;
 use std::process::ExitCode;
 

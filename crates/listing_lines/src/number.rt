@@ -1,9 +1,9 @@
-//! Numbers of the command line.
+//! Numbers in words.
 
 ghost use Rattle.std.specs.Prelude.{◌≤◌};
 
 /// A number without a sign, in decimal, or in hexadecimal after `0x`.
-pub(crate) fn number_of(word: &str) -> Option<u64> {
+pub fn number_of(word: &str) -> Option<u64> {
     if !word.bytes().all(|byte| byte.is_ascii_alphanumeric()) {
         return None;
     }

@@ -17,7 +17,7 @@ use std::io::{Read, Write};
 use transaction_view::check_frame;
 
 /// The most bytes that a part may have.
-pub(crate) const FILE_LIMIT: usize = 1_073_741_824;
+pub const FILE_LIMIT: usize = 1_073_741_824;
 
 /// The most bytes that the parts before one may have together.
 const LIMIT: u64 = 1_099_511_627_776;
@@ -187,11 +187,7 @@ fn list_all<S: Read + Drop, R: Read + Drop, W: Write>(
 
 /// Pushes the line that names a fault, in the auditor's form. If the capture has several parts, the
 /// line has the number of the part.
-pub(crate) fn push_fault(
-    text: &mut String,
-    found: PartFault,
-    parts: u64,
-) -> Result<(), AllocError> {
+pub fn push_fault(text: &mut String, found: PartFault, parts: u64) -> Result<(), AllocError> {
     let PartFault { part, fault } = found;
     let kind = fault.kind;
     write!(text, "malformed {kind:?}")?;

@@ -6,10 +6,10 @@ ghost use Rattle.listing_tables.specs.Walk.{HasNoSteps};
 
 use crate::command_line::{AskedTables, WordsError, asked_of, files_of, matches_of, tables_of};
 use crate::help::HELP;
-use crate::parts::{FILE_LIMIT, list_parts, push_fault};
 use audit_streams::{read_parts, write_text};
 use clap::ArgMatches;
 use listing_fields::{ListingError, Outcome, write_error};
+use listing_lines::{FILE_LIMIT, list_parts, push_fault};
 use listing_tables::{
     Ending, NAMES, Name, RowWriter, Tables, Writers, walk_to, write_before_fault,
 };

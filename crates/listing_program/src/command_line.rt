@@ -1,13 +1,12 @@
 //! The words of the command line, and what they ask for.
 
-use crate::asked::{Asked, Form, Narrowing, Sought, Word};
 use crate::kinds::word_named;
-use crate::number::number_of;
 use binder_code::{Kind, TransactionFlags};
 use bitflags::Flags;
 use clap::error::ErrorKind;
 use clap::{Arg, ArgAction, ArgMatches, Command, Error};
 use listing_fields::ListingError;
+use listing_lines::{Asked, Form, Narrowing, Sought, Word, number_of};
 use listing_tables::{Name, name_of};
 use std::alloc::{AllocError, Global};
 
