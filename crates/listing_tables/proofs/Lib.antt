@@ -4,6 +4,8 @@ mod CertaintyLaws
 mod CountLaws
 mod InLaws
 mod LeakLaws
+mod NestLaws
+mod NumberedRows
 mod ReplyLaws
 mod RowLaws
 mod StepLaws

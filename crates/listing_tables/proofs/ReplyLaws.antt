@@ -21,6 +21,8 @@ use Rattle.call_stacks.proofs.Bracketing.{pair, side}
 use Rattle.call_stacks.proofs.Found.{openers-found, strays-found}
 use Rattle.call_stacks.proofs.Lists.{event_of, found}
 use Rattle.call_stacks.proofs.Model.{both, entry, openers, openers-map, put, strays, strays-map}
+use Rattle.call_stacks.specs.Calls.{openers_of}
+use Rattle.listing_tables.proofs.NestLaws.{nested_closers}
 use Rattle.listing_tables.specs.Calls.{closers_in, is_reply_step, refusals_of, row_of_opener, rows_of, step_place, step_reads, strays_of}
 use Rattle.listing_tables.specs.declared.calls.CallStep.{CallStep}
 
@@ -167,7 +169,7 @@ each_reply steps =
     (in_two closes refuses (λ x. apart x.bracket) items)
     (IsPermutation-append_left refused (filter closes items) (matched ++ unmatched) (closers_are own_side items)) in
     let rows : closers_in (rows_of steps) ≡ map place_in matched
-    = ap (λ l. closers_in (map row_of_opener l))
+    = nested_closers [] (map row_of_opener (openers_of step_reads steps)) ∙ ap (λ l. closers_in (map row_of_opener l))
     (openers-found step_reads items ∙ ap (map (found step_reads)) (openers-map pair side items))
     ∙ closers_found (openers own_side items) in
     let left : map step_place (strays_of steps) ≡ map place_in unmatched

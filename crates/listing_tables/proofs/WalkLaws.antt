@@ -1,10 +1,11 @@
 -- Rows that are added to a writer, one after another; and the frames up to the first whose content has a fault.
-use Rattle.std.proofs.Common.{◌≡◌, ℕ, suc, ◌+◌, ◌<◌, All, length, drop, get_or, List, ◌∷◌, ◌++◌, [], take, Option, Some, None, is_some, true, false, refl, ap, sym, subst, ◌∙◌}
+use Rattle.std.proofs.Common.{◌≡◌, ℕ, suc, ◌+◌, ◌<◌, All, length, drop, get_or, List, ◌∷◌, ◌++◌, [], take, Option, Some, None, is_some, slice_get, true, false, refl, ap, sym, subst, ◌∙◌}
 use Rattle.std.proofs.KnownBytes.{Appends-kept, Appends-nil, Appends-trans}
 use Rattle.std.proofs.lemmas.Bool.{true≢false}
 use Rattle.std.proofs.lemmas.Grind.{flat_map-append}
-use Rattle.std.proofs.lemmas.List.{append-nil, take-append-drop, take_more}
+use Rattle.std.proofs.lemmas.List.{append-nil, flat_map_more, take-append-drop, take_more}
 use Rattle.std.proofs.lemmas.List.Elements.{recursion_from_All}
+use Rattle.std.proofs.lemmas.Option.{get_or_from_slice_get, slice_get_within}
 use Rattle.std.proofs.Math.Seq.{drop-cons}
 use Rattle.std.specs.Io.KnownBytes.{Appends, Keeps}
 use Rattle.std.specs.List.{AllByRecursion, AllZip, flat_map}
@@ -50,6 +51,15 @@ module _ {A : Type 0} (IsRow : A → List Column → Type 0) where
     are = subst (Appends a c) (sym (flat_map-append row_bytes first.rows second.rows))
         (Appends-trans a b c (flat_map row_bytes first.rows) (flat_map row_bytes second.rows) first.are second.are);
   }
+
+  -- the rows of one thing more are added
+  pub rows_after : {X : Type 0} (a b c : Option (List ℕ)) (f : X → List A) (xs : List X) (i : ℕ) (x : X) → slice_get xs i ≡ Some x
+      → AddsRows IsRow a b (flat_map f (take i xs)) → AddsRows IsRow b c (f x) → AddsRows IsRow a c (flat_map f (take (i + 1) xs))
+  rows_after a b c f xs i x here so_far next =
+      let more : take (i + 1) xs ≡ take i xs ++ x ∷ []
+      = take_more xs i x (slice_get_within xs i x here) ∙ ap (λ y. take i xs ++ y ∷ []) (get_or_from_slice_get xs i x x here) in
+      subst (AddsRows IsRow a c) (flat_map_more f [] (take i xs) x ∙ ap (flat_map f) (sym more))
+      (more_rows a b c (flat_map f (take i xs)) (f x) so_far next)
 
   -- the writer kept what it had before the rows, and keeps what it has after them
   pub kept_rows : (a b c d : Option (List ℕ)) (xs : List A) → Keeps a b → AddsRows IsRow b c xs → Keeps c d → AddsRows IsRow a d xs

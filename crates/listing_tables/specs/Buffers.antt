@@ -8,11 +8,8 @@ use Rattle.event_core.specs.declared.pending.PendingChange.TheVariants.{Open, Cl
 use Rattle.indexmap.specs.IndexMap.{get}
 use Rattle.pending_ledger.specs.Pending.{closes, is_close, place_of}
 use Rattle.summary_law.specs.Readings.{read_all}
-use Rattle.listing_tables.specs.Columns.{column_of}
 use Rattle.listing_tables.specs.declared.buffers.Buffer.{Buffer}
 use Rattle.listing_tables.specs.declared.buffers.Buffers.{Buffers}
-use Rattle.listing_tables.specs.declared.rows.Column.{Column}
-use Rattle.listing_tables.specs.declared.rows.Column.TheVariants.{Number}
 
 -- an address of a process, by the number of the process and the address there
 abbrev pub Address : Type 0
@@ -72,11 +69,6 @@ row_of_delivery found = record { place = delivery_place found; freed = found.fre
 -- those of a buffer of the table
 abbrev pub row_of_buffer : Buffer → BufferRow
 row_of_buffer buffer = record { place = buffer.place; freed = buffer.freed }
-
--- columns 0 and 3 of a row of the table are the place and the record that frees the buffer
-pub record AreBufferColumns (buffer : Buffer) (columns : List Column) : Type 0 where
-  pub place : slice_get columns 0 ≡ Some (Number buffer.place)
-  pub freed : slice_get columns 3 ≡ Some (column_of buffer.freed)
 
 -- ---- what `Buffers` keeps to find them
 

@@ -1,5 +1,5 @@
 -- What the rows of the raw tables have in their columns, and the bytes of a row (docs/DATABASE.md).
-use Rattle.std.specs.Prelude.{ℕ, ◌+◌, ◌*◌, List, [], ◌∷◌, ◌++◌, length, Option, Some, None}
+use Rattle.std.specs.Prelude.{◌≡◌, ℕ, ◌+◌, ◌*◌, Bool, true, false, List, [], ◌∷◌, ◌++◌, length, Option, Some, None}
 use Rattle.std.specs.Int.{w64, to_le_bytes}
 use Rattle.std.specs.Io.KnownBytes.{Appends}
 use Rattle.std.specs.List.{AllZip, flat_map}
@@ -34,3 +34,29 @@ pub record AddsRows {A : Type 0} (IsRow : A → List Column → Type 0) (old new
   pub rows : List (List Column)
   pub are_rows : AllZip IsRow things rows
   pub are : Appends old new (flat_map row_bytes rows)
+
+-- it is this row
+abbrev pub IsThisRow : List Column → List Column → Type 0
+IsThisRow row other = other ≡ row
+
+-- a writer has grown by these rows, in order, and by nothing else
+abbrev pub WritesRows : Option (List ℕ) → Option (List ℕ) → List (List Column) → Type 0
+WritesRows old new rows = AddsRows IsThisRow old new rows
+
+-- the number of the row at an index: 1 for the first
+abbrev pub number_at : ℕ → ℕ
+number_at index = index + 1
+
+-- the rows of things, each made by its number; the first has that of the index n
+abbrev pub rows_from : {A : Type 0} → (ℕ → A → List Column) → ℕ → List A → List (List Column)
+rows_from row n [] = []
+rows_from row n (thing ∷ later) = row (number_at n) thing ∷ rows_from row (n + 1) later
+
+-- the rows of all things, by their numbers
+abbrev pub numbered_rows : {A : Type 0} → (ℕ → A → List Column) → List A → List (List Column)
+numbered_rows row things = rows_from row 0 things
+
+-- a column that says whether something is so
+abbrev pub bit : Bool → ℕ
+bit true = 1
+bit false = 0

@@ -1,14 +1,14 @@
 -- The counts of the raw table generation, by the definitions of handle_ledger (docs/REPORT.md).
-use Rattle.std.specs.Prelude.{◌≡◌, ◌≢◌, ℕ, ◌+◌, pos, ◌-ℤ◌, Option, Some, None, IsSome}
+use Rattle.std.specs.Prelude.{◌≡◌, ◌≢◌, ℕ, ◌+◌, ◌==◌, if◌then◌else◌, pos, ◌-ℤ◌, Option, Some, None, IsSome}
 use Rattle.std.specs.Prelude.{List, [], ◌∷◌, ◌++◌, map, count_by}
-use Rattle.std.specs.Option.{option_to_list}
+use Rattle.std.specs.Option.{option_or, option_to_list}
 use Rattle.event_core.specs.declared.handle.HandleChange.{HandleChange}
 use Rattle.event_core.specs.declared.strength.Strength.{Strength}
 use Rattle.event_core.specs.declared.strength.Strength.TheVariants.{Strong, Weak}
 use Rattle.handle_ledger.specs.Handles.{handle_change}
 use Rattle.summary_law.specs.Count.{Change, IsCount, is_lower, is_raise}
 use Rattle.summary_law.specs.declared.count.Count.{Count}
-use Rattle.listing_tables.specs.Columns.{column_of}
+use Rattle.listing_tables.specs.Columns.{column_of, number_at, numbered_rows}
 use Rattle.listing_tables.specs.declared.generations.Effect.{Effect}
 use Rattle.listing_tables.specs.declared.generations.Effect.TheVariants.{Names, Takes, Holds}
 use Rattle.listing_tables.specs.declared.generations.Generation.{Generation}
@@ -78,6 +78,14 @@ pub record IsGenerationOf (u : Upid) (h n place : ℕ) (generation : Generation)
 abbrev pub IsSame : Generation → Generation → Type 0
 IsSame old new = IsGenerationOf old.upid old.handle old.number old.begin new
 
+-- nothing is known yet of a generation but which one it is
+pub record IsNew (generation : Generation) : Type 0 where
+  pub end : generation.end ≡ None
+  pub given_by : generation.given_by ≡ None
+  pub held_since : generation.held_since ≡ None
+  pub held_strong : generation.held_strong ≡ 0
+  pub held_weak : generation.held_weak ≡ 0
+
 -- deliveries hold what they held
 abbrev pub KeepsHeld : Generation → Generation → Type 0
 KeepsHeld old new = (new.held_strong ≡ old.held_strong) × (new.held_weak ≡ old.held_weak)
@@ -110,6 +118,23 @@ HeldByEffect old (Holds strength) new = HoldsOneMore strength old new
 abbrev pub KeepsTaken : Generation → Generation → Type 0
 KeepsTaken old new = (new.strong ≡ old.strong) × (new.weak ≡ old.weak)
 
+-- since which place a process holds a handle, after a record at this place that leaves it so many strong references
+abbrev pub held_since_after : ℕ → Option ℕ → ℕ → Option ℕ
+held_since_after left since place = if left == 0 then None else option_or since (Some place)
+
+-- which delivery gave it, and since when it is held, stay
+abbrev pub KeepsGiven : Generation → Generation → Type 0
+KeepsGiven old new = (new.given_by ≡ old.given_by) × (new.held_since ≡ old.held_since)
+
+-- What an effect of the record at this place does to these two: the first delivery gives it, and it is held since the
+-- first record after which the process has a strong reference, until it has none.
+abbrev pub GivenByEffect : Generation → Effect → ℕ → Generation → Type 0
+GivenByEffect old Names place new = KeepsGiven old new
+GivenByEffect old (Takes strength change) place new =
+    (new.given_by ≡ old.given_by) × (new.held_since ≡ held_since_after new.strong.left old.held_since place)
+GivenByEffect old (Holds strength) place new =
+    (new.given_by ≡ option_or old.given_by (Some place)) × (new.held_since ≡ old.held_since)
+
 -- the row of a generation that has this number among all, column by column
 abbrev pub generation_columns : ℕ → Generation → List Column
 generation_columns number generation =
@@ -118,3 +143,7 @@ generation_columns number generation =
     ∷ column_of generation.held_since ∷ Number generation.strong.raised ∷ Number generation.strong.lowered
     ∷ Number generation.weak.raised ∷ Number generation.weak.lowered ∷ Number generation.strong.left
     ∷ Number generation.weak.left ∷ Number generation.held_strong ∷ Number generation.held_weak ∷ []
+
+-- the rows of all generations
+abbrev pub generation_rows : List Generation → List (List Column)
+generation_rows generations = numbered_rows generation_columns generations

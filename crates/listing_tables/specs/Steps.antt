@@ -1,7 +1,7 @@
 -- The records of each thread that leave a mark, of which the calls of the thread are found.
 use Rattle.std.specs.Prelude.{◌≡◌, ℕ, Bool, List, [], ◌∷◌, ◌++◌, map, Option, is_some, ⊤, if◌then◌else◌}
 use Rattle.std.specs.List.{flat_map}
-use Rattle.std.specs.List.Sorted.{IsPermutation}
+use Rattle.std.specs.List.Sorted.{IsNonDecreasingBy, IsPermutation}
 use Rattle.std.specs.Map.{values_of}
 use Rattle.binder_code.specs.Commands.{kind_of_word}
 use Rattle.binder_code.specs.declared.record_kind.Kind.{Kind}
@@ -14,10 +14,12 @@ use Rattle.event_core.specs.Brackets.{is_oneway, mark_of}
 use Rattle.summary_law.specs.InOrder.{SumsInOrder}
 use Rattle.summary_law.specs.Summary.{FitsInHalves}
 use Rattle.listing_fields.specs.Frames.{thread_of}
-use Rattle.listing_tables.specs.Calls.{AreColumns, CallRow, row_of_call, rows_of}
+use Rattle.listing_tables.specs.Calls.{CallRow, call_place, row_of_call, rows_of}
 use Rattle.listing_tables.specs.Columns.{AddsRows}
+use Rattle.listing_tables.specs.Messages.{IsCallRow}
 use Rattle.listing_tables.specs.declared.calls.Call.{Call}
 use Rattle.listing_tables.specs.declared.calls.CallStep.{CallStep}
+use Rattle.listing_tables.specs.declared.messages.Message.{Message}
 use Rattle.listing_tables.specs.declared.steps.StepList.{StepList}
 
 -- the list has these records
@@ -75,10 +77,13 @@ AddsMarked old new more = (marked : List Marked) → KeepsAll old marked → Kee
 abbrev pub rows_of_lists : List StepList → List CallRow
 rows_of_lists lists = flat_map (λ list. rows_of list.list.items) lists
 
--- a writer has grown by a row for each call of the threads in which these records leave a mark, and by nothing else
+-- a writer has grown by a row for each call of the threads in which these records leave a mark, in rising place, and by
+-- nothing else
 pub record WritesCalls (old new : Option (List ℕ)) (marked : List Marked) : Type 0 where
   pub threads : List (Thread × StepList)
   pub kept : KeepsAll threads marked
   pub calls : List Call
   pub are : IsPermutation (rows_of_lists (values_of threads)) (map row_of_call calls)
-  pub written : AddsRows AreColumns old new calls
+  pub sorted : IsNonDecreasingBy call_place calls
+  pub messages : List Message
+  pub written : AddsRows (IsCallRow messages) old new calls

@@ -29,8 +29,12 @@ pub(crate) struct Buffer {
 }
 
 impl Buffer {
+    ghost use Rattle.listing_tables.specs.Messages.{freed_after};
+
     /// How many sequences after this one it is freed.
-    pub(crate) fn freed_after(&self, sequence: u64) -> Result<Option<u64>, ListingError> {
+    pub(crate) fn freed_after(&self, sequence: u64) -> Result<Option<u64>, ListingError>
+        ensures { IfOk result (λ duration. duration ≡ freed_after self.now sequence) }
+    {
         match self.freed {
             Some(_) => Ok(Some(difference(self.freed_in, sequence)?)),
             None => Ok(None),

@@ -3,10 +3,11 @@
 ghost use Rattle.std.specs.Bool.{OnTrue};
 ghost use Rattle.std.specs.Map.{values_of};
 ghost use Rattle.std.specs.List.Sorted.{IsPermutation, IsNonDecreasingBy};
-ghost use Rattle.std.specs.Prelude.{◌≡◌, ◌↔◌, ◌++◌, map, true, IsTrue, IfOk, OnOk};
+ghost use Rattle.std.specs.Prelude.{◌≡◌, ◌≤◌, ◌↔◌, ◌++◌, ℕ, [], map, option_map, take, true, IsTrue, IfOk, OnOk};
 ghost use Rattle.summary_law.specs.Fits.{IsPlaced};
 ghost use Rattle.call_stacks.specs.Calls.{AreFindings};
 ghost use Rattle.listing_tables.specs.Calls.{step_place, step_reads, call_place};
+ghost use Rattle.listing_tables.specs.Calls.{innermost, is_open_until, is_served, last_call, nested_after, within};
 ghost use Rattle.listing_tables.specs.Calls.{row_of_call, row_of_opener, rows_of, verdict_number};
 ghost use Rattle.listing_tables.specs.Steps.{rows_of_lists};
 ghost use Rattle.call_stacks.specs.declared.verdict.Verdict.TheVariants.{Answered};
@@ -62,14 +63,15 @@ pub(crate) struct Call {
     pub closer: Option<Closer>,
     pub verdict: Verdict,
     pub served: bool,
-    /// How many calls of the thread are open with it.
+    /// 1, or 1 more than that of its parent.
     pub depth: u32,
-    /// The place of the innermost call of the thread that was open before.
+    /// The place of the last call of the thread before it that is not closed before it.
     pub parent: Option<u32>,
 }
 
 impl Call {
     ghost use Rattle.listing_tables.specs.Calls.{closer_place};
+    ghost use Rattle.listing_tables.specs.Messages.{has_answer};
 
     /// The place of its closer, if it is closed.
     pub(crate) fn end(&self) -> Option<u32>
@@ -82,7 +84,8 @@ impl Call {
     }
 
     pub(crate) fn is_answered(&self) -> bool
-        ensures { IsTrue result ↔ (self.now.verdict ≡ Answered) }
+        ensures answered { IsTrue result ↔ (self.now.verdict ≡ Answered) }
+        ensures value { result ≡ has_answer self.now.verdict }
     {
         matches!(self.verdict, Verdict::Answered)
     }
@@ -155,13 +158,19 @@ fn push_calls(
     steps: &[CallStep],
 ) -> Outcome
     ensures { OnOk result (map row_of_call calls.new.all.items ≡
-        map row_of_call calls.old.all.items ++ map row_of_opener openers.now) }
+        map row_of_call calls.old.all.items ++ nested_after [] (map row_of_opener openers.now)) }
 {
-    let mut open = Vec::new(alloc);
+    let mut stack = Vec::new(alloc);
+    let mut least: u32 = 0;
     for opener in openers {
-        let call = nested(&mut open, call_of(opener, steps)?)?;
+        let call = nested(&mut stack, call_of(opener, steps)?)?;
+        // Their places rise, as those of the records do.
+        if call.place < least {
+            return Err(ListingError::TooLarge);
+        }
+        least = call.place;
         calls.push(call)?;
-        open.push(call)?;
+        stack.push(call)?;
     }
     Ok(())
 }
@@ -179,10 +188,17 @@ fn call_of(opener: &Opener<CallStep>, steps: &[CallStep]) -> Result<Call, Listin
         opener: opener.event.before,
         closer,
         verdict: opener.verdict,
-        served: opener.event.bracket(None) == Bracket::Served,
+        served: is_served(opener.event.bracket(None)),
         depth: 1,
         parent: None,
     })
+}
+
+/// Whether it is a call that a thread gets to serve.
+fn is_served(bracket: Bracket) -> bool
+    ensures { result ≡ is_served bracket }
+{
+    matches!(bracket, Bracket::Served)
 }
 
 /// The closer at this place, which is that of one of these records.
@@ -199,33 +215,62 @@ fn closer_at(place: u32, steps: &[CallStep]) -> Result<Closer, ListingError>
     }
 }
 
-/// A call with its depth and its parent. Of the calls before it, those that are closed before it
-/// are taken out of the open ones.
-fn nested(open: &mut Vec<Call>, call: Call) -> Result<Call, ListingError>
-    ensures { IfOk result (λ nested. row_of_call nested ≡ row_of_call call) }
+/// A call with its depth and its parent. Calls that are closed before it are taken off the stack of
+/// those before it, up to the last one that is not.
+fn nested(stack: &mut Vec<Call>, call: Call) -> Result<Call, ListingError>
+    ensures nested { IfOk result (λ nested. row_of_call nested ≡
+        within (innermost call.place (map row_of_call stack.old.items)) (row_of_call call)) }
+    ensures kept { (at : ℕ) → call.place ≤ at →
+        innermost at (map row_of_call stack.new.items)
+        ≡ innermost at (map row_of_call stack.old.items) }
 {
-    for _ in 0..open.len() {
-        match open.as_slice().last() {
-            Some(inner) if is_closed_before(*inner, call.place) => {
-                open.pop();
-            }
-            _ => break,
+    let count = count_to_open(stack.as_slice(), call.place);
+    stack.truncate(count);
+    within(stack.as_slice().last().copied(), call)
+}
+
+/// How many of these calls there are up to the last one that is not closed before a place.
+fn count_to_open(calls: &[Call], place: u32) -> usize
+    ensures same { (at : ℕ) → place ≤ at →
+        innermost at (map row_of_call (take result calls.now))
+        ≡ innermost at (map row_of_call calls.now) }
+    ensures top { innermost place (map row_of_call calls.now)
+        ≡ option_map row_of_call (last_call (take result calls.now)) }
+{
+    for number in (0..calls.len()).rev() {
+        if is_open_until(calls[number], place) {
+            return number + 1;
         }
     }
-    match open.as_slice().last() {
-        Some(parent) => Ok(Call {
-            parent: Some(parent.place),
-            depth: one_more(parent.depth)?,
-            ..call
-        }),
-        None => Ok(call),
+    0
+}
+
+/// Whether a call is not closed before a place.
+fn is_open_until(call: Call, place: u32) -> bool
+    ensures { result ≡ is_open_until place (row_of_call call).closer }
+{
+    match call.end() {
+        Some(end) => place <= end,
+        None => true,
     }
 }
 
-fn is_closed_before(call: Call, place: u32) -> bool {
-    match call.end() {
-        Some(end) => end < place,
-        None => false,
+/// A call within this one, if there is one.
+fn within(around: Option<Call>, call: Call) -> Result<Call, ListingError>
+    ensures { IfOk result (λ nested. row_of_call nested ≡
+        within (option_map row_of_call around) (row_of_call call)) }
+{
+    match around {
+        Some(around) => Ok(Call {
+            depth: one_more(around.depth)?,
+            parent: Some(around.place),
+            ..call
+        }),
+        None => Ok(Call {
+            depth: 1,
+            parent: None,
+            ..call
+        }),
     }
 }
 

@@ -52,8 +52,12 @@ pub(crate) enum Marked {
 }
 
 impl Marked {
+    ghost use Rattle.listing_tables.specs.Learning.{marked_also};
+
     /// Marked by this message too.
-    pub(crate) fn and(self, index: u32) -> Marked {
+    pub(crate) fn and(self, index: u32) -> Marked
+        ensures { result ≡ marked_also self index }
+    {
         match self {
             Marked::Unmarked => Marked::By(index),
             Marked::By(_) | Marked::Several => Marked::Several,

@@ -4,6 +4,7 @@ ghost use Rattle.std.specs.Prelude.{◌≡◌, ◌<◌, ◌≤◌, [], IfSome, O
 ghost use Rattle.std.specs.Bool.{OnTrue};
 ghost use Rattle.listing_tables.specs.Certainty.{Adds, AreOfOneGeneration, ComesAfter, IsIn};
 ghost use Rattle.listing_tables.specs.Certainty.{IsOnlyFit, IsOutOfQuestion};
+ghost use Rattle.listing_tables.specs.Learning.{IsFree};
 ghost use Rattle.listing_tables.specs.declared.fitting.Fit.{Fit};
 
 use crate::messages::{Sent, Settled};
@@ -157,7 +158,9 @@ impl Fitting {
 
     /// The one that is taken by guess, if there is one. Those come first that are known to go to
     /// the node; then the first of oneway sends, and of calls the one that is closed first.
-    pub(crate) fn best(&self, oneway: bool) -> Option<Fit> {
+    pub(crate) fn best(&self, oneway: bool) -> Option<Fit>
+        ensures { IfSome result (IsFree self.now) }
+    {
         let mut best: Option<Fit> = None;
         for fit in &self.list {
             if !fit.guessed

@@ -4,15 +4,17 @@ ghost use Rattle.std.specs.Prelude.{◌≡◌, ◌↔◌, [], IsTrue, IfOk, OnOk
 ghost use Rattle.event_core.specs.Handles.{handle_effect};
 ghost use Rattle.handle_ledger.specs.Handles.{handle_count_change};
 ghost use Rattle.listing_tables.specs.Generations.{CountsEffect, EndsByEffect, EndsIfEmpty};
-ghost use Rattle.listing_tables.specs.Generations.{GenerationSum, HeldByEffect, HoldsOneFewer};
-ghost use Rattle.listing_tables.specs.Generations.{HoldsOneMore, IsEmpty, IsGenerationOf, IsSame};
+ghost use Rattle.listing_tables.specs.Generations.{GenerationSum, GivenByEffect, HeldByEffect};
+ghost use Rattle.listing_tables.specs.Generations.{HoldsOneFewer, HoldsOneMore, IsEmpty};
+ghost use Rattle.listing_tables.specs.Generations.{IsGenerationOf, IsNew, IsSame, KeepsGiven};
 ghost use Rattle.listing_tables.specs.Generations.{KeepsHeld, KeepsTaken, TakesOneMore};
-ghost use Rattle.listing_tables.specs.Generations.{generation_columns, taken_by};
-ghost use Rattle.listing_tables.specs.declared.generations.Effect.TheVariants.{Takes};
+ghost use Rattle.listing_tables.specs.Columns.{WritesRows};
+ghost use Rattle.listing_tables.specs.Generations.{generation_columns, generation_rows, taken_by};
+ghost use Rattle.listing_tables.specs.declared.generations.Effect.TheVariants.{Holds, Takes};
 
 use crate::numbered::{Numbered, one_fewer, one_more};
 use crate::rows::{Column, RowWriter, columns};
-use crate::spans::{Upid, number_at};
+use crate::spans::Upid;
 use binder_code::Kind;
 use event_core::{HandleChange, Strength};
 use indexmap::IndexMap;
@@ -104,6 +106,7 @@ impl Generation {
     fn new(upid: Upid, handle: u32, number: u32, place: u32) -> Generation
         ensures named { IsGenerationOf upid handle number place result }
         ensures counts { GenerationSum result [] }
+        ensures unknown { IsNew result }
     {
         let none = Taken {
             raised: 0,
@@ -131,6 +134,7 @@ impl Generation {
         ensures ends { OnOk result (EndsByEffect self.old effect place self.new) }
         ensures same { IsSame self.old self.new }
         ensures held { OnOk result (HeldByEffect self.old effect self.new) }
+        ensures given { OnOk result (GivenByEffect self.old effect place self.new) }
     {
         match effect {
             Effect::Names => Ok(()),
@@ -145,6 +149,8 @@ impl Generation {
         ensures ends { OnOk result (EndsIfEmpty self.old place self.new) }
         ensures same { IsSame self.old self.new }
         ensures held { KeepsHeld self.old self.new }
+        ensures given { OnOk result (
+            GivenByEffect self.old (Takes strength change) place self.new) }
     {
         self.count(strength, change)?;
         self.held_since = if self.strong.left == 0 {
@@ -161,6 +167,7 @@ impl Generation {
         ensures kept { self.new.end ≡ self.old.end }
         ensures same { IsSame self.old self.new }
         ensures held { KeepsHeld self.old self.new }
+        ensures given { KeepsGiven self.old self.new }
     {
         match strength {
             Strength::Strong => self.strong = self.strong.after(change)?,
@@ -175,6 +182,7 @@ impl Generation {
         ensures kept { self.new.end ≡ self.old.end }
         ensures same { IsSame self.old self.new }
         ensures held { OnOk result (HoldsOneMore strength self.old self.new) }
+        ensures given { OnOk result (GivenByEffect self.old (Holds strength) place self.new) }
     {
         match strength {
             Strength::Strong => self.held_strong = one_more(self.held_strong)?,
@@ -190,6 +198,7 @@ impl Generation {
         ensures same { IsSame self.old self.new }
         ensures taken { KeepsTaken self.old self.new }
         ensures held { OnOk result (HoldsOneFewer strength self.old self.new) }
+        ensures given { OnOk result (KeepsGiven self.old self.new) }
     {
         match strength {
             Strength::Strong => self.held_strong = one_fewer(self.held_strong)?,
@@ -315,10 +324,13 @@ impl Generations {
     }
 
     /// Writes the rows of the table generation.
-    pub(crate) fn write<W: Write + Drop>(&self, rows: &mut RowWriter<W>) -> Outcome {
+    pub(crate) fn write<W: Write + Drop>(&self, rows: &mut RowWriter<W>) -> Outcome
+        ensures { OnOk result (WritesRows rows.old rows.new
+            (generation_rows self.now.list.all.items)) }
+    {
         for index in 0..self.list.next()? {
             let generation = self.list.at(index)?;
-            rows.push(&generation.columns(number_at(index as usize)))?;
+            rows.push(&generation.columns(u64::from(index) + 1))?;
         }
         Ok(())
     }

@@ -1,8 +1,9 @@
 //! Which node each generation means.
 
-ghost use Rattle.std.specs.Prelude.{IfOk, IfSome};
+ghost use Rattle.std.specs.Prelude.{◌≡◌, IfOk, IfSome};
 ghost use Rattle.std.specs.Bool.{OnTrue};
 ghost use Rattle.listing_tables.specs.Certainty.{BeginsBefore, HasOtherHandle, MeansNode};
+ghost use Rattle.listing_tables.specs.Learning.{IsPastGap, MeansFirst, known_of_two};
 
 use crate::generations::Generations;
 use crate::numbered::Numbered;
@@ -77,7 +78,9 @@ impl Meanings {
     }
 
     /// The node that a generation is known to mean from its begin up to the next gap.
-    pub(crate) fn first_node_of(&self, generation: u32) -> Result<Option<u32>, ListingError> {
+    pub(crate) fn first_node_of(&self, generation: u32) -> Result<Option<u32>, ListingError>
+        ensures { IfOk result (λ found. IfSome found (MeansFirst self.now generation)) }
+    {
         match self.list.at(generation)?.known {
             Known::One(node) => Ok(Some(node)),
             _ => Ok(None),
@@ -85,7 +88,9 @@ impl Meanings {
     }
 
     /// Notes that a generation means a node after so many gaps, for the next walk.
-    pub(crate) fn learn(&mut self, generation: u32, gaps: u32, node: u32) -> Outcome {
+    pub(crate) fn learn(&mut self, generation: u32, gaps: u32, node: u32) -> Outcome
+        ensures { IsPastGap self.old generation gaps → self.new ≡ self.old }
+    {
         if self.list.at(generation)?.gaps != gaps {
             return Ok(());
         }
@@ -93,7 +98,10 @@ impl Meanings {
     }
 
     /// Notes that two generations mean the same node, each after so many gaps.
-    pub(crate) fn learn_same(&mut self, one: (u32, u32), other: (u32, u32)) -> Outcome {
+    pub(crate) fn learn_same(&mut self, one: (u32, u32), other: (u32, u32)) -> Outcome
+        ensures first { IsPastGap self.old one.0 one.1 → self.new ≡ self.old }
+        ensures second { IsPastGap self.old other.0 other.1 → self.new ≡ self.old }
+    {
         if self.list.at(one.0)?.gaps == one.1 && self.list.at(other.0)?.gaps == other.1 {
             self.same.push((one.0, other.0))?;
         }
@@ -208,7 +216,9 @@ fn is_before(begin: u32, end: Option<u32>) -> bool
 }
 
 /// What is known of a generation of which two things are known.
-fn joined(one: Known, other: Known) -> Known {
+fn joined(one: Known, other: Known) -> Known
+    ensures { result ≡ known_of_two one other }
+{
     match (one, other) {
         (Known::Nothing, known) => known,
         (known, Known::Nothing) => known,

@@ -1,10 +1,12 @@
 //! What threads send and get: the records that open and close calls, and what became of them.
 
-ghost use Rattle.std.specs.Prelude.{IfOk, OnOk};
+ghost use Rattle.std.specs.Prelude.{◌≡◌, option_map, IfOk, OnOk};
 ghost use Rattle.std.specs.Bool.{OnFalse};
-ghost use Rattle.listing_tables.specs.Buffers.{AreBufferColumns};
-ghost use Rattle.listing_tables.specs.Calls.{AreColumns};
-ghost use Rattle.listing_tables.specs.Columns.{AddsRows};
+ghost use Rattle.listing_tables.specs.Columns.{AddsRows, WritesRows, number_at};
+ghost use Rattle.listing_tables.specs.Messages.{IsCallRow, call_columns, closed_after, confirmed_by, delivery_columns, delivery_row, delivery_rows};
+ghost use Rattle.listing_tables.specs.Messages.{freed_after, if_known, is_answer, place_for, place_of_message, refused_by, send_columns};
+ghost use Rattle.listing_tables.specs.Messages.{send_row, send_rows};
+ghost use Rattle.listing_tables.specs.Numbered.{thing_at};
 ghost use Rattle.listing_tables.specs.Certainty.{AreAlike};
 
 use crate::buffers::{Buffer, Buffers};
@@ -12,7 +14,7 @@ use crate::calls::{Call, Closer, verdict_number};
 use crate::handed::Node;
 use crate::numbered::{Numbered, difference, narrow};
 use crate::rows::{Column, RowWriter, columns};
-use crate::spans::{Upid, Utid, number_at};
+use crate::spans::{Upid, Utid};
 use binder_code::Kind;
 use indexmap::IndexSet;
 use listing_fields::{ListingError, Outcome};
@@ -180,9 +182,14 @@ impl Messages {
     }
 
     /// The place of the partner of a message, if one is found.
-    fn partner_place(&self, message: &Message) -> Result<Option<u32>, ListingError> {
-        let partner = self.list.find(message.partner)?;
-        Ok(partner.map(|it| it.place))
+    fn partner_place(&self, message: &Message) -> Result<Option<u32>, ListingError>
+        ensures { IfOk result (λ place. place ≡
+            place_of_message (thing_at self.now.list.all.items message.now.partner)) }
+    {
+        match self.list.find(message.partner)? {
+            Some(partner) => Ok(Some(partner.place)),
+            None => Ok(None),
+        }
     }
 
     /// Writes the rows of the table call.
@@ -191,7 +198,8 @@ impl Messages {
         calls: &Numbered<Call>,
         rows: &mut RowWriter<W>,
     ) -> Outcome
-        ensures { OnOk result (AddsRows AreColumns rows.old rows.new calls.now.all.items) }
+        ensures { OnOk result (AddsRows (IsCallRow self.now.list.all.items) rows.old rows.new
+            calls.now.all.items) }
     {
         for index in 0..calls.next()? {
             let call = calls.at(index)?;
@@ -203,7 +211,10 @@ impl Messages {
     }
 
     /// How many sequences after this one a call is closed.
-    fn closed_after(&self, call: &Call, sequence: u64) -> Result<Option<u64>, ListingError> {
+    fn closed_after(&self, call: &Call, sequence: u64) -> Result<Option<u64>, ListingError>
+        ensures { IfOk result (λ duration. duration ≡
+            closed_after self.now.list.all.items call.now sequence) }
+    {
         match call.closer {
             Some(closer) => {
                 let closed = self.list.at(closer.message)?.sequence;
@@ -214,14 +225,28 @@ impl Messages {
     }
 
     /// Writes the rows of the table send.
-    pub(crate) fn write_sends<W: Write + Drop>(&self, rows: &mut RowWriter<W>) -> Outcome {
-        for message in &self.list.all {
-            if let Detail::Sent(sent) = message.detail {
-                let partner = self.partner_place(message)?;
-                rows.push(&send_columns(message, sent, partner))?;
-            }
+    pub(crate) fn write_sends<W: Write + Drop>(&self, rows: &mut RowWriter<W>) -> Outcome
+        ensures { OnOk result (WritesRows rows.old rows.new (send_rows self.now.list.all.items)) }
+    {
+        for index in 0..self.list.next()? {
+            let message = self.list.at(index)?;
+            self.write_send(&message, rows)?;
         }
         Ok(())
+    }
+
+    /// Writes the row of a message, if it is a send.
+    fn write_send<W: Write + Drop>(&self, message: &Message, rows: &mut RowWriter<W>) -> Outcome
+        ensures { OnOk result (WritesRows rows.old rows.new
+            (send_row self.now.list.all.items message.now message.now.detail)) }
+    {
+        match message.detail {
+            Detail::Sent(sent) => {
+                let partner = self.partner_place(message)?;
+                rows.push(&send_columns(message, sent, partner))
+            }
+            _ => Ok(()),
+        }
     }
 
     /// Writes the rows of the table delivery.
@@ -230,22 +255,44 @@ impl Messages {
         buffers: &Buffers,
         calls: &Numbered<Call>,
         rows: &mut RowWriter<W>,
-    ) -> Outcome {
-        for message in &self.list.all {
-            if let Detail::Delivered(index) = message.detail {
-                let buffer = buffers.list.at(index)?;
-                let duration = buffer.freed_after(message.sequence)?;
-                let call = call_place(message, calls)?;
-                let partner = self.partner_place(message)?;
-                rows.push(&delivery_columns(message, &buffer, duration, call, partner))?;
-            }
+    ) -> Outcome
+        ensures { OnOk result (WritesRows rows.old rows.new
+            (delivery_rows self.now.list.all.items buffers.now.list.all.items calls.now.all.items)) }
+    {
+        for index in 0..self.list.next()? {
+            let message = self.list.at(index)?;
+            self.write_delivery(&message, buffers, calls, rows)?;
         }
         Ok(())
+    }
+
+    /// Writes the row of a message, if it is a delivery.
+    fn write_delivery<W: Write + Drop>(
+        &self,
+        message: &Message,
+        buffers: &Buffers,
+        calls: &Numbered<Call>,
+        rows: &mut RowWriter<W>,
+    ) -> Outcome
+        ensures { OnOk result (WritesRows rows.old rows.new
+            (delivery_row self.now.list.all.items buffers.now.list.all.items calls.now.all.items
+            message.now message.now.detail)) }
+    {
+        match message.detail {
+            Detail::Delivered(index) => {
+                let buffer = buffers.list.at(index)?;
+                let duration = buffer.freed_after(message.sequence)?;
+                let call = place_for(message.kind, calls.find(message.call)?);
+                let partner = self.partner_place(message)?;
+                rows.push(&delivery_columns(message, &buffer, duration, call, partner))
+            }
+            _ => Ok(()),
+        }
     }
 }
 
 fn call_columns(call: &Call, opener: &Message, duration: Option<u64>) -> [Column<'static>; 9]
-    ensures { AreColumns call.now result }
+    ensures { result ≡ call_columns call.now opener.now duration }
 {
     columns! {
         place: call.place,
@@ -260,22 +307,59 @@ fn call_columns(call: &Call, opener: &Message, duration: Option<u64>) -> [Column
     }
 }
 
-fn send_columns(message: &Message, sent: Sent, partner: Option<u32>) -> [Column<'static>; 9] {
-    let (confirmed, refused) = match sent.settled {
-        Settled::Waiting => (None, None),
-        Settled::Confirmed(place) => (Some(place), None),
-        Settled::Refused(place) => (None, Some(place)),
-    };
+fn send_columns(message: &Message, sent: Sent, partner: Option<u32>) -> [Column<'static>; 9]
+    ensures { result ≡ send_columns message.now sent partner }
+{
     columns! {
         place: message.place,
         seq: message.sequence,
         utid: message.utid,
-        generation: sent.generation.map(|index| number_at(index as usize)),
-        confirmed: confirmed,
-        refused: refused,
+        generation: number_of(sent.generation),
+        confirmed: confirmed_by(sent.settled),
+        refused: refused_by(sent.settled),
         delivery: partner,
-        certain: partner.map(|_| u64::from(sent.certain)),
-        fits: partner.map(|_| u64::from(sent.fits)),
+        certain: if_known(partner, u64::from(sent.certain)),
+        fits: if_known(partner, u64::from(sent.fits)),
+    }
+}
+
+/// The number of the generation at an index, if one is known.
+fn number_of(generation: Option<u32>) -> Option<u64>
+    ensures { result ≡ option_map number_at generation }
+{
+    match generation {
+        Some(index) => Some(u64::from(index) + 1),
+        None => None,
+    }
+}
+
+/// The place of the record that confirms a send.
+fn confirmed_by(settled: Settled) -> Option<u32>
+    ensures { result ≡ confirmed_by settled }
+{
+    match settled {
+        Settled::Confirmed(place) => Some(place),
+        Settled::Waiting | Settled::Refused(_) => None,
+    }
+}
+
+/// The place of the record that refuses a send.
+fn refused_by(settled: Settled) -> Option<u32>
+    ensures { result ≡ refused_by settled }
+{
+    match settled {
+        Settled::Refused(place) => Some(place),
+        Settled::Waiting | Settled::Confirmed(_) => None,
+    }
+}
+
+/// This number, if a place is known.
+fn if_known(known: Option<u32>, number: u64) -> Option<u64>
+    ensures { result ≡ if_known known number }
+{
+    match known {
+        Some(_) => Some(number),
+        None => None,
     }
 }
 
@@ -286,7 +370,8 @@ fn delivery_columns(
     call: Option<u32>,
     partner: Option<u32>,
 ) -> [Column<'static>; 8]
-    ensures { AreBufferColumns buffer.now result }
+    requires { duration ≡ freed_after buffer.now message.now.sequence }
+    ensures { result ≡ delivery_columns message.now buffer.now call partner }
 {
     columns! {
         place: buffer.place,
@@ -300,11 +385,20 @@ fn delivery_columns(
     }
 }
 
-/// The place of the call that a delivery opens, or that it answers.
-fn call_place(message: &Message, calls: &Numbered<Call>) -> Result<Option<u32>, ListingError> {
-    match calls.find(message.call)? {
-        Some(call) if message.kind == Kind::BrReply && !call.is_answered() => Ok(None),
-        Some(call) => Ok(Some(call.place)),
-        None => Ok(None),
+/// The place of a call that a delivery of this kind opens, or that it answers.
+fn place_for(kind: Kind, call: Option<Call>) -> Option<u32>
+    ensures { result ≡ place_for kind call }
+{
+    match call {
+        Some(call) if is_answer(kind) && !call.is_answered() => None,
+        Some(call) => Some(call.place),
+        None => None,
     }
+}
+
+/// Whether a kind is that of a reply that a thread gets.
+fn is_answer(kind: Kind) -> bool
+    ensures { result ≡ is_answer kind }
+{
+    matches!(kind, Kind::BrReply)
 }

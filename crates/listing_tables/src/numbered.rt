@@ -3,7 +3,7 @@
 
 ghost use Rattle.std.specs.Prelude.{◌≡◌, ◌+◌, ◌++◌, ◌∷◌, [], length, slice_get, Some};
 ghost use Rattle.std.specs.Prelude.{IfOk, IfSome, OnOk};
-ghost use Rattle.listing_tables.specs.Numbered.{IsAt};
+ghost use Rattle.listing_tables.specs.Numbered.{IsAt, thing_at};
 
 use listing_fields::ListingError;
 use std::alloc::Global;
@@ -63,7 +63,8 @@ impl<T: Copy + Drop> Numbered<T> {
 
     /// The thing at this index, if it is known of an index at all.
     pub(crate) fn find(&self, index: Option<u32>) -> Result<Option<T>, ListingError>
-        ensures { IfOk result (λ found. IfSome found (IsAt self.now.all.items index)) }
+        ensures known { IfOk result (λ found. IfSome found (IsAt self.now.all.items index)) }
+        ensures found { IfOk result (λ found. found ≡ thing_at self.now.all.items index) }
     {
         match index {
             Some(index) => Ok(Some(self.at(index)?)),

@@ -1,9 +1,10 @@
 //! Whether all that was sent to a node is in the capture: frames may be missing, and a process may
 //! be older than the capture.
 
-ghost use Rattle.std.specs.Prelude.{IfOk};
+ghost use Rattle.std.specs.Prelude.{◌≡◌, IfOk};
 ghost use Rattle.std.specs.Bool.{OnTrue};
 ghost use Rattle.listing_tables.specs.Certainty.{HasAll, IsReferred, IsWhole};
+ghost use Rattle.listing_tables.specs.Learning.{HasNoFrameBefore, TakesCalls};
 
 use crate::calls::Call;
 use crate::messages::Message;
@@ -92,7 +93,9 @@ impl Seen {
     }
 
     /// Takes a delivery that only a thread that takes calls gets.
-    pub(crate) fn take_delivery(&mut self, utid: Utid, upid: Upid) -> Outcome {
+    pub(crate) fn take_delivery(&mut self, utid: Utid, upid: Upid) -> Outcome
+        ensures { TakesCalls self.entry.now utid.index → self.exit.now ≡ self.entry.now }
+    {
         if self.threads.at(utid.index)?.takes_calls {
             return Ok(());
         }
@@ -102,7 +105,9 @@ impl Seen {
     /// Takes a record by which a thread is told that there are references to a node now, and none
     /// were before. It counts if the thread has a frame before that since the last gap: so what
     /// made the first one is in the capture, and comes after the gap.
-    pub(crate) fn refer(&mut self, utid: Utid, node: u32, place: u32) -> Outcome {
+    pub(crate) fn refer(&mut self, utid: Utid, node: u32, place: u32) -> Outcome
+        ensures { HasNoFrameBefore self.entry.now utid.index → self.exit.now ≡ self.entry.now }
+    {
         let thread = self.threads.at(utid.index)?;
         let key = (node, thread.last);
         if thread.earlier == Some(thread.last) && self.referred.get(&key).is_none() {

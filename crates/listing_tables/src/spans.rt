@@ -1,6 +1,8 @@
 //! The processes and the threads of a capture, each with its number and its span.
 
-ghost use Rattle.std.specs.Prelude.{◌≡◌, ◌+◌};
+ghost use Rattle.std.specs.Prelude.{◌≡◌, ◌+◌, Some, slice_get, IfOk, OnOk};
+ghost use Rattle.listing_tables.specs.Columns.{WritesRows};
+ghost use Rattle.listing_tables.specs.Spans.{process_columns, process_rows, thread_columns, thread_rows};
 ghost use Rattle.listing_tables.specs.declared.rows.Column.TheVariants.{Number};
 
 use crate::numbered::{narrow, sum};
@@ -118,37 +120,70 @@ impl Spans {
     }
 
     /// Writes the rows of the table process.
-    pub(crate) fn write_processes<W: Write + Drop>(&self, rows: &mut RowWriter<W>) -> Outcome {
-        for (process, span) in self.processes.iter() {
-            rows.push(&columns! {
-                upid: span.upid,
-                device: process.device,
-                process: process.number,
-                first_seq: span.first,
-                last_seq: span.last,
-                frames: span.frames,
-            })?;
+    pub(crate) fn write_processes<W: Write + Drop>(&self, rows: &mut RowWriter<W>) -> Outcome
+        ensures { OnOk result (WritesRows rows.old rows.new
+            (process_rows self.now.processes.entries)) }
+    {
+        for at in 0..self.processes.len() {
+            let entry = entry_at(&self.processes, at)?;
+            rows.push(&process_columns(entry))?;
         }
         Ok(())
     }
 
     /// Writes the rows of the table thread.
-    pub(crate) fn write_threads<W: Write + Drop>(&self, rows: &mut RowWriter<W>) -> Outcome {
-        let mut utid = 0u64;
-        for (thread, span) in self.threads.iter() {
-            utid = sum(utid, 1)?;
-            rows.push(&columns! {
-                utid: utid,
-                upid: span.upid,
-                thread: thread.number,
-                first_seq: span.first,
-                last_seq: span.last,
-                frames: span.frames,
-                last_record: span.record,
-                last_write: span.written,
-            })?;
+    pub(crate) fn write_threads<W: Write + Drop>(&self, rows: &mut RowWriter<W>) -> Outcome
+        ensures { OnOk result (WritesRows rows.old rows.new
+            (thread_rows self.now.threads.entries)) }
+    {
+        for at in 0..self.threads.len() {
+            let entry = entry_at(&self.threads, at)?;
+            rows.push(&thread_columns(at as u64 + 1, entry))?;
         }
         Ok(())
+    }
+}
+
+/// The process or thread at this index, and its span.
+fn entry_at<K: Eq + Hash + Copy>(
+    spans: &IndexMap<K, Span>,
+    at: usize,
+) -> Result<(K, Span), ListingError>
+    ensures { IfOk result (λ entry. slice_get spans.now.entries at ≡ Some entry) }
+{
+    match spans.get_index(at) {
+        Some((key, span)) => Ok((*key, *span)),
+        None => Err(ListingError::TooLarge),
+    }
+}
+
+fn process_columns(entry: (Process, Span)) -> [Column<'static>; 6]
+    ensures { result ≡ process_columns entry }
+{
+    let (process, span) = entry;
+    columns! {
+        upid: span.upid,
+        device: process.device,
+        process: process.number,
+        first_seq: span.first,
+        last_seq: span.last,
+        frames: span.frames,
+    }
+}
+
+fn thread_columns(utid: u64, entry: (Thread, Span)) -> [Column<'static>; 8]
+    ensures { result ≡ thread_columns utid entry }
+{
+    let (thread, span) = entry;
+    columns! {
+        utid: utid,
+        upid: span.upid,
+        thread: thread.number,
+        first_seq: span.first,
+        last_seq: span.last,
+        frames: span.frames,
+        last_record: span.record,
+        last_write: span.written,
     }
 }
 

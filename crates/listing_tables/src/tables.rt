@@ -5,6 +5,7 @@ ghost use Rattle.capture_frame.specs.Envelope.{placed_frame};
 ghost use Rattle.record_view.specs.State.{placed_record};
 ghost use Rattle.listing_tables.specs.Steps.{AddsMarked, IsKept, KeepsAll, Marked, WritesCalls};
 ghost use Rattle.listing_tables.specs.Steps.{marked_of};
+ghost use Rattle.listing_tables.specs.Tables.{WritesTable};
 ghost use Rattle.listing_tables.specs.Walk.{HasNoSteps};
 
 use crate::calls::{Call, all_calls};
@@ -177,7 +178,9 @@ impl Tables {
         name: Name,
         ending: Ending,
         rows: &mut RowWriter<W>,
-    ) -> Outcome {
+    ) -> Outcome
+        ensures { OnOk result (WritesTable self.old name rows.old rows.new) }
+    {
         let traffic = &mut self.traffic;
         match name {
             Name::Frame | Name::Record | Name::Object | Name::Call => Ok(()),

@@ -1,4 +1,4 @@
-use Rattle.listing_tables.specs.Calls.{AreColumns}
+use Rattle.listing_tables.specs.Messages.{IsCallRow}
 use Rattle.listing_tables.proofs.WalkLaws.{kept_rows}
 use Rattle.listing_tables.proofs.walk.walk_to.Goals as goal
 
@@ -11,6 +11,8 @@ returns-clause-calls g c =
       kept = walked.kept;
       calls = walked.calls;
       are = walked.are;
-      written = kept_rows AreColumns (at c.args.writers.calls) c.new-streams.result.calls c.walk_capture.new.streams.calls
+      sorted = walked.sorted;
+      messages = walked.messages;
+      written = kept_rows (IsCallRow walked.messages) (at c.args.writers.calls) c.new-streams.result.calls c.walk_capture.new.streams.calls
           (at c.in_ok-finish.field-0.calls) walked.calls c.new-streams.ensures.calls walked.written c.in_ok-finish.ensures.calls;
     }

@@ -1,0 +1,30 @@
+-- What is written of each table that is written after the walk (docs/DATABASE.md).
+use Rattle.std.specs.Prelude.{ℕ, List, Option, ⊤}
+use Rattle.std.specs.Io.KnownBytes.{Keeps}
+use Rattle.listing_tables.specs.Columns.{WritesRows}
+use Rattle.listing_tables.specs.Generations.{generation_rows}
+use Rattle.listing_tables.specs.Messages.{delivery_rows, send_rows}
+use Rattle.listing_tables.specs.Spans.{process_rows, thread_rows}
+use Rattle.listing_tables.specs.declared.tables.Name.{Name}
+use Rattle.listing_tables.specs.declared.tables.Name.TheVariants.{Capture, Process, Thread, Frame, Record, Interface, Service, Object, Call, Generation, Send, Delivery, Slice, Level}
+use Rattle.listing_tables.specs.declared.tables.Tables.{Tables}
+
+-- Each process, thread, generation, send and delivery in the walk's lists has its row, in order, and nothing else is
+-- written. Nothing is written of a table that is written while the walk goes on. Of the others nothing is said.
+abbrev pub WritesTable : Tables → Name → Option (List ℕ) → Option (List ℕ) → Type 0
+WritesTable tables Capture old new = ⊤
+WritesTable tables Process old new = WritesRows old new (process_rows tables.spans.processes.entries)
+WritesTable tables Thread old new = WritesRows old new (thread_rows tables.spans.threads.entries)
+WritesTable tables Frame old new = Keeps old new
+WritesTable tables Record old new = Keeps old new
+WritesTable tables Interface old new = ⊤
+WritesTable tables Service old new = ⊤
+WritesTable tables Object old new = Keeps old new
+WritesTable tables Call old new = Keeps old new
+WritesTable tables Generation old new =
+    WritesRows old new (generation_rows tables.traffic.handles.generations.list.all.items)
+WritesTable tables Send old new = WritesRows old new (send_rows tables.traffic.messages.list.all.items)
+WritesTable tables Delivery old new = WritesRows old new (
+    delivery_rows tables.traffic.messages.list.all.items tables.traffic.buffers.list.all.items tables.calls.all.items)
+WritesTable tables Slice old new = ⊤
+WritesTable tables Level old new = ⊤
