@@ -125,8 +125,8 @@ CREATE TABLE raw_object(place INTEGER NOT NULL, idx INTEGER NOT NULL, offset INT
 -- verdicts follow docs/REPORT.md#calls-of-each-thread to the letter.
 --   place, seq   of the opener
 --   served       0 a call that the thread makes, 1 one that it gets to serve
---   depth        how many calls of the thread are open right after the opener, itself included
---   parent       the place of the innermost call of the thread that was open before; NULL at depth 1
+--   depth        1 more than that of its parent; 1 without one
+--   parent       the place of the last call of the thread before it that is not closed before it; NULL without one
 --   verdict      0 open, 1 answered, 2 replied, 3 failed, 4 crossed
 --   closer       the place of the record that closes it; NULL of an open call
 --   dur_seq      the closer's seq less the opener's; NULL of an open call
