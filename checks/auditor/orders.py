@@ -39,7 +39,7 @@ fn main(_rt: HostRuntime) {
 }
 """
 BUILT = """\
-build: nothing is kept of an earlier build; from nothing this takes some 15 minutes on four cores
+build: nothing is kept of an earlier build; from nothing this takes 10 to 20 minutes on four cores
 build: low is proved, crate 1 of 2
 build: little is proved, crate 2 of 2
 build: built crates/little/out/little
