@@ -1,3 +1,4 @@
+#define _GNU_SOURCE
 #include "frame.h"
 #include "codes.h"
 #include "met.h"
@@ -10,6 +11,7 @@
 
 #define FRAME_HEAD 32u
 #define ENTRY_HEAD 12u
+#define LEAST_LENT 4096u	/* the least bytes of an attachment that is written straight from the ring */
 
 static u64 entries_written, entries_left_out;
 
@@ -30,9 +32,43 @@ struct frame *frame_make(u64 number)
 	return frame;
 }
 
-static u64 bytes_of(const struct entry *entry)
+static u64 whole_bytes(const struct entry *entry)
 {
-	return sizeof *entry + (u64)entry->data + entry->offsets;
+	return (u64)entry->data + entry->offsets;
+}
+
+/* An entry that was in the ring has its bytes apart from itself. */
+static int is_apart(const struct entry *entry)
+{
+	return entry->bytes != entry->own;
+}
+
+static u64 head_bytes(const struct entry *entry)
+{
+	return sizeof *entry + (is_apart(entry) ? 0 : whole_bytes(entry));
+}
+
+static u64 memory_of(const struct entry *entry)
+{
+	return pool_room(head_bytes(entry)) + (is_apart(entry) && entry->bytes ? pool_room(whole_bytes(entry)) : 0);
+}
+
+static void forget_lent(struct entry *entry)
+{
+	for (struct lent *lent = entry->lent, *next; lent; lent = next) {
+		next = lent->next;
+		pool_give(lent, sizeof *lent);
+	}
+	entry->lent = entry->last_lent = NULL;
+}
+
+static void free_entry(struct entry *entry)
+{
+	if (is_apart(entry)) {
+		forget_lent(entry);
+		pool_give(entry->bytes, whole_bytes(entry));
+	}
+	pool_give(entry, head_bytes(entry));
 }
 
 void frame_free(struct frame *frame)
@@ -41,7 +77,7 @@ void frame_free(struct frame *frame)
 		return;
 	for (struct entry *entry = frame->entries, *next; entry; entry = next) {
 		next = entry->next;
-		pool_give(entry, bytes_of(entry));
+		free_entry(entry);
 	}
 	for (struct note *note = frame->notes, *next; note; note = next) {
 		next = note->next;
@@ -51,25 +87,35 @@ void frame_free(struct frame *frame)
 	pool_give(frame, sizeof *frame);
 }
 
+/* Makes an empty entry, without memory for its bytes if they stay in the ring. */
+static struct entry *make_entry(u32 record, u32 data, u32 offsets, int is_lent)
+{
+	u64 bytes = (u64)data + offsets;
+	struct entry *entry = pool_take(sizeof *entry + (is_lent ? 0 : bytes));
+	*entry = (struct entry){ .record = record, .data = data, .offsets = offsets };
+	entry->bytes = is_lent ? NULL : entry->own;
+	return entry;
+}
+
 /* Makes a new, empty entry for the record. It replaces an entry that the record has. Mostly it is the last one. */
-static struct entry *new_entry(struct frame *frame, u32 record, u32 data, u32 offsets)
+static struct entry *new_entry(struct frame *frame, u32 record, u32 data, u32 offsets, int is_lent)
 {
 	struct entry *last = frame->last_entry, *old;
 	struct entry **place = last && last->record < record ? &last->next : &frame->entries;
 	while (*place && (*place)->record < record)
 		place = &(*place)->next;
 	old = *place;
-	struct entry *entry = pool_take(sizeof *entry + (u64)data + offsets);
-	*entry = (struct entry){ .next = old, .record = record, .data = data, .offsets = offsets };
+	struct entry *entry = make_entry(record, data, offsets, is_lent);
+	entry->next = old;
 	if (old && old->record == record) {
 		entry->next = old->next;
-		frame->memory -= pool_room(bytes_of(old));
-		pool_give(old, bytes_of(old));
+		frame->memory -= memory_of(old);
+		free_entry(old);
 	}
 	*place = entry;
 	if (!entry->next)
 		frame->last_entry = entry;
-	frame->memory += pool_room(bytes_of(entry));
+	frame->memory += memory_of(entry);
 	return entry;
 }
 
@@ -115,16 +161,71 @@ int frame_add_chunk(struct frame *frame, const struct chunk *chunk)
 	return chunk->next == 0;
 }
 
-void frame_add_piece(struct frame *frame, const struct piece *piece)
+static void add_lent(struct entry *entry, const void *bytes, u64 count)
 {
+	struct lent *lent = pool_take(sizeof *lent);
+	*lent = (struct lent){ .bytes = bytes, .count = count };
+	if (entry->last_lent)
+		entry->last_lent->next = lent;
+	else
+		entry->lent = lent;
+	entry->last_lent = lent;
+}
+
+/* Gives an entry whose bytes are in the ring memory of its own for them. */
+static void keep(struct frame *frame, struct entry *entry)
+{
+	u64 at = 0;
+	frame->memory -= memory_of(entry);
+	entry->bytes = pool_take(whole_bytes(entry));
+	frame->memory += memory_of(entry);
+	for (const struct lent *lent = entry->lent; lent; lent = lent->next) {
+		memcpy(entry->bytes + at, lent->bytes, lent->count);
+		at += lent->count;
+	}
+	forget_lent(entry);
+}
+
+void frame_keep(struct frame *frame)
+{
+	for (struct entry *entry = frame->entries; entry; entry = entry->next)
+		if (!entry->bytes)
+			keep(frame, entry);
+}
+
+int frame_add_piece(struct frame *frame, const struct piece *piece, int is_lent)
+{
+	int stays = is_lent && (u64)piece->data + piece->offsets >= LEAST_LENT;
 	struct entry *entry = piece->at ? find_entry(frame, piece->record)
-					: new_entry(frame, piece->record, piece->data, piece->offsets);
+					: new_entry(frame, piece->record, piece->data, piece->offsets, stays);
 	if (!entry || entry->got != piece->at || entry->data != piece->data || entry->offsets != piece->offsets)
-		return;
-	if (piece->bytes > (u64)entry->data + entry->offsets - entry->got)
-		return;
-	memcpy(entry->bytes + entry->got, piece + 1, piece->bytes);
+		return 0;
+	if (piece->bytes > whole_bytes(entry) - entry->got)
+		return 0;
+	if (entry->bytes)
+		memcpy(entry->bytes + entry->got, piece + 1, piece->bytes);
+	else
+		add_lent(entry, piece + 1, piece->bytes);
 	entry->got += piece->bytes;
+	return !entry->bytes;
+}
+
+void entry_read(const struct entry *entry, u64 at, void *to, u64 count)
+{
+	if (entry->bytes) {
+		memcpy(to, entry->bytes + at, count);
+		return;
+	}
+	for (const struct lent *lent = entry->lent; lent && count; lent = lent->next) {
+		if (at >= lent->count) {
+			at -= lent->count;
+			continue;
+		}
+		u64 here = count < lent->count - at ? count : lent->count - at;
+		to = (u8 *)mempcpy(to, lent->bytes + at, here);
+		count -= here;
+		at = 0;
+	}
 }
 
 void frame_add_note(struct frame *frame, u32 record, u32 reason)
@@ -141,7 +242,7 @@ void frame_add_note(struct frame *frame, u32 record, u32 reason)
 
 static int is_whole(const struct entry *entry, u64 consumed)
 {
-	return entry->record < consumed && entry->got == (u64)entry->data + entry->offsets;
+	return entry->record < consumed && entry->got == whole_bytes(entry);
 }
 
 /* Whether the attachment has the sizes that the payload of its record says. */
@@ -171,15 +272,26 @@ static void write_head(const struct frame *frame, u64 consumed, u64 attached)
 	parts_add(frame->commands, consumed);
 }
 
+static void write_bytes(const struct entry *entry)
+{
+	if (entry->bytes)
+		parts_add(entry->bytes, entry->got);
+	for (const struct lent *lent = entry->lent; lent; lent = lent->next)
+		parts_lend(lent->bytes, lent->count);
+}
+
 static void write_entries(struct frame *frame, u64 consumed)
 {
 	for (struct entry *entry = frame->entries; entry; entry = entry->next) {
 		if (!is_whole(entry, consumed) || !fits_record(frame, entry))
 			continue;
 		u32 head[3] = { entry->record, entry->data, entry->offsets };
-		redact(frame, entry);
+		if (redact_wants(frame, entry)) {
+			frame_keep(frame);
+			redact(frame, entry);
+		}
 		parts_add(head, sizeof head);
-		parts_add(entry->bytes, entry->got);
+		write_bytes(entry);
 		entries_written++;
 	}
 }

@@ -5,12 +5,21 @@
 #include "messages.h"
 #include "names.h"
 
+/* Bytes of an attachment that are still in the ring. */
+struct lent {
+	struct lent *next;
+	const u8 *bytes;
+	u64 count;
+};
+
 /* The attachment of one record. */
 struct entry {
 	struct entry *next;
 	u32 record, data, offsets;
 	u64 got;			/* how many of its bytes have come */
-	u8 bytes[];
+	u8 *bytes;			/* NULL while they are in the ring: */
+	struct lent *lent, *last_lent;	/* there, in order */
+	u8 own[];			/* most entries have their bytes here */
 };
 
 /* What the side list says of a record: that its entry was read late, or why there is no entry. */
@@ -38,7 +47,12 @@ struct frame *frame_make(u64 number);
 void frame_free(struct frame *frame);
 /* Adds a chunk. Returns 1 if it is the last one of its frame. */
 int frame_add_chunk(struct frame *frame, const struct chunk *chunk);
-void frame_add_piece(struct frame *frame, const struct piece *piece);
+/* Adds a piece. If the ring lends it, a large attachment stays there. Returns 1 then. */
+int frame_add_piece(struct frame *frame, const struct piece *piece, int is_lent);
+/* Copies what is still in the ring. */
+void frame_keep(struct frame *frame);
+/* Copies bytes of an entry that have come, from `at` on. */
+void entry_read(const struct entry *entry, u64 at, void *to, u64 count);
 void frame_add_note(struct frame *frame, u32 record, u32 reason);
 /* Writes the first `consumed` bytes and their entries, and the lines of the side list. Returns REASON_NONE; or, if nothing
  * is written, why the frame is lost, or REASON_LATER: the next file is not begun yet, and the call is due once more. */

@@ -114,14 +114,16 @@ static long take(struct ring *ring)
 {
 	kernel_make_room();
 	u64 bound = kernel_bound();
-	long count = ring_drain(ring, window_hear);
+	long count = window_take(ring);
 	if (count >= 0)
 		window_silent_until(bound);
 	if (count)
 		missed_tell();
 	stacks_look();
 	names_look();
-	return window_settle() && count < FEW_MESSAGES ? FEW_MESSAGES : count;
+	int has_more = window_settle();
+	window_give_back(ring);
+	return has_more && count < FEW_MESSAGES ? FEW_MESSAGES : count;
 }
 
 /* If standard error is a file, it keeps room for what is said when the disk is full. */

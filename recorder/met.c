@@ -169,10 +169,10 @@ static void met_objects(const struct who *who, const struct entry *entry)
 	for (u32 i = 0; i + 8 <= entry->offsets; i += 8) {
 		struct flat_binder_object object;
 		u64 offset;
-		memcpy(&offset, entry->bytes + entry->data + i, sizeof offset);
+		entry_read(entry, entry->data + i, &offset, sizeof offset);
 		if (offset > entry->data || entry->data - offset < sizeof object)
 			continue;
-		memcpy(&object, entry->bytes + offset, sizeof object);
+		entry_read(entry, offset, &object, sizeof object);
 		if (object.hdr.type == BINDER_TYPE_HANDLE || object.hdr.type == BINDER_TYPE_WEAK_HANDLE)
 			met_handle(who, object.handle);
 	}

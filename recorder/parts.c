@@ -23,7 +23,8 @@ static u64 first_bytes;		/* so many bytes they have */
 static int first_error, side_failed;	/* side_failed: that was an error of the side list */
 static u64 frames_added, last_added, frames_whole, last_whole;
 
-#define FLUSH_BYTES 65536u
+#define FLUSH_BYTES 65536u	/* copied, */
+#define FLUSH_LENT 1048576u	/* or lent */
 #define LONGEST_PATH 4096u
 #define MOST_PASSED 65536u	/* numbers whose names others have taken, before a file */
 
@@ -254,7 +255,7 @@ int parts_next_frame(u64 number, u64 time, u64 bytes)
 {
 	if (is_begun && is_full(bytes) && !first_error)
 		begin_next(number, time);
-	else if (part.waiting_bytes >= FLUSH_BYTES)
+	else if (part.waiting_bytes >= FLUSH_BYTES || part.lent_bytes >= FLUSH_LENT)
 		parts_flush();
 	if (!is_begun && !first_error)
 		go_on();
@@ -271,6 +272,12 @@ void parts_add(const void *bytes, u64 number)
 {
 	if (!first_error)
 		file_add(&part, bytes, number);
+}
+
+void parts_lend(const void *bytes, u64 number)
+{
+	if (!first_error)
+		file_lend(&part, bytes, number);
 }
 
 int parts_end(void)

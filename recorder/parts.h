@@ -22,6 +22,8 @@ int parts_have_room(u64 bytes);
  * ring must not get full meanwhile. Then the call is due once more, for the same frame. */
 int parts_next_frame(u64 number, u64 time, u64 bytes);
 void parts_add(const void *bytes, u64 count);
+/* Adds bytes that stay where they are until the next flush. */
+void parts_lend(const void *bytes, u64 count);
 /* Hands to the system what was added, the side list first, so that each frame of the capture has its lines there.
  * Returns 0, or the errno of the first failure; after a failure nothing more is written. */
 int parts_flush(void);

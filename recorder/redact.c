@@ -146,11 +146,14 @@ static u64 kept_token(const struct frame *frame, const struct entry *entry)
 	return first < bytes ? 0 : bytes;
 }
 
-void redact(const struct frame *frame, struct entry *entry)
+int redact_wants(const struct frame *frame, const struct entry *entry)
 {
 	u32 flags = load_u32(frame->commands + entry->record + 4 + offsetof(struct binder_transaction_data, flags));
-	if (!is_for_all && !(flags & TF_CLEAR_BUF))
-		return;
+	return is_for_all || flags & TF_CLEAR_BUF;
+}
+
+void redact(const struct frame *frame, struct entry *entry)
+{
 	static const u8 purpose = 'd';
 	u64 token = kept_token(frame, entry);
 	struct walk walk = { .entry = entry, .take = into_hash, .hash = keyed };

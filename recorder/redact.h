@@ -6,7 +6,9 @@
 
 /* Makes the key of the recording, which is kept nowhere. `all` is 0 if only payloads with TF_CLEAR_BUF are redacted. */
 void redact_begin(int all);
-/* Redacts the payload of the entry, of a record of this frame, if it is to be redacted. */
+/* Whether the payload of the entry, of a record of this frame, is to be redacted. */
+int redact_wants(const struct frame *frame, const struct entry *entry);
+/* Redacts it. */
 void redact(const struct frame *frame, struct entry *entry);
 /* Forgets the key. */
 void redact_end(void);

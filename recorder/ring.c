@@ -17,6 +17,8 @@ int ring_open(struct ring *ring, int descriptor, u64 size)
 	ring->put = (const volatile u64 *)(const void *)second;
 	ring->bytes = second + page;
 	ring->size = size;
+	ring->lends = 0;
+	ring->heard = *ring->taken;
 	return 0;
 }
 
@@ -33,7 +35,9 @@ long ring_drain(struct ring *ring, void (*hear)(const void *message, u64 bytes))
 		if (!(length & BPF_RINGBUF_DISCARD_BIT))
 			hear(head + BPF_RINGBUF_HDR_SZ, bytes);
 		at += (bytes + BPF_RINGBUF_HDR_SZ + 7) & ~7ull;
-		__atomic_store_n(ring->taken, at, __ATOMIC_RELEASE);
+		ring->heard = at;
+		if (!ring->lends)
+			ring_give_back(ring);
 		count++;
 	}
 	return count;

@@ -1,6 +1,7 @@
 #include "window.h"
 #include "frame.h"
 #include "names.h"
+#include "parts.h"
 #include "side.h"
 #include "stacks.h"
 #include <stdarg.h>
@@ -12,6 +13,7 @@
 #define MOST_MEMORY (256u << 20)		/* the most bytes of their frames and lines */
 #define LONGEST_WAIT 10000000000u		/* how long a write may hold back later frames, in nanoseconds */
 #define LONGEST_SETTLE 20000000u		/* how long frames are written before the ring is looked at again */
+#define LENT_PART 16u				/* so large a part of the ring may have messages that stay there */
 
 enum state { SILENT, WAITING, WHOLE, LOST };
 
@@ -36,6 +38,9 @@ static u64 last_number = UINT64_MAX, last_time = UINT64_MAX;	/* where the record
 static u64 latest;				/* the latest time of a frame that was written */
 static u64 *waits_of;				/* by thread: its write that waits, or 0 */
 static u32 wait_room;
+static int is_lent;				/* the message that is heard stays in the ring for a while */
+static u64 *lent;				/* numbers of frames of which something is there */
+static u32 lent_count, lent_room;
 
 u64 window_waiting(void) { return waiting; }
 u64 window_frames(void) { return frames; }
@@ -112,7 +117,9 @@ static void write_lost(const struct slot *slot)
 static int settle_slot(struct slot *slot)
 {
 	if (slot->state == WHOLE) {
+		memory -= slot->frame->memory;
 		enum reason reason = frame_write(slot->frame, slot->consumed);
+		memory += slot->frame->memory;		/* what is redacted is not left in the ring */
 		if (reason == REASON_LATER)
 			return 0;
 		if (reason)
@@ -265,6 +272,18 @@ static void hear_chunk(const struct chunk *chunk)
 	}
 }
 
+/* Notes that bytes of this frame are in the ring. Most pieces follow another one of their frame. */
+static void note_lent(u64 number)
+{
+	if (lent_count && lent[lent_count - 1] == number)
+		return;
+	if (lent_count == lent_room) {
+		lent_room = lent_room ? 2 * lent_room : 64;
+		lent = resize(lent, lent_room * sizeof *lent);
+	}
+	lent[lent_count++] = number;
+}
+
 static void hear_piece(const struct piece *piece)
 {
 	struct slot *slot = slot_of(piece->head.number);
@@ -272,7 +291,8 @@ static void hear_piece(const struct piece *piece)
 		return;
 	struct frame *frame = frame_of(slot, piece->head.number);
 	memory -= frame->memory;
-	frame_add_piece(frame, piece);
+	if (frame_add_piece(frame, piece, is_lent))
+		note_lent(frame->number);
 	memory += frame->memory;
 }
 
@@ -382,4 +402,32 @@ void window_hear(const void *message, u64 bytes)
 		hear_stack(message);
 	else
 		hear_event(message);
+}
+
+long window_take(struct ring *ring)
+{
+	is_lent = ring->lends = ring_waiting(ring) <= ring->size / LENT_PART;
+	long count = ring_drain(ring, window_hear);
+	is_lent = 0;
+	if (!lent_count)
+		ring_give_back(ring);
+	return count;
+}
+
+static void keep_frame(struct frame *frame)
+{
+	memory -= frame->memory;
+	frame_keep(frame);
+	memory += frame->memory;
+}
+
+void window_give_back(struct ring *ring)
+{
+	if (lent_count)
+		parts_flush();
+	for (u32 i = 0; i < lent_count; i++)
+		if (lent[i] >= next && at(lent[i])->frame)
+			keep_frame(at(lent[i])->frame);
+	lent_count = 0;
+	ring_give_back(ring);
 }

@@ -3,9 +3,15 @@
 #define RECORDER_WINDOW_H
 #include "common.h"
 #include "messages.h"
+#include "ring.h"
 
 /* Takes a message of the ring. */
 void window_hear(const void *message, u64 bytes);
+/* Takes the messages that are in the ring, as ring_drain(). If they are few bytes, large attachments stay there, to be
+ * written without a copy. Then and else window_give_back() is due before the ring is looked at again. */
+long window_take(struct ring *ring);
+/* Writes what was settled, copies what still waits, and gives the ring its room back. */
+void window_give_back(struct ring *ring);
 /* All numbers up to `bound` have their messages. If one is silent, the ring had no room for its message. */
 void window_silent_until(u64 bound);
 /* Writes frames that can be written, for a moment: the ring must not get full meanwhile. Returns 1 if there are

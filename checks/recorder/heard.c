@@ -13,15 +13,22 @@
 
 enum { CLIENT = 1, SERVICE, MOST_DATA = 1 << 16, ANSWER = 4, RECORD = 4 + sizeof(struct binder_transaction_data) };
 #define MOST_BEHIND 16383u		/* bytes of data in the message of a small frame: small.bpf.h */
-#define CALLS_AT_ONCE 8			/* of which the messages are in the ring together */
+#define CALLS_AT_ONCE 16		/* of which the messages are in the ring together */
+#define RING_BYTES (64u << 20)		/* as by default */
 
 static u64 last;			/* the number that was taken last */
+static struct made_ring ring;
 static union {
-	u8 bytes[sizeof(struct piece) + MOST_DATA];
+	u8 bytes[1 << 10];
 	struct chunk chunk;
-	struct piece piece;
 } message;
 static u8 *end;				/* of the commands in `message` */
+
+/* Puts a message into the ring, with so many bytes of data behind it, whatever they are. */
+static void tell(const void *message, u64 bytes, u64 data)
+{
+	made_ring_put(&ring, message, bytes, NULL, data);
+}
 
 static void command(u32 word, const void *payload, u32 bytes)
 {
@@ -51,31 +58,28 @@ static void free_buffer(void)
 /* The data of the last record of the commands, in pieces. */
 static void hear_pieces(struct message head, u32 record, u32 data)
 {
-	static union {
-		u8 bytes[sizeof(struct piece) + CHUNK];
-		struct piece piece;
-	} more;
 	for (u32 at = 0, bytes; at < data; at += bytes) {
 		bytes = data - at < CHUNK ? data - at : CHUNK;
-		more.piece = (struct piece){ .head = head, .record = record, .data = data, .at = at, .bytes = bytes };
-		window_hear(&more, sizeof more.piece + bytes);
+		struct piece piece = { .head = head, .record = record, .data = data, .at = at, .bytes = bytes };
+		tell(&piece, sizeof piece, bytes);
 	}
 }
 
-/* Puts the data of the last record behind the commands. Returns how many bytes the message has then. */
+/* Puts a piece for the data of the last record behind the commands. Returns how many bytes the message has then. */
 static u64 put_piece(struct message head, u32 commands, u32 data)
 {
 	u64 at = MULTIPLE_OF_8(sizeof message.chunk + commands);
 	struct piece *piece = (void *)(message.bytes + at);
 	*piece = (struct piece){ .head = head, .record = commands - RECORD, .data = data, .bytes = data };
-	return at + sizeof *piece + data;
+	return at + sizeof *piece;
 }
 
 /* The frame of the commands, with the data of its last record: in the same message if that is little, else, of a read,
  * before it. */
 static void hear(u32 direction, u32 thread, u32 data)
 {
-	u32 commands = (u32)(end - (u8 *)(&message.chunk + 1)), more = data > MOST_BEHIND ? data : 0;
+	u32 commands = (u32)(end - (u8 *)(&message.chunk + 1));
+	u32 more = data > MOST_BEHIND ? data : 0, behind = data - more;
 	u64 bytes = sizeof message.chunk + commands;
 	struct message head = head_of(MESSAGE_CHUNK, direction, ++last, thread), of_piece = head;
 	of_piece.type = MESSAGE_PIECE;
@@ -83,14 +87,14 @@ static void hear(u32 direction, u32 thread, u32 data)
 					.next = direction == DIRECTION_WRITE ? commands : 0 };
 	if (direction == DIRECTION_READ)
 		hear_pieces(of_piece, commands - RECORD, more);
-	if (data && !more)
+	if (behind)
 		bytes = put_piece(of_piece, commands, data);
-	window_hear(&message, bytes);
+	tell(&message, bytes, behind);
 	if (direction == DIRECTION_READ)
 		return;
 	hear_pieces(of_piece, commands - RECORD, more);
 	struct event event = { .head = head_of(MESSAGE_WRITTEN, direction, last, thread), .written = { commands } };
-	window_hear(&event, sizeof event);
+	tell(&event, sizeof event, 0);
 }
 
 static void call(u32 bytes)
@@ -120,15 +124,12 @@ static void call(u32 bytes)
 	hear(DIRECTION_WRITE, SERVICE, 0);
 }
 
-/* What is counted. */
-__attribute__((noinline)) void hear_calls(u32 bytes, long calls);
-void hear_calls(u32 bytes, long calls)
+static void hear_calls(u32 bytes, long calls)
 {
 	for (long left = calls; left > 0; left -= CALLS_AT_ONCE) {
 		for (int i = 0; i < CALLS_AT_ONCE; i++)
 			call(bytes);
-		while (window_settle())		/* it writes for a moment at most, and valgrind is slow */
-			continue;
+		made_ring_take(&ring);		/* what is counted */
 	}
 }
 
@@ -137,6 +138,7 @@ int main(int count, char **words)
 	if (count != 4 || strtoul(words[2], NULL, 10) > MOST_DATA)
 		fail("heard OUT BYTES CALLS");
 	u32 bytes = (u32)strtoul(words[2], NULL, 10);
+	made_ring_begin(&ring, RING_BYTES);
 	redact_begin(0);
 	if (parts_begin(words[1], 1u << 28, 0))
 		fail("%s can't be written", words[1]);

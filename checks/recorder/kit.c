@@ -2,7 +2,9 @@
 #define _GNU_SOURCE
 #include "kit.h"
 #include "common.h"
+#include "window.h"
 #include <errno.h>
+#include <linux/bpf.h>
 #include <stdlib.h>
 #include <string.h>
 #include <sys/resource.h>
@@ -88,4 +90,34 @@ struct message head_of(u32 type, u32 direction, u64 number, u32 thread)
 {
 	return (struct message){ .type = type, .direction = direction, .number = number, .time = now(),
 				 .opening = 1, .thread = thread };
+}
+
+void made_ring_begin(struct made_ring *made, u64 size)
+{
+	made->bytes = allocate(size);
+	made->taken = made->put = 0;
+	made->ring = (struct ring){ .taken = &made->taken, .put = &made->put, .bytes = made->bytes, .size = size };
+}
+
+void made_ring_put(struct made_ring *made, const void *message, u64 bytes, const void *more, u64 count)
+{
+	u32 length = (u32)(bytes + count);
+	u64 next = made->put + MULTIPLE_OF_8(BPF_RINGBUF_HDR_SZ + bytes + count);
+	u8 *to = made->bytes + made->put;
+	if (next > made->ring.size)
+		fail("the ring that is made up is full");
+	memcpy(to, &length, sizeof length);
+	memcpy(to + BPF_RINGBUF_HDR_SZ, message, bytes);
+	if (more)
+		memcpy(to + BPF_RINGBUF_HDR_SZ + bytes, more, count);
+	made->put = next;
+}
+
+void made_ring_take(struct made_ring *made)
+{
+	window_take(&made->ring);
+	while (window_settle())		/* it writes for a moment at most */
+		continue;
+	window_give_back(&made->ring);
+	made->taken = made->put = 0;
 }

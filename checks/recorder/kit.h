@@ -3,6 +3,7 @@
 #define KIT_H
 #include "common.h"
 #include "messages.h"
+#include "ring.h"
 #include <stdio.h>
 
 extern int failed;			/* whether something did not hold */
@@ -16,4 +17,17 @@ void *whole_file(const char *path, u64 *bytes);
 int times_in(const char *list, const char *text);	/* how often the list has the text */
 
 struct message head_of(u32 type, u32 direction, u64 number, u32 thread);
+
+/* A ring that no program in the kernel fills. It begins anew each time that it is empty. */
+struct made_ring {
+	struct ring ring;
+	u8 *bytes;
+	u64 taken, put;
+};
+
+void made_ring_begin(struct made_ring *, u64 size);
+/* Puts a message into it, with so many bytes behind that: these, or whatever is there if `more` is NULL. */
+void made_ring_put(struct made_ring *, const void *message, u64 bytes, const void *more, u64 count);
+/* Hands all that is in it to the window, as main.c does. */
+void made_ring_take(struct made_ring *);
 #endif

@@ -10,7 +10,8 @@
 # no process can take the files of a flight recorder for what it names and opens: each file has its frames, be the first
 # lines of its side list ever so many. If there is no room for more openings, the side lists say who has them. And that
 # names which somebody else makes in the same folder end no recording. And that a command line that the program in the
-# kernel could not read is read from its process, while nobody waits for that.
+# kernel could not read is read from its process, while nobody waits for that. And that data which is written straight
+# from the ring is the same as data that was copied.
 #
 #     checks/run loader
 #
@@ -64,6 +65,22 @@ sleeps() { # DUE SIDE
 failed=0
 "$here/build.sh" loader "$room"
 "$room/loader" "$room/out" || failed=1
+
+# Large attachments are written from the ring if it has few bytes for its size. In one of 64 MiB they all stay there, in
+# one of 4 MiB some, and else all are copied.
+"$here/build.sh" lent "$room"
+lists_of() { sed 's/^[0-9]* //' "$1"-*.side; }
+same_files() { cmp -s <(cat "$1"-*.cap) <(cat "$2"-*.cap) && cmp -s <(lists_of "$1") <(lists_of "$2"); }
+for how in '' redact; do
+  for ring in copied 67108864 4194304; do "$room/lent" "$room/lent$how-$ring" "$ring" $how || failed=1; done
+  for ring in 67108864 4194304; do
+    if ! same_files "$room/lent$how-$ring" "$room/lent$how-copied"; then
+      printf 'checks/loader: files differ that were written from a ring of %s bytes%s\n' "$ring" "${how:+, redacted}"
+      failed=1
+    fi
+  done
+done
+
 "$here/build.sh" hostile "$room" -Wl,--wrap=process_read
 "$room/hostile" "$room/hostile" || failed=1
 

@@ -25,7 +25,7 @@ static void add_entries(struct frame *frame, const u8 *bytes, u64 count)
 		struct piece *piece = allocate(sizeof *piece + size);
 		*piece = (struct piece){ .record = head[0], .data = head[1], .offsets = head[2], .bytes = (u32)size };
 		memcpy(piece + 1, bytes + at + sizeof head, size);
-		frame_add_piece(frame, piece);
+		frame_add_piece(frame, piece, 0);
 		free(piece);
 		at += sizeof head + size;
 	}
