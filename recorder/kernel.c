@@ -58,8 +58,8 @@ static void set_up_tables(void)
 }
 
 /* Whether the programs are attached to the driver's tracepoints as raw ones, without perf's help, which costs less. The
- * kernel looks for such a tracepoint by its name alone, and so finds that of one driver. From 7.0 on it lets a raw
- * program lose its processor. */
+ * kernel looks for such a tracepoint by its name alone, and so finds that of one driver. By the headers of 7.2 no
+ * tracepoint turns preemption off any more, but perf does. */
 static int takes_raw(void)
 {
 	return kernel_is_before(7, 0) && !driver_is_recorded(DRIVER_IN_RUST);

@@ -166,7 +166,7 @@ void need_no_preemption(enum preemption preemption)
 {
 	if (preemption == PREEMPTION_IS_OFF || !may_preempt())
 		return;
-	if (preemption == PREEMPTION_UNKNOWN && kernel_is_before(7, 3))	/* up to 7.2 tracepoints turn it off */
+	if (preemption == PREEMPTION_UNKNOWN && kernel_is_before(7, 3))	/* up to 7.2 tracepoints or perf turn it off */
 		return;
 	if (preemption == PREEMPTION_NOT_SEEN)
 		lack("the kernel does not run the recorder's programs at its tracepoints: it is not recorded");
