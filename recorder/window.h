@@ -7,8 +7,8 @@
 
 /* Takes a message of the ring. */
 void window_hear(const void *message, u64 bytes);
-/* Takes the messages that are in the ring, as ring_drain(). If they are few bytes, large attachments stay there, to be
- * written without a copy. Then and else window_give_back() is due before the ring is looked at again. */
+/* Takes the messages that are in the ring, as ring_drain(). If they have few bytes for its size, large attachments stay
+ * there, to be written without a copy. window_give_back() is due before the ring is looked at again. */
 long window_take(struct ring *ring);
 /* Writes what was settled, copies what still waits, and gives the ring its room back. */
 void window_give_back(struct ring *ring);
