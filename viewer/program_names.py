@@ -2,7 +2,6 @@
 
 import pathlib
 import re
-import subprocess
 
 FOLDER = pathlib.Path(__file__).resolve().parent
 
@@ -44,6 +43,7 @@ def commit() -> str | None:
         found = re.search(r"^commit (\w+) of .* UTC( and changes .*)?$", (FOLDER.parent / "version").read_text("utf-8"),
                           re.MULTILINE)
         return found[1] + (".changed" if found[2] else "") if found else None
+    import subprocess
     try:
         asked = subprocess.run(["git", "-C", FOLDER.parent, "describe", "--always", "--exclude=*", "--abbrev=40",
                                 "--dirty=.changed"], capture_output=True, encoding="utf-8")

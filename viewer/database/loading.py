@@ -5,7 +5,6 @@ import os
 import pathlib
 import select
 import sqlite3
-import subprocess
 from typing import Callable
 
 from viewer.database import packages
@@ -20,6 +19,7 @@ from viewer.methods.known import Methods, load_methods
 from viewer.program_names import called
 from viewer.rules.judging import begin, judge
 from viewer.scratch import remove
+from viewer.started import Started
 from viewer.timing import Timing
 
 # The programs read a capture side by side if there is so much memory: so many times the capture, and so much besides.
@@ -86,7 +86,7 @@ def memory_for(files: list[str]) -> bool:
     return free > BESIDE + TIMES * sum(os.stat(name).st_size for name in files)
 
 
-def wait_for_one(*programs: subprocess.Popen) -> None:
+def wait_for_one(*programs: Started) -> None:
     """Waits until one of the programs has ended."""
     with contextlib.ExitStack() as opened:
         ends = [os.pidfd_open(program.pid) for program in programs]
@@ -98,7 +98,7 @@ def wait_for_one(*programs: subprocess.Popen) -> None:
 def load_while_read(loading: Loading, listing: Asked) -> int:
     """Loads the tables while the listing writes them. The status of the listing, 0 or 2."""
     wait_for_one(loading.program, listing.program)
-    if loading.program.poll():  # what else can the listing do then than fail?
+    if loading.program.look():  # what else can the listing do then than fail?
         loading.end()
     status = listing.status()
     loading.end()

@@ -2,11 +2,11 @@
 
 import os
 import pathlib
-import subprocess
 from typing import Iterator
 
 from viewer.files import Stopped
 from viewer.program_names import LIBRARY, PACKED, called
+from viewer.started import Started, other
 
 # Large pages, as in crates/run.
 LARGE_PAGES = {"GLIBC_TUNABLES": "glibc.malloc.hugetlb=1"}
@@ -58,6 +58,7 @@ def build_programs(root: pathlib.Path) -> None:
     A package has them."""
     if PACKED or are_fresh(root):
         return
+    import subprocess
     try:
         built = subprocess.run([root / "crates/run", "view", *BUILT],
                                stdin=subprocess.DEVNULL)
@@ -77,9 +78,11 @@ class Asked:
         built = f"binder_{name}"
         path = LIBRARY / built if PACKED else root / "crates" / built / "out" / built
         try:
-            with open(to, "wb") as out:
-                self.program = subprocess.Popen([path, *map(str, words)], stdin=subprocess.DEVNULL, stdout=out,
-                                                env={**LARGE_PAGES, **os.environ})
+            out = other(os.open(to, os.O_WRONLY | os.O_CREAT | os.O_TRUNC | os.O_CLOEXEC, 0o666))
+            try:
+                self.program = Started([path, *map(str, words)], {0: None, 1: out}, {**LARGE_PAGES, **os.environ})
+            finally:
+                os.close(out)
         except OSError as error:
             raise Stopped(1, f"{called(name)}: {error.strerror}") from error
 
@@ -88,8 +91,7 @@ class Asked:
 
     def __exit__(self, *_: object) -> None:
         """If something else has failed, nothing goes on."""
-        self.program.kill()
-        self.program.wait()
+        self.program.end()
 
     def status(self) -> int:
         """Waits until it ends. Its status, 0 or 2."""

@@ -7,13 +7,13 @@ import os
 import pathlib
 import re
 import sqlite3
-import subprocess
 from contextlib import closing
 
 from viewer.database.sqlite import UNLISTED, named_numbers
 from viewer.files import Stopped
 from viewer.kept import kept
 from viewer.program_names import LIBRARY, PACKED, called
+from viewer.started import Started, Word, other
 
 FOLDER = pathlib.Path(__file__).resolve().parent
 
@@ -58,10 +58,10 @@ def write_schema(path: pathlib.Path) -> None:
 # ---- the loader
 
 
-def said_by(ended: subprocess.CompletedProcess[bytes]) -> str:
+def said_by(program: Word, status: int, told: bytes) -> str:
     """The lines of a program on why it failed, as one. Names of files in them may have any bytes."""
-    said = os.fsdecode(ended.stderr).strip().replace("\n", "; ")
-    return said or f"{os.path.basename(ended.args[0])} ended with status {ended.returncode}"
+    said = os.fsdecode(told).strip().replace("\n", "; ")
+    return said or f"{os.path.basename(program)} ended with status {status}"
 
 
 # What is built, each of the sources that follow, in C.
@@ -76,15 +76,17 @@ HOW = {"load": ("-pthread",), "packed.so": ("-shared", "-fPIC")}
 
 def build_loader(folder: pathlib.Path) -> None:
     """Builds the loader, and the library for packed tables. Their bytes do not depend on the folder of the sources."""
-    needs = subprocess.run([FOLDER.parents[1] / "packager/needs", "--as", "view", "loader"], capture_output=True)
+    import subprocess
+    asked: list[Word] = [FOLDER.parents[1] / "packager/needs", "--as", "view", "loader"]
+    needs = subprocess.run(asked, capture_output=True)
     if needs.returncode:
-        raise Stopped(1, said_by(needs).removeprefix("view: "))
+        raise Stopped(1, said_by(asked[0], needs.returncode, needs.stderr).removeprefix("view: "))
     for name, sources in BUILT.items():
         words = ["cc", "-O2", "-std=gnu11", "-Wall", "-Wextra", *HARDENED, *HOW[name], "-o", str(folder / name),
                  *sources, "-lsqlite3"]
         built = subprocess.run(words, cwd=FOLDER, capture_output=True)
         if built.returncode:
-            raise Stopped(1, f"the loader could not be built: {said_by(built)}")
+            raise Stopped(1, f"the loader could not be built: {said_by(words[0], built.returncode, built.stderr)}")
 
 
 def is_built(folder: pathlib.Path) -> bool:
@@ -148,32 +150,42 @@ class Loading:
 
     @staticmethod
     def words(database: pathlib.Path, rows: pathlib.Path, side: str | None, others: pathlib.Path | None,
-              packs: bool) -> list[str | pathlib.Path]:
+              packs: bool) -> list[Word]:
         """What the loader is called with: for the `.rows` files of a folder, and a side list. If the database is not
         kept, tables are packed, and `others` gets the lines of the list that are not loaded."""
         schema_file = kept(SCHEMA_FILE, (FOLDER,), write_schema)
         packed = [word for table in PACKED_TABLES for word in ("--pack", table)] if packs else []
         return [loader(), *packed, database, rows, schema_file, *(it for it in (side, others) if it is not None)]
 
-    def __init__(self, words: list[str | pathlib.Path], rows: pathlib.Path) -> None:
-        self.rows = rows
-        self.program = subprocess.Popen(words, stdin=subprocess.PIPE, stdout=subprocess.DEVNULL, stderr=subprocess.PIPE)
+    def __init__(self, words: list[Word], rows: pathlib.Path) -> None:
+        self.rows, self.name = rows, words[0]
+        waits, self.all_there = map(other, os.pipe())
+        self.told, tells = map(other, os.pipe())
+        try:
+            self.program = Started(words, {0: waits, 1: None, 2: tells})
+        finally:
+            os.close(waits)
+            os.close(tells)
 
     def __enter__(self) -> "Loading":
         return self
 
     def __exit__(self, *_: object) -> None:
-        self.program.kill()
-        self.program.communicate()
+        self.program.end()
+        for file in {self.all_there, self.told} - {-1}:
+            os.close(file)
 
     def end(self) -> None:
         """Waits until all is loaded. All files are there."""
-        if not self.program.poll():  # a loader that has failed says why
+        if not self.program.look():  # a loader that has failed says why
             refuse_other_layout(self.rows)
-        _, told = self.program.communicate()
-        ended = subprocess.CompletedProcess(self.program.args, self.program.returncode, b"", told)
-        if ended.returncode:
-            raise Stopped(4, said_by(ended).removeprefix("load: "))
+        os.close(self.all_there)
+        self.all_there = -1
+        with open(self.told, "rb") as lines:
+            self.told = -1
+            told = lines.read()
+        if status := self.program.wait():
+            raise Stopped(4, said_by(self.name, status, told).removeprefix("load: "))
 
 
 def load_rows(database: pathlib.Path, rows: pathlib.Path, side: str | None) -> None:
