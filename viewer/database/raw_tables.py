@@ -20,6 +20,9 @@ FOLDER = pathlib.Path(__file__).resolve().parent
 # The files that make the tables and the views of a new database, in order.
 SCHEMA = ("schema.sql", "numbers.sql", "views.sql", "joined_views.sql", "about.sql")
 
+# The bytes of a page of a database.
+PAGE = 8192
+
 # The layout of the raw tables in schema.sql. `./listing` writes that of its rows into the table `capture`.
 LAYOUT = 5
 
@@ -47,12 +50,18 @@ def schema() -> str:
     return "".join(map(schema_of, SCHEMA))
 
 
-# The file that has them for the loader.
-SCHEMA_FILE = "schema"
+# The file that has them for the loader, and a database that they made.
+SCHEMA_FILE, MADE_FILE = "schema", "schema.db"
 
 
 def write_schema(path: pathlib.Path) -> None:
     path.write_text(schema(), "utf-8")
+
+
+def write_made(path: pathlib.Path) -> None:
+    path.unlink(missing_ok=True)
+    with closing(sqlite3.connect(path, isolation_level=None)) as database:
+        database.executescript(f"PRAGMA page_size={PAGE}; PRAGMA journal_mode=OFF; BEGIN; {schema()} COMMIT;")
 
 
 # ---- the loader
@@ -153,7 +162,7 @@ class Loading:
               packs: bool) -> list[Word]:
         """What the loader is called with: for the `.rows` files of a folder, and a side list. If the database is not
         kept, tables are packed, and `others` gets the lines of the list that are not loaded."""
-        schema_file = kept(SCHEMA_FILE, (FOLDER,), write_schema)
+        schema_file = kept(MADE_FILE, (FOLDER,), write_made) if packs else kept(SCHEMA_FILE, (FOLDER,), write_schema)
         packed = [word for table in PACKED_TABLES for word in ("--pack", table)] if packs else []
         return [loader(), *packed, database, rows, schema_file, *(it for it in (side, others) if it is not None)]
 
