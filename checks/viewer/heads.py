@@ -16,11 +16,12 @@ from typing import Iterator, NamedTuple
 
 from checks.kit.programs import ROOT
 from viewer.database import raw_tables
-from viewer.database.sqlite import statements_in, statements_of
+from viewer.database.sqlite import statements_in
 from viewer.rules import judging
 from viewer.rules.catalogue import files_in_order
 from viewer.rules.idle import beside_of
 from viewer.rules.judging import LOADING
+from viewer.rules.plan import texts_of
 
 VIEWER = ROOT / "viewer"
 ORDER = files_in_order(judging.FOLDER)
@@ -39,7 +40,7 @@ def files_of_statements() -> dict[str, pathlib.Path]:
     for name in raw_tables.SCHEMA:
         found.update(dict.fromkeys(statements_in(raw_tables.schema_of(name)), raw_tables.FOLDER / name))
     for name in ORDER:
-        found.update(dict.fromkeys(statements_of(judging.FOLDER / name), judging.FOLDER / name))
+        found.update(dict.fromkeys(texts_of(judging.FOLDER / name), judging.FOLDER / name))
     return {**found, **{path.read_text("utf-8"): path for path in QUERIES.glob("*.sql")}}
 
 
@@ -59,8 +60,9 @@ class Ran(NamedTuple):
         return {(first, second) for action, first, second, _ in self.seen if action == sqlite3.SQLITE_READ}
 
     def changes(self) -> set[tuple[str, str | None]]:
-        """Tables, and of an UPDATE the column."""
-        return {(first, second) for action, first, second, _ in self.seen if action in CHANGES or action in MAKES}
+        """Tables, and of an UPDATE the column. A view is none: who finds rows beside the others gets it."""
+        return {(first, second) for action, first, second, _ in self.seen
+                if action in CHANGES or action in MAKES and not MAKES[action].endswith("views")}
 
     def texts(self) -> set[str]:
         return set(re.findall("'(\\w+)'", self.statement))

@@ -19,7 +19,7 @@ MOST = 3
 
 
 class Given(NamedTuple):
-    """A temporary table that the processes get: the statement that makes it, its name, and its rows."""
+    """A temporary table or view that the processes get: the statement that makes it, its name, and its rows."""
     making: str
     name: str
     rows: list[tuple]
@@ -121,8 +121,13 @@ class Finders:
             finder.piped.__exit__()
 
 
+def path_of(database: sqlite3.Connection) -> str:
+    """The file of a database; nothing if it is in memory."""
+    return next(path for _, name, path in database.execute("PRAGMA database_list") if name == "main")
+
+
 def finders_of(database: sqlite3.Connection) -> Finders | None:
     """Processes for a database; None if it is small, or in memory."""
     records, = database.execute("SELECT coalesce(max(records), 0) FROM raw_capture").fetchone()
-    path = next(path for _, name, path in database.execute("PRAGMA database_list") if name == "main")
+    path = path_of(database)
     return Finders(path) if path and records >= LEAST_RECORDS else None

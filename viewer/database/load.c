@@ -1,7 +1,7 @@
 /*
  * Loads the raw tables of a capture into a new SQLite database.
  *
- *     load [--pack TABLE].. DATABASE FOLDER SCHEMA [SIDE [OTHERS]]
+ *     load [--pack TABLE [--by COLUMN]..].. DATABASE FOLDER SCHEMA [SIDE [OTHERS]]
  *
  * DATABASE is created, and must not exist. SCHEMA is a file of SQL statements that create the tables; or a database that
  * has these tables, empty, to be copied, which takes a tenth of the time. Each table whose name begins with raw_ takes the rows of FOLDER/NAME.rows, where NAME is what follows raw_. docs/DATABASE.md says what
@@ -9,9 +9,9 @@
  * of frames of SIDE, a side list, and side_call those of calls; OTHERS is made of the other lines, as side_lines.c says.
  * Everything is one transaction.
  *
- * A TABLE has whole numbers alone, and its first column rises. It becomes a virtual table of DATABASE.TABLE, a file of
- * packed rows. If FOLDER/NAME.rows of such a table is a named pipe, its rows are packed as they come, and all files of
- * FOLDER are there at the end of standard input.
+ * A TABLE has whole numbers alone, and its first column rises, or repeats if it is no key. It becomes a virtual table of DATABASE.TABLE, a file of
+ * packed rows, in which rows are found by the first column, and by each COLUMN. If FOLDER/NAME.rows of such a table is a
+ * named pipe, its rows are packed as they come, and all files of FOLDER are there at the end of standard input.
  *
  * Status 0: everything is loaded. Status 1: a line on standard error says why not, and DATABASE is not whole.
  * Nothing of this is proved: it copies numbers and texts, and checks that rows are whole.
@@ -322,11 +322,16 @@ static void run_schema(sqlite3 *database, const struct schema *schema)
 
 /* ---- packed tables */
 
-static int columns_of(sqlite3 *database, const char *table)
+/* Learns how many columns a table has, and whether its first one is that of a key. */
+static void learn_table(sqlite3 *database, struct packed_table *table)
 {
 	struct rows rows = { 0 };
-	learn_columns(database, table, &rows);
-	return rows.columns;
+	learn_columns(database, table->name, &rows);
+	table->columns = rows.columns;
+	sqlite3_stmt *asked = prepared(database, "SELECT pk FROM pragma_table_info(?) WHERE cid = 0");
+	sqlite3_bind_text(asked, 1, table->name, -1, SQLITE_STATIC);
+	table->repeats = sqlite3_step(asked) == SQLITE_ROW && !sqlite3_column_int(asked, 0);
+	sqlite3_finalize(asked);
 }
 
 static void *pack_in_thread(void *table)
@@ -352,7 +357,7 @@ static void begin_packing(sqlite3 *database, const char *to, const char *folder,
 {
 	for (int number = 0; number < packing->tables; number++) {
 		struct packed_table *table = &packing->table[number];
-		table->columns = columns_of(database, table->name);
+		learn_table(database, table);
 		table->packed = sqlite3_mprintf("%s.%s", to, table->name);
 		const char *after = strncmp(table->name, "raw_", 4) ? NULL : table->name + 4;
 		table->rows = after ? sqlite3_mprintf("%s/%s.rows", folder, after) : NULL;
@@ -411,18 +416,36 @@ static char *columns_text(sqlite3 *database, const char *table)
 	return text;
 }
 
+/* The numbers of the columns by which rows are found, each after a comma. */
+static char *indexes_text(sqlite3 *database, const struct packed_table *table)
+{
+	char *text = sqlite3_mprintf("");
+	sqlite3_stmt *asked = prepared(database, "SELECT cid FROM pragma_table_info(?) WHERE name = ?");
+	for (int number = 0; number < table->indexes; number++) {
+		sqlite3_bind_text(asked, 1, table->name, -1, SQLITE_STATIC);
+		sqlite3_bind_text(asked, 2, table->index[number], -1, SQLITE_STATIC);
+		if (sqlite3_step(asked) != SQLITE_ROW)
+			stop("%s has no column %s", table->name, table->index[number]);
+		text = sqlite3_mprintf("%z, %d", text, sqlite3_column_int(asked, 0));
+		sqlite3_reset(asked);
+	}
+	sqlite3_finalize(asked);
+	return text;
+}
+
 /* Puts the packed rows in the place of the table; or into it, if they are not in order. */
 static void give_packed(sqlite3 *database, const struct packed_table *table)
 {
-	char *columns = columns_text(database, table->name);
+	char *columns = columns_text(database, table->name), *indexes = indexes_text(database, table);
 	char *statements = table->rises
-		? sqlite3_mprintf("DROP TABLE %w; CREATE VIRTUAL TABLE %w USING packed(%Q, %s)", table->name, table->name,
-				  table->packed, columns)
+		? sqlite3_mprintf("DROP TABLE %w; CREATE VIRTUAL TABLE %w USING packed(%Q, %s%s)", table->name, table->name,
+				  table->packed, columns, indexes)
 		: sqlite3_mprintf("CREATE VIRTUAL TABLE temp.unordered USING packed(%Q, %s); INSERT OR REPLACE INTO main.%w"
 				  " SELECT * FROM temp.unordered; DROP TABLE temp.unordered", table->packed, columns, table->name);
 	run(database, statements);
 	sqlite3_free(statements);
 	sqlite3_free(columns);
+	sqlite3_free(indexes);
 	if (!table->rises)
 		unlink(table->packed);
 }
@@ -481,20 +504,34 @@ static void load(sqlite3 *database, char **words, const struct schema *schema, s
 
 static int usage(void)
 {
-	fputs("usage: load [--pack TABLE].. DATABASE FOLDER SCHEMA [SIDE [OTHERS]]\n", stderr);
+	fputs("usage: load [--pack TABLE [--by COLUMN]..].. DATABASE FOLDER SCHEMA [SIDE [OTHERS]]\n", stderr);
 	return 64;
+}
+
+/* Takes the words that say which tables are packed. Returns the number of the word after them; 0 if there are too many. */
+static int take_packed(struct packing *packing, int count, char **words)
+{
+	int at = 1;
+	for (; at + 1 < count; at += 2) {
+		struct packed_table *last = packing->tables ? &packing->table[packing->tables - 1] : NULL;
+		if (!strcmp(words[at], "--pack")) {
+			if (packing->tables == MOST_PACKED)
+				return 0;
+			packing->table[packing->tables++].name = words[at + 1];
+		} else if (last && last->indexes < MOST_COLUMNS && !strcmp(words[at], "--by")) {
+			last->index[last->indexes++] = words[at + 1];
+		} else {
+			break;
+		}
+	}
+	return at;
 }
 
 int main(int count, char **words)
 {
 	struct packing packing = { 0 };
-	int at = 1;
-	for (; at + 1 < count && !strcmp(words[at], "--pack"); at += 2) {
-		if (packing.tables == MOST_PACKED)
-			return usage();
-		packing.table[packing.tables++].name = words[at + 1];
-	}
-	if (count - at < 3 || count - at > 5)
+	int at = take_packed(&packing, count, words);
+	if (!at || count - at < 3 || count - at > 5)
 		return usage();
 	struct schema schema = schema_of(words[at + 2]);
 	sqlite3 *database = made(words[at], &schema);

@@ -1,26 +1,19 @@
 /*
  * Packed rows as tables of SQLite, which are read only. A row is found by the first column, or between two values of
- * it, by binary search in the list of blocks, and then row after row in the block. Rows of which other columns are not
- * equal to what is asked for are passed over here, which takes less time than SQLite takes for a row. The file is
- * mapped: it belongs to who opens the database, and nobody else writes it. packed.h has its form.
+ * it. Rows of which other columns are not equal to what is asked for are passed over here, which takes less time than
+ * SQLite takes for a row. Of some columns an index is made in memory when rows are first asked for by one: of each
+ * value the rows that have it.
  */
-#include <fcntl.h>
 #include <stdlib.h>
-#include <string.h>
-#include <sys/mman.h>
-#include <sys/stat.h>
-#include <unistd.h>
 
-#include "packed.h"
-
-/* So many stretches of a file are kept in memory, of so many bytes: about as much as the system maps at a time. */
-enum { STRETCH = 16, MOST_STRETCHES = 1024 };
+#include "packed_rows.h"
 
 /*
  * How a table is looked at: bits of the number by which SQLite hands a plan from best_plan to look_up. Above them the
- * number has for each filter a column, and whether that has to be one of several values.
+ * number has for each filter a column, and whether that has to be one of several values. With BY_INDEX the first filter
+ * is no such one, but the rows are those that an index has for its value.
  */
-enum { EQUAL = 1, FROM = 2, UP_TO = 4, FALLING = 8, BITS_OF_KEY = 4, BITS_OF_FILTER = 7, SEVERAL = 64 };
+enum { EQUAL = 1, FROM = 2, UP_TO = 4, FALLING = 8, BY_INDEX = 16, BITS_OF_KEY = 5, BITS_OF_FILTER = 7, SEVERAL = 64 };
 
 /* So many other columns are looked at, each for so many values: more are left to SQLite. */
 enum { MOST_FILTERS = 3, MOST_VALUES = 16 };
@@ -29,20 +22,27 @@ enum { MOST_FILTERS = 3, MOST_VALUES = 16 };
  * What SQLite takes a table of its own to have, and about what it reckons for a look at all of it and for one row, so
  * that its plans for packed rows are those for a table.
  */
-static const double ROWS = 1048576, COST_OF_ALL = 3.2e6, COST_OF_ONE = 22;
+static const double ROWS = 1048576, COST_OF_ALL = 3.2e6, COST_OF_ONE = 22, ROWS_OF_VALUE = 10, COST_OF_VALUE = 40;
+
+/* The rows of a value in an index: so many from `begin` on. None: the place of the value is free. */
+struct of_value {
+	int64_t value;
+	uint32_t begin, count;
+};
+
+/* The rows by the values of a column: a table in which a value is looked for, and the numbers of rows, in their order. */
+struct by_column {
+	int column;
+	size_t places, values, looked_at;
+	struct of_value *of_value;	/* NULL: it is not made yet */
+	uint32_t *row;
+};
 
 struct table {
 	sqlite3_vtab base;
-	int columns;
-	size_t length, stretch, stretches, blocks, end;	/* `end` is where the last block ends */
-	unsigned char *bytes;
-	const struct packed_block *block;
-};
-
-/* A row: its first column, what follows that, and where the next row begins. */
-struct row {
-	int64_t key;
-	const unsigned char *rest, *next;
+	struct packed_file file;
+	int indexes;
+	struct by_column index[MOST_COLUMNS];
 };
 
 /* A column, and what it has to be. */
@@ -51,201 +51,24 @@ struct filter {
 	int64_t value[MOST_VALUES];
 };
 
-/*
- * A cursor is at a row of a block, or at the end. Columns are taken from the row when one is asked for: that one, and
- * those before it. `left` has those that are there and were not taken yet, and `at` is where they are.
- */
+/* A cursor is at a row between `least` and `most`, or at the end. */
 struct cursor {
 	sqlite3_vtab_cursor base;
 	struct table *table;
-	size_t block;
-	const unsigned char *block_end;			/* NULL: the cursor was at no row yet */
-	struct row row;
-	int64_t least, most;				/* of the rows that are asked for */
-	int falls, is_at_end, is_taken;
-	const unsigned char *at;
-	uint64_t mask, left;
-	int64_t values[MOST_COLUMNS];
+	struct packed_cursor at;
+	int64_t least, most;
+	int falls, is_by_value, is_at_end;
+	const uint32_t *next_row, *end_of_rows;		/* those of a value that come next, if `is_by_value` */
 	int filters;
 	struct filter filter[MOST_FILTERS];
 };
 
-/* ---- a file */
-
-/* Maps a file, and finds its list of blocks. A file that is none of ours is refused. */
-static int map(struct table *table, const char *path)
-{
-	int file = open(path, O_RDONLY | O_CLOEXEC);
-	struct stat about;
-	struct packed_end end;
-	if (file < 0 || fstat(file, &about)) {
-		if (file >= 0)
-			close(file);
-		return SQLITE_CANTOPEN;
-	}
-	table->length = (size_t)about.st_size;
-	void *bytes = table->length ? mmap(NULL, table->length, PROT_READ, MAP_PRIVATE, file, 0) : MAP_FAILED;
-	close(file);
-	if (bytes == MAP_FAILED)
-		return SQLITE_CANTOPEN;
-	table->bytes = bytes;
-	if (table->length < sizeof end)
-		return SQLITE_CORRUPT;
-	memcpy(&end, table->bytes + table->length - sizeof end, sizeof end);
-	uint64_t room = table->length - sizeof end;
-	if (end.blocks > room / sizeof *table->block || end.blocks_at != room - end.blocks * sizeof *table->block
-	    || end.blocks_at % sizeof(uint64_t) || end.rows_end > end.blocks_at || !end.columns || end.columns > MOST_COLUMNS)
-		return SQLITE_CORRUPT;
-	table->columns = (int)end.columns;
-	table->blocks = end.blocks;
-	table->end = end.rows_end;
-	table->block = (const struct packed_block *)(table->bytes + end.blocks_at);
-	return SQLITE_OK;
-}
-
-/* Gives back to the system what was read, from time to time: otherwise the whole file would stay in memory. */
-static void note_stretch(struct table *table, size_t at)
-{
-	if (at >> STRETCH == table->stretch)
-		return;
-	table->stretch = at >> STRETCH;
-	if (++table->stretches < MOST_STRETCHES)
-		return;
-	madvise(table->bytes, table->length, MADV_DONTNEED);
-	table->stretches = 0;
-}
-
-static const unsigned char *take_number(const unsigned char *at, const unsigned char *end, uint64_t *number)
-{
-	*number = 0;
-	for (unsigned shift = 0; at < end && shift < 64; shift += 7) {
-		*number |= (uint64_t)(*at & 0x7f) << shift;
-		if (!(*at++ & 0x80))
-			return at;
-	}
-	return NULL;
-}
-
-static const unsigned char *take_signed(const unsigned char *at, const unsigned char *end, int64_t *number)
-{
-	uint64_t packed;
-	at = take_number(at, end, &packed);
-	*number = (int64_t)(packed >> 1 ^ -(packed & 1));
-	return at;
-}
-
-/* Takes the mask of the row where the cursor is. */
-static int take_mask(struct cursor *cursor)
-{
-	cursor->at = take_number(cursor->row.rest, cursor->row.next, &cursor->mask);
-	if (!cursor->at || cursor->mask >> cursor->table->columns)
-		return SQLITE_CORRUPT;
-	cursor->left = cursor->mask & ~(uint64_t)1;
-	cursor->values[0] = cursor->row.key;
-	cursor->is_taken = 1;
-	return SQLITE_OK;
-}
-
-/* Takes the columns of the row where the cursor is, up to this one. */
-static int take_columns(struct cursor *cursor, int column)
-{
-	if (!cursor->is_taken && take_mask(cursor))
-		return SQLITE_CORRUPT;
-	for (uint64_t due = cursor->left & (((uint64_t)2 << column) - 1); due; due &= due - 1) {
-		cursor->at = take_signed(cursor->at, cursor->row.next, &cursor->values[__builtin_ctzll(due)]);
-		if (!cursor->at)
-			return SQLITE_CORRUPT;
-		cursor->left &= cursor->left - 1;
-	}
-	return SQLITE_OK;
-}
-
 /* ---- where a cursor is */
-
-/* Takes the row that begins at `at`, after one with the key `before`. Returns whether it is whole. */
-static int take_row(const unsigned char *at, const unsigned char *end, int64_t before, struct row *row)
-{
-	uint64_t length;
-	int64_t more;
-	at = take_number(at, end, &length);
-	if (!at || length > (size_t)(end - at))
-		return 0;
-	row->next = at + length;
-	row->rest = take_signed(at, row->next, &more);
-	row->key = (int64_t)((uint64_t)before + (uint64_t)more);
-	return row->rest != NULL;
-}
-
-static int go_to(struct cursor *cursor, const struct row *row)
-{
-	cursor->row = *row;
-	cursor->is_taken = 0;
-	return SQLITE_OK;
-}
-
-static int go_to_block(struct cursor *cursor, size_t block)
-{
-	struct table *table = cursor->table;
-	size_t at = table->block[block].at, end = block + 1 < table->blocks ? table->block[block + 1].at : table->end;
-	struct row row;
-	if (at >= end || end > table->end || !take_row(table->bytes + at, table->bytes + end, 0, &row))
-		return SQLITE_CORRUPT;
-	note_stretch(table, at);
-	cursor->block = block;
-	cursor->block_end = table->bytes + end;
-	return go_to(cursor, &row);
-}
-
-static int begins_by(const struct table *table, size_t block, int64_t key)
-{
-	return block < table->blocks && table->block[block].first <= key;
-}
-
-/*
- * The number of the last block that begins at or before a key; 0 if none does. Who looks up many rows mostly does so in
- * their order: so it is looked for near the one where the cursor is, in steps that grow, and then between two steps.
- */
-static size_t block_of(const struct cursor *cursor, const struct table *table, int64_t key)
-{
-	size_t low = cursor->block, high = low + 1, step;
-	for (step = 1; low && !begins_by(table, low, key); step *= 2) {
-		high = low;
-		low -= step < low ? step : low;
-	}
-	for (; begins_by(table, high, key); step *= 2) {
-		low = high;
-		high += step;
-	}
-	if (high > table->blocks)
-		high = table->blocks;
-	while (high - low > 1) {
-		size_t middle = low + (high - low) / 2;
-		if (table->block[middle].first <= key)
-			low = middle;
-		else
-			high = middle;
-	}
-	return low;
-}
-
-/* Goes on in the block while the next row has at most this key. */
-static int go_up_to(struct cursor *cursor, int64_t key)
-{
-	struct row row;
-	while (cursor->row.next < cursor->block_end) {
-		if (!take_row(cursor->row.next, cursor->block_end, cursor->row.key, &row))
-			return SQLITE_CORRUPT;
-		if (row.key > key)
-			break;
-		go_to(cursor, &row);
-	}
-	return SQLITE_OK;
-}
 
 /* Sees whether the row where the cursor is was asked for. */
 static int arrive(struct cursor *cursor)
 {
-	cursor->is_at_end = cursor->row.key < cursor->least || cursor->row.key > cursor->most;
+	cursor->is_at_end = cursor->at.row.key < cursor->least || cursor->at.row.key > cursor->most;
 	return SQLITE_OK;
 }
 
@@ -257,40 +80,189 @@ static int end_here(struct cursor *cursor)
 
 static int go_up(struct cursor *cursor)
 {
-	struct row row;
-	int status = SQLITE_OK;
-	if (cursor->row.next < cursor->block_end)
-		status = take_row(cursor->row.next, cursor->block_end, cursor->row.key, &row) ? go_to(cursor, &row)
-											      : SQLITE_CORRUPT;
-	else if (cursor->block + 1 < cursor->table->blocks)
-		status = go_to_block(cursor, cursor->block + 1);
-	else
-		return end_here(cursor);
-	return status ? status : arrive(cursor);
-}
-
-/* Goes to the last row that has at most this key, or else to the first row of the table. */
-static int find_last(struct cursor *cursor, int64_t key)
-{
-	size_t block = block_of(cursor, cursor->table, key);
-	int is_ahead = cursor->block_end && block == cursor->block && cursor->row.key <= key;
-	int status = is_ahead ? SQLITE_OK : go_to_block(cursor, block);
-	return status ? status : go_up_to(cursor, key);
+	int is_there, status = packed_go_up(&cursor->at, &is_there);
+	return status ? status : is_there ? arrive(cursor) : end_here(cursor);
 }
 
 static int go_down(struct cursor *cursor)
 {
-	int64_t key = cursor->row.key;
+	int64_t key = cursor->at.row.key;
 	if (key == INT64_MIN)
 		return end_here(cursor);
-	int status = find_last(cursor, key - 1);
-	return status ? status : cursor->row.key < key ? arrive(cursor) : end_here(cursor);
+	int status = packed_find_last(&cursor->at, key - 1);
+	return status ? status : cursor->at.row.key < key ? arrive(cursor) : end_here(cursor);
 }
+
+/*
+ * Goes to the first row between the keys that are asked for: of the least key, or if they fall of the greatest. Where
+ * keys repeat, it is the one after all that are less.
+ */
+static int go_to_first(struct cursor *cursor)
+{
+	if (!cursor->table->file.blocks || cursor->least > cursor->most)
+		return end_here(cursor);
+	int64_t before = cursor->least - (cursor->table->file.repeats && cursor->least > INT64_MIN);
+	int status = packed_find_last(&cursor->at, cursor->falls ? cursor->most : before);
+	if (status)
+		return status;
+	return !cursor->falls && cursor->at.row.key < cursor->least ? go_up(cursor) : arrive(cursor);
+}
+
+/* ---- the rows of a value */
+
+/* The place of a value in an index, where it is or may be put. */
+static struct of_value *place_of(const struct by_column *index, int64_t value)
+{
+	size_t at = (size_t)((uint64_t)value * 0x9e3779b97f4a7c15 >> 32) & (index->places - 1);
+	while (index->of_value[at].count && index->of_value[at].value != value)
+		at = (at + 1) & (index->places - 1);
+	return &index->of_value[at];
+}
+
+/* Makes room for twice as many values. */
+static int make_room(struct by_column *index)
+{
+	struct by_column more = { .places = index->places ? 2 * index->places : 1024 };
+	more.of_value = calloc(more.places, sizeof *more.of_value);
+	if (!more.of_value)
+		return SQLITE_NOMEM;
+	for (size_t at = 0; at < index->places; at++)
+		if (index->of_value[at].count)
+			*place_of(&more, index->of_value[at].value) = index->of_value[at];
+	free(index->of_value);
+	index->of_value = more.of_value;
+	index->places = more.places;
+	return SQLITE_OK;
+}
+
+static int count_value(struct by_column *index, int64_t value, size_t number)
+{
+	(void)number;
+	if (2 * index->values >= index->places && make_room(index))
+		return SQLITE_NOMEM;
+	struct of_value *of = place_of(index, value);
+	index->values += !of->count;
+	of->value = value;
+	of->count++;
+	return SQLITE_OK;
+}
+
+static int note_row(struct by_column *index, int64_t value, size_t number)
+{
+	index->row[place_of(index, value)->begin++] = (uint32_t)number;
+	return SQLITE_OK;
+}
+
+/* Hands each row that has the column to `take`, with its number. */
+static int take_all(struct cursor *cursor, struct by_column *index, int (*take)(struct by_column *, int64_t, size_t))
+{
+	int status = go_to_first(cursor);
+	for (size_t number = 0; status == SQLITE_OK && !cursor->is_at_end; number++) {
+		status = packed_take_columns(&cursor->at, index->column);
+		if (status == SQLITE_OK && cursor->at.mask >> index->column & 1)
+			status = take(index, cursor->at.values[index->column], number);
+		if (status == SQLITE_OK)
+			status = go_up(cursor);
+	}
+	return status;
+}
+
+/* Counts the rows of each value, finds where each value's rows begin, and notes these: `begin` then is where they end. */
+static int fill_index(struct cursor *cursor, struct by_column *index)
+{
+	uint32_t rows = 0;
+	int status = make_room(index);
+	if (status == SQLITE_OK)
+		status = take_all(cursor, index, count_value);
+	for (size_t at = 0; status == SQLITE_OK && at < index->places; at++) {
+		index->of_value[at].begin = rows;
+		rows += index->of_value[at].count;
+	}
+	index->row = malloc((rows + 1) * sizeof *index->row);
+	if (!index->row)
+		return SQLITE_NOMEM;
+	if (status == SQLITE_OK)
+		status = take_all(cursor, index, note_row);
+	for (size_t at = 0; at < index->places; at++)
+		index->of_value[at].begin -= index->of_value[at].count;
+	return status;
+}
+
+static int make_index(struct table *table, struct by_column *index)
+{
+	if (index->of_value)
+		return SQLITE_OK;
+	struct cursor *cursor = calloc(1, sizeof *cursor);
+	if (!cursor)
+		return SQLITE_NOMEM;
+	*cursor = (struct cursor){ .table = table, .at.file = &table->file, .least = INT64_MIN, .most = INT64_MAX };
+	int status = table->file.blocks > UINT32_MAX / ROWS_OF_BLOCK ? SQLITE_TOOBIG : fill_index(cursor, index);
+	free(cursor);
+	return status;
+}
+
+/* The first of some rows that does not come before this number. */
+static const uint32_t *from_number(const uint32_t *first, const uint32_t *end, size_t number)
+{
+	while (first < end) {
+		const uint32_t *middle = first + (end - first) / 2;
+		if (*middle < number)
+			first = middle + 1;
+		else
+			end = middle;
+	}
+	return first;
+}
+
+static int go_to_next_of_value(struct cursor *cursor)
+{
+	if (cursor->next_row == cursor->end_of_rows)
+		return end_here(cursor);
+	cursor->is_at_end = 0;
+	return packed_go_to_number(&cursor->at, cursor->falls ? *--cursor->end_of_rows : *cursor->next_row++);
+}
+
+/* Goes to the first of the rows between the keys that are asked for, of which those of a value will pass. */
+static int go_to_first_of_all(struct cursor *cursor, int column, int64_t value)
+{
+	cursor->filter[cursor->filters++] = (struct filter){ .column = column, .values = 1, .value = { value } };
+	cursor->is_by_value = 0;
+	return go_to_first(cursor);
+}
+
+/*
+ * Goes to the first row of a value between the keys that are asked for. The index is made when as many rows would have
+ * been looked at without it as there are: for some looks at few rows it is not worth its time and memory.
+ */
+static int go_to_first_of_value(struct cursor *cursor, struct by_column *index, int64_t value)
+{
+	size_t rows = cursor->table->file.blocks * ROWS_OF_BLOCK, before = 0, up_to = rows;
+	int status = SQLITE_OK;
+	if (cursor->least > INT64_MIN)
+		status = packed_count_up_to(&cursor->at, cursor->least - 1, &before);
+	if (status == SQLITE_OK && cursor->most < INT64_MAX)
+		status = packed_count_up_to(&cursor->at, cursor->most, &up_to);
+	if (status)
+		return status;
+	index->looked_at += up_to > before ? up_to - before : 0;
+	if (!index->of_value && index->looked_at < rows)
+		return go_to_first_of_all(cursor, index->column, value);
+	status = make_index(cursor->table, index);
+	if (status)
+		return status;
+	const struct of_value *of = place_of(index, value);
+	const uint32_t *first = index->row + of->begin, *end = first + of->count;
+	cursor->next_row = from_number(first, end, before);
+	cursor->end_of_rows = from_number(cursor->next_row, end, up_to);
+	return go_to_next_of_value(cursor);
+}
+
+/* ---- the rows that pass */
 
 static int has_value(const struct cursor *cursor, const struct filter *filter)
 {
 	int at = 0;
-	while (at < filter->values && filter->value[at] != cursor->values[filter->column])
+	while (at < filter->values && filter->value[at] != cursor->at.values[filter->column])
 		at++;
 	return at < filter->values;
 }
@@ -301,16 +273,18 @@ static int see_whether_passes(struct cursor *cursor, int *passes)
 	*passes = 1;
 	for (int number = 0; *passes && number < cursor->filters; number++) {
 		const struct filter *filter = &cursor->filter[number];
-		int status = take_columns(cursor, filter->column);
+		int status = packed_take_columns(&cursor->at, filter->column);
 		if (status)
 			return status;
-		*passes = cursor->mask >> filter->column & 1 && has_value(cursor, filter);
+		*passes = cursor->at.mask >> filter->column & 1 && has_value(cursor, filter);
 	}
 	return SQLITE_OK;
 }
 
 static int go_to_next(struct cursor *cursor)
 {
+	if (cursor->is_by_value)
+		return go_to_next_of_value(cursor);
 	return cursor->falls ? go_down(cursor) : go_up(cursor);
 }
 
@@ -331,17 +305,6 @@ static int go_on(sqlite3_vtab_cursor *base)
 {
 	int status = go_to_next((struct cursor *)base);
 	return status ? status : go_to_passing((struct cursor *)base);
-}
-
-/* Goes to the first row between the keys that are asked for: of the least key, or if they fall of the greatest. */
-static int go_to_first(struct cursor *cursor)
-{
-	if (!cursor->table->blocks || cursor->least > cursor->most)
-		return end_here(cursor);
-	int status = find_last(cursor, cursor->falls ? cursor->most : cursor->least);
-	if (status)
-		return status;
-	return !cursor->falls && cursor->row.key < cursor->least ? go_up(cursor) : arrive(cursor);
 }
 
 /* ---- what SQLite asks for */
@@ -393,6 +356,29 @@ static void add_filter(struct cursor *cursor, int plan, sqlite3_value *asked)
 	cursor->filters += status == SQLITE_DONE;
 }
 
+static struct by_column *index_of(struct table *table, int column)
+{
+	int number = 0;
+	while (number < table->indexes && table->index[number].column != column)
+		number++;
+	return number < table->indexes ? &table->index[number] : NULL;
+}
+
+/*
+ * Goes to the first of the rows that are asked for: of a value by the index, if the value is a whole number. Otherwise
+ * all rows are looked at, and SQLite sees to the comparison, as it does in any case.
+ */
+static int go_to_first_asked(struct cursor *cursor, int column, sqlite3_value *value)
+{
+	int type = value ? sqlite3_value_numeric_type(value) : SQLITE_BLOB;
+	if (type == SQLITE_NULL)
+		return end_here(cursor);
+	cursor->is_by_value = type == SQLITE_INTEGER;
+	return cursor->is_by_value
+		? go_to_first_of_value(cursor, index_of(cursor->table, column), sqlite3_value_int64(value))
+		: go_to_first(cursor);
+}
+
 static int look_up(sqlite3_vtab_cursor *base, int plan, const char *name, int count, sqlite3_value **values)
 {
 	(void)name, (void)count;
@@ -403,16 +389,28 @@ static int look_up(sqlite3_vtab_cursor *base, int plan, const char *name, int co
 		if (plan & how)
 			narrow(cursor, *values++, how);
 	cursor->filters = 0;
-	for (plan >>= BITS_OF_KEY; plan; plan >>= BITS_OF_FILTER)
-		add_filter(cursor, plan & ((1 << BITS_OF_FILTER) - 1), *values++);
-	int status = go_to_first(cursor);
+	int filters = plan >> BITS_OF_KEY, column = filters & (SEVERAL - 1);
+	sqlite3_value *value = NULL;
+	if (plan & BY_INDEX) {
+		value = *values++;
+		filters >>= BITS_OF_FILTER;
+	}
+	for (; filters; filters >>= BITS_OF_FILTER)
+		add_filter(cursor, filters & ((1 << BITS_OF_FILTER) - 1), *values++);
+	int status = go_to_first_asked(cursor, column, value);
 	return status ? status : go_to_passing(cursor);
 }
 
-/* Which bit of a plan a comparison of the key is; 0 of one that is not looked at here. */
-static int bit_of(const struct sqlite3_index_constraint *compared)
+/* Whether a column is the key: SQLite has -1 for what tells rows apart, which is the key unless keys repeat. */
+static int is_key(const struct table *table, int column)
 {
-	if (!compared->usable || compared->iColumn > 0)
+	return column == 0 || (column < 0 && !table->file.repeats);
+}
+
+/* Which bit of a plan a comparison of the key is; 0 of one that is not looked at here. */
+static int bit_of(const struct table *table, const struct sqlite3_index_constraint *compared)
+{
+	if (!compared->usable || !is_key(table, compared->iColumn))
 		return 0;
 	switch (compared->op) {
 	case SQLITE_INDEX_CONSTRAINT_EQ: return EQUAL;
@@ -422,28 +420,47 @@ static int bit_of(const struct sqlite3_index_constraint *compared)
 	}
 }
 
-/* Asks for the values that columns other than the key have to be equal to. */
-static void plan_filters(sqlite3_index_info *asked, int given)
+static int is_of_filter(const struct sqlite3_index_constraint *compared)
+{
+	return compared->usable && compared->iColumn > 0 && compared->op == SQLITE_INDEX_CONSTRAINT_EQ;
+}
+
+/* The number of a comparison of a column that has an index; -1 if there is none. */
+static int indexed_of(struct table *table, const sqlite3_index_info *asked)
+{
+	for (int number = 0; number < asked->nConstraint; number++)
+		if (is_of_filter(&asked->aConstraint[number]) && index_of(table, asked->aConstraint[number].iColumn))
+			return number;
+	return -1;
+}
+
+/* Asks for the values that columns other than the key have to be equal to, of one by its index. */
+static void plan_filters(sqlite3_index_info *asked, int given, int indexed)
 {
 	int shift = BITS_OF_KEY;
+	if (indexed >= 0) {
+		asked->aConstraintUsage[indexed].argvIndex = ++given;
+		asked->idxNum |= BY_INDEX | asked->aConstraint[indexed].iColumn << shift;
+		shift += BITS_OF_FILTER;
+	}
 	for (int number = 0; number < asked->nConstraint && shift < BITS_OF_KEY + MOST_FILTERS * BITS_OF_FILTER; number++) {
-		const struct sqlite3_index_constraint *compared = &asked->aConstraint[number];
-		if (!compared->usable || compared->iColumn <= 0 || compared->op != SQLITE_INDEX_CONSTRAINT_EQ)
+		if (number == indexed || !is_of_filter(&asked->aConstraint[number]))
 			continue;
 		int several = sqlite3_vtab_in(asked, number, 1) ? SEVERAL : 0;
 		asked->aConstraintUsage[number].argvIndex = ++given;
-		asked->idxNum |= (compared->iColumn | several) << shift;
+		asked->idxNum |= (asked->aConstraint[number].iColumn | several) << shift;
 		shift += BITS_OF_FILTER;
 	}
 }
 
 /* Filters count for nothing in what a plan is reckoned to take: so no plan is made for their sake. */
-static int best_plan(sqlite3_vtab *table, sqlite3_index_info *asked)
+static int best_plan(sqlite3_vtab *base, sqlite3_index_info *asked)
 {
-	(void)table;
+	struct table *table = (struct table *)base;
 	int at[UP_TO + 1] = { 0 };	/* by bit, the number of a comparison, from 1 */
 	for (int number = 0; number < asked->nConstraint; number++)
-		at[bit_of(&asked->aConstraint[number])] = number + 1;
+		at[bit_of(table, &asked->aConstraint[number])] = number + 1;
+	int repeats = table->file.repeats, is_one = at[EQUAL] && !repeats;
 	if (at[EQUAL])
 		at[FROM] = at[UP_TO] = 0;
 	double share = 1;
@@ -456,15 +473,17 @@ static int best_plan(sqlite3_vtab *table, sqlite3_index_info *asked)
 		asked->idxNum |= bit;
 		share /= 4;
 	}
-	asked->estimatedRows = at[EQUAL] ? 1 : (sqlite3_int64)(ROWS * share);
-	asked->estimatedCost = at[EQUAL] ? COST_OF_ONE : COST_OF_ALL * share;
-	asked->idxFlags = at[EQUAL] ? SQLITE_INDEX_SCAN_UNIQUE : 0;
-	if (asked->nOrderBy == 1 && asked->aOrderBy[0].iColumn <= 0) {
+	int indexed = at[EQUAL] ? -1 : indexed_of(table, asked);
+	double rows = indexed < 0 ? ROWS : ROWS_OF_VALUE, cost = indexed < 0 ? COST_OF_ALL : COST_OF_VALUE;
+	asked->estimatedRows = at[EQUAL] ? 1 + repeats : (sqlite3_int64)(rows * share);
+	asked->estimatedCost = at[EQUAL] ? COST_OF_ONE : cost * share;
+	asked->idxFlags = is_one ? SQLITE_INDEX_SCAN_UNIQUE : 0;
+	if (asked->nOrderBy == 1 && is_key(table, asked->aOrderBy[0].iColumn) && !(repeats && asked->aOrderBy[0].desc)) {
 		asked->orderByConsumed = 1;
 		asked->idxNum |= asked->aOrderBy[0].desc ? FALLING : 0;
 	}
-	if (!at[EQUAL])
-		plan_filters(asked, given);
+	if (!is_one)
+		plan_filters(asked, given, indexed);
 	return SQLITE_OK;
 }
 
@@ -476,15 +495,17 @@ static int is_at_end(sqlite3_vtab_cursor *cursor)
 static int give_column(sqlite3_vtab_cursor *base, sqlite3_context *to, int column)
 {
 	struct cursor *cursor = (struct cursor *)base;
-	int status = take_columns(cursor, column);
-	if (status == SQLITE_OK && cursor->mask >> column & 1)
-		sqlite3_result_int64(to, cursor->values[column]);
+	int status = packed_take_columns(&cursor->at, column);
+	if (status == SQLITE_OK && cursor->at.mask >> column & 1)
+		sqlite3_result_int64(to, cursor->at.values[column]);
 	return status;
 }
 
-static int give_key(sqlite3_vtab_cursor *base, sqlite3_int64 *key)
+/* What tells a row apart: its key, or if keys repeat its number. */
+static int give_rowid(sqlite3_vtab_cursor *base, sqlite3_int64 *rowid)
 {
-	*key = ((struct cursor *)base)->row.key;
+	const struct packed_cursor *at = &((struct cursor *)base)->at;
+	*rowid = at->file->repeats ? (sqlite3_int64)(at->block * ROWS_OF_BLOCK + at->nth) : at->row.key;
 	return SQLITE_OK;
 }
 
@@ -495,6 +516,7 @@ static int open_cursor(sqlite3_vtab *base, sqlite3_vtab_cursor **made)
 	if (!cursor)
 		return SQLITE_NOMEM;
 	cursor->table = (struct table *)base;
+	cursor->at.file = &cursor->table->file;
 	return SQLITE_OK;
 }
 
@@ -507,24 +529,13 @@ static int close_cursor(sqlite3_vtab_cursor *cursor)
 static int disconnect(sqlite3_vtab *base)
 {
 	struct table *table = (struct table *)base;
-	if (table->bytes)
-		munmap(table->bytes, table->length);
+	packed_unmap(&table->file);
+	for (int number = 0; number < table->indexes; number++) {
+		free(table->index[number].of_value);
+		free(table->index[number].row);
+	}
 	free(table);
 	return SQLITE_OK;
-}
-
-/* The path that stands in a statement, between quotation marks; to be freed by sqlite3_free. */
-static char *unquoted(const char *word)
-{
-	char *path = sqlite3_mprintf("%s", word + 1), *to = path;
-	if (!path)
-		return NULL;
-	for (const char *from = path; *from && !(from[0] == '\'' && from[1] != '\''); from++) {
-		*to++ = *from;
-		from += *from == '\'';
-	}
-	*to = 0;
-	return path;
 }
 
 static int declare(sqlite3 *database, const char *columns)
@@ -535,15 +546,29 @@ static int declare(sqlite3 *database, const char *columns)
 	return status;
 }
 
+/* Takes the numbers of columns that have an index. */
+static int take_indexes(struct table *table, int count, const char *const *words)
+{
+	for (int number = 0; number < count; number++) {
+		int column = atoi(words[number]);
+		if (column <= 0 || column >= table->file.columns)
+			return SQLITE_CORRUPT;
+		table->index[table->indexes++].column = column;
+	}
+	return SQLITE_OK;
+}
+
 static int connect(sqlite3 *database, void *nothing, int count, const char *const *words, sqlite3_vtab **made,
 		   char **why)
 {
 	(void)nothing;
 	struct table *table = calloc(1, sizeof *table);
-	char *path = count == 5 ? unquoted(words[3]) : NULL;
+	char *path = count >= 5 && count < 5 + MOST_COLUMNS ? packed_unquoted(words[3]) : NULL;
 	int status = !table || !path ? SQLITE_NOMEM : declare(database, words[4]);
 	if (status == SQLITE_OK)
-		status = map(table, path);
+		status = packed_map(&table->file, path);
+	if (status == SQLITE_OK)
+		status = take_indexes(table, count - 5, words + 5);
 	if (status && path)
 		*why = sqlite3_mprintf("%s: it holds no packed rows", path);
 	sqlite3_free(path);
@@ -556,12 +581,13 @@ static int connect(sqlite3 *database, void *nothing, int count, const char *cons
 static const sqlite3_module packed_module = {
 	.xCreate = connect, .xConnect = connect, .xBestIndex = best_plan, .xDisconnect = disconnect,
 	.xDestroy = disconnect, .xOpen = open_cursor, .xClose = close_cursor, .xFilter = look_up, .xNext = go_on,
-	.xEof = is_at_end, .xColumn = give_column, .xRowid = give_key,
+	.xEof = is_at_end, .xColumn = give_column, .xRowid = give_rowid,
 };
 
 int packed_module_add(sqlite3 *database)
 {
-	return sqlite3_create_module(database, "packed", &packed_module, NULL);
+	int status = sqlite3_create_module(database, "packed", &packed_module, NULL);
+	return status ? status : sums_module_add(database);
 }
 
 static int add_to_new(sqlite3 *database, const char **why, const void *calls)

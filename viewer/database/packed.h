@@ -1,8 +1,8 @@
 /*
  * Rows of whole numbers, packed into a file that is a table of SQLite.
  *
- * A row has some of up to 63 columns. Its first column rises from row to row, and rows are found by it. A file has
- * blocks of rows one after another; then, of each block, the first column of its first row and where it begins; and
+ * A row has some of up to 63 columns. Its first column rises from row to row, and rows are found by it; in a table whose
+ * first column repeats, some rows one after another have the same one. A file has blocks of rows one after another; then, of each block, the first column of its first row and where it begins; and
  * then a `struct packed_end`. A row is the number of bytes that follow in it; its first column, less that of the row
  * before in the block; its mask, which has a bit for each column that is there; and the other columns. All these are
  * numbers of seven bits a byte, the least ones first, with the highest bit where more follow; but for lengths and masks
@@ -20,13 +20,13 @@ struct packed_block {
 };
 
 struct packed_end {
-	uint64_t blocks, columns, blocks_at, rows_end;
+	uint64_t blocks, columns, blocks_at, rows_end, repeats;
 };
 
 /* A file that is being written. What fails ends the program, by `stop`. */
 struct packer {
 	const char *path;
-	int file, columns, rows_of_block, rises;
+	int file, columns, rows_of_block, repeats, rises;
 	size_t held, blocks, room;
 	uint64_t written;
 	int64_t last;
@@ -36,15 +36,18 @@ struct packer {
 
 void stop(const char *format, ...) __attribute__((noreturn, format(printf, 1, 2)));
 
-void packer_begin(struct packer *packer, const char *path, int columns);
+void packer_begin(struct packer *packer, const char *path, int columns, int repeats);
 void packer_add(struct packer *packer, uint64_t mask, const int64_t *values);
 
-/* Ends the file. Returns whether its first column rose from each row to the next one: otherwise it is no table. */
+/* Ends the file. Returns whether its first column rose, as it should: otherwise it is no table. */
 int packer_end(struct packer *packer);
 
 /*
  * Adds the module `packed` to a database:
  *
- *     CREATE VIRTUAL TABLE NAME USING packed('PATH', (COLUMNS))
+ *     CREATE VIRTUAL TABLE NAME USING packed('PATH', (COLUMNS) [, NUMBER]..)
+ *
+ * NUMBER is that of a column, from 0, by which rows are found too. And adds the module `sums` of sums.c.
  */
 int packed_module_add(sqlite3 *database);
+int sums_module_add(sqlite3 *database);

@@ -17,9 +17,9 @@ static void *with_room(void *old, size_t bytes)
 	return made;
 }
 
-void packer_begin(struct packer *packer, const char *path, int columns)
+void packer_begin(struct packer *packer, const char *path, int columns, int repeats)
 {
-	*packer = (struct packer){ .path = path, .columns = columns, .rises = 1 };
+	*packer = (struct packer){ .path = path, .columns = columns, .repeats = repeats, .rises = 1 };
 	packer->file = open(path, O_WRONLY | O_CREAT | O_EXCL | O_CLOEXEC, 0600);
 	if (packer->file < 0)
 		stop("%s: %s", path, strerror(errno));
@@ -73,7 +73,7 @@ void packer_add(struct packer *packer, uint64_t mask, const int64_t *values)
 {
 	int is_first = packer->blocks == 0;
 	int64_t key = mask & 1 ? values[0] : 0;
-	packer->rises &= mask & 1 && (is_first || key > packer->last);
+	packer->rises &= mask & 1 && (is_first || key > packer->last || (packer->repeats && key == packer->last));
 	if (is_first || packer->rows_of_block == ROWS_OF_BLOCK) {
 		begin_block(packer, key);
 		packer->last = 0;
@@ -98,7 +98,8 @@ int packer_end(struct packer *packer)
 	while ((packer->written + packer->held) % sizeof(uint64_t))
 		packer->waiting[packer->held++] = 0;
 	write_waiting(packer);
-	struct packed_end end = { packer->blocks, (uint64_t)packer->columns, packer->written, rows_end };
+	struct packed_end end = { packer->blocks, (uint64_t)packer->columns, packer->written, rows_end,
+				  (uint64_t)packer->repeats };
 	if (packer->blocks)
 		write_out(packer, packer->block, packer->blocks * sizeof *packer->block);
 	write_out(packer, &end, sizeof end);

@@ -37,11 +37,14 @@ def spellings() -> dict[str, str]:
         return {**{name: str(number) for name, number in named_numbers(database).items()}, **UNLISTED}
 
 
-def schema_of(name: str) -> str:
-    """The statements of a file of the schema, in which numbers stand for their names, and lines are joined as views.sql
-    says."""
-    text = (FOLDER / name).read_text("utf-8").replace(f"\n{' ' * 8}", " ")
+def with_numbers(text: str) -> str:
+    """Statements in which numbers stand for their names: a view can't have parameters."""
     return re.sub(r":([A-Z_]+)", lambda found: spellings()[found[1]], text)
+
+
+def schema_of(name: str) -> str:
+    """The statements of a file of the schema. Lines are joined as views.sql says."""
+    return with_numbers((FOLDER / name).read_text("utf-8").replace(f"\n{' ' * 8}", " "))
 
 
 @functools.cache
@@ -75,8 +78,8 @@ def said_by(program: Word, status: int, told: bytes) -> str:
 
 # What is built, each of the sources that follow, in C.
 BUILT = {
-    "load": ("load.c", "side_lines.c", "pack_rows.c", "packer.c", "packed.c"),
-    "packed.so": ("packed.c",)}
+    "load": ("load.c", "side_lines.c", "pack_rows.c", "packer.c", "packed.c", "packed_rows.c", "sums.c"),
+    "packed.so": ("packed.c", "packed_rows.c", "sums.c")}
 
 # How all are built, as Debian's programs are, and how each.
 HARDENED = ("-D_FORTIFY_SOURCE=2", "-Wl,-z,relro,-z,now")
@@ -124,11 +127,12 @@ def loader() -> pathlib.Path:
 
 # ---- packed tables
 
-# The longest tables. No query but those of a timeline looks at all their rows: a rule asks for those at a place.
-PACKED_TABLES = ("raw_record", "raw_frame", "raw_delivery", "side_time")
+# The longest tables, and the columns by which their rows are asked for beside the first one.
+PACKED_TABLES = {"raw_record": (), "raw_frame": ("utid",), "raw_delivery": (), "raw_send": ("generation", "refused"),
+                 "raw_call": ("utid",), "raw_object": ("binder",), "side_time": ()}
 
-# Of these, those whose rows come while the capture is read.
-STREAMED = ("record", "frame")
+# Of these, those whose rows the listing writes.
+STREAMED = tuple(name.removeprefix("raw_") for name in PACKED_TABLES if name.startswith("raw_"))
 
 
 @functools.cache
@@ -154,6 +158,11 @@ def refuse_other_layout(rows: pathlib.Path) -> None:
                          f"{called('view')} are of different versions")
 
 
+def packed_words(table: str) -> list[str]:
+    """The words by which the loader packs a table."""
+    return ["--pack", table, *(word for column in PACKED_TABLES[table] for word in ("--by", column))]
+
+
 class Loading:
     """A loader at work on a new database."""
 
@@ -163,7 +172,7 @@ class Loading:
         """What the loader is called with: for the `.rows` files of a folder, and a side list. If the database is not
         kept, tables are packed, and `others` gets the lines of the list that are not loaded."""
         schema_file = kept(MADE_FILE, (FOLDER,), write_made) if packs else kept(SCHEMA_FILE, (FOLDER,), write_schema)
-        packed = [word for table in PACKED_TABLES for word in ("--pack", table)] if packs else []
+        packed = [word for table in PACKED_TABLES for word in packed_words(table)] if packs else []
         return [loader(), *packed, database, rows, schema_file, *(it for it in (side, others) if it is not None)]
 
     def __init__(self, words: list[Word], rows: pathlib.Path) -> None:

@@ -59,11 +59,13 @@ UPDATE finding SET later = (SELECT count(*) FROM (SELECT 1 FROM (SELECT depth FR
     (SELECT o.depth + (o.closer IS NULL OR o.closer > finding.place) FROM raw_call o WHERE o.utid = finding.utid
       AND o.place < finding.place ORDER BY o.place DESC LIMIT 1), 1) LIMIT :MOST_LATER))
 WHERE section IN ('calls', 'served', 'buffers');
--- If there are many findings, the write frames of all their threads are sorted first.
+-- If there are many findings, the write frames of all their threads are sorted first; packed tables find them by thread.
 CREATE TEMP TABLE written(utid INTEGER, seq INTEGER, PRIMARY KEY(utid, seq)) WITHOUT ROWID;
 INSERT INTO written
 SELECT f.utid, f.seq
-FROM (SELECT 1 FROM raw_capture WHERE (SELECT count(*) FROM finding) > frames / 100) CROSS JOIN raw_frame f
+FROM (SELECT 1 FROM raw_capture WHERE (SELECT count(*) FROM finding) > frames / 100
+    AND EXISTS (SELECT 1 FROM sqlite_schema WHERE name = 'raw_frame' AND sql GLOB 'CREATE TABLE *'))
+  CROSS JOIN raw_frame f
 WHERE f.direction = :WRITE AND f.records > 0 AND f.utid IN (SELECT utid FROM finding);
 UPDATE finding SET later = max(coalesce(later, 0), iif(t.last_write > finding.place, max(1, iif(
     EXISTS (SELECT 1 FROM written),
@@ -80,11 +82,11 @@ WHERE t.utid = finding.utid AND section NOT IN ('calls', 'served')
 -- of which some :SAMPLE are looked at; and older than :LONG.
 -- beside: loading
 CREATE TEMP TABLE usual AS
-WITH held AS (SELECT z.ts - x.ts AS dur FROM raw_delivery d JOIN side_time x ON x.seq = d.seq
-    JOIN side_time z ON z.seq = d.seq + d.dur_seq
+WITH held AS (SELECT z.ts - x.ts AS dur FROM (SELECT 1 FROM side_time LIMIT 1) CROSS JOIN raw_delivery d
+    JOIN side_time x ON x.seq = d.seq JOIN side_time z ON z.seq = d.seq + d.dur_seq
     WHERE d.place / 4 % (SELECT 1 + count(*) / :SAMPLE FROM raw_delivery) = 0 ORDER BY dur),
-  called AS (SELECT z.ts - x.ts AS dur FROM raw_call c JOIN side_time x ON x.seq = c.seq
-    JOIN side_time z ON z.seq = c.seq + c.dur_seq
+  called AS (SELECT z.ts - x.ts AS dur FROM (SELECT 1 FROM side_time LIMIT 1) CROSS JOIN raw_call c
+    JOIN side_time x ON x.seq = c.seq JOIN side_time z ON z.seq = c.seq + c.dur_seq
     WHERE c.verdict IN (1, 2) AND c.place / 4 % (SELECT 1 + count(*) / :SAMPLE FROM raw_call) = 0 ORDER BY dur)
 SELECT 'buffers' AS section, (SELECT dur FROM held LIMIT 1 OFFSET (SELECT count(*) / 2 FROM held)) AS dur
 UNION ALL SELECT 'calls', (SELECT dur FROM called LIMIT 1 OFFSET (SELECT count(*) / 2 FROM called));

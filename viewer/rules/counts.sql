@@ -1,6 +1,6 @@
 -- How many took the path of each finding, how many of these came to a good end, and how long that took at most.
--- needs: database/schema.sql: finding, raw_call, raw_delivery, raw_record, raw_send, raw_thread, side_time; nodes.sql:
---   node_of; paths.sql: answered, given, given_way
+-- needs: database/schema.sql: finding, raw_generation, raw_record, raw_send; sums.sql: came_sum, sent_sum, served_sum;
+--   nodes.sql: node_of; paths.sql: answered, given, given_way
 -- makes: temporary tables: buffer_path, send_path, served_path; indexes: buffer_path_of
 
 -- Buffers, by what they came for, and by the process that got them and must free them: of each path that has a finding
@@ -11,27 +11,25 @@ CREATE TEMP TABLE buffer_path(relation TEXT, code INTEGER, about INTEGER, node I
   good INTEGER, longest_seq INTEGER, longest INTEGER);
 -- beside: nodes.sql
 INSERT INTO buffer_path
-WITH d AS NOT MATERIALIZED (
+WITH d AS MATERIALIZED (
   SELECT
-    CASE WHEN r.kind = :BR_REPLY THEN 'reply to' WHEN r.flags & :TF_ONE_WAY THEN 'oneway at' ELSE 'at' END AS relation,
-    iif(r.kind = :BR_REPLY, c.code, r.code) AS code,
-    iif(r.kind = :BR_REPLY, coalesce(n.upid, -t.upid), t.upid) AS about,
-    iif(r.kind = :BR_REPLY, coalesce(n.ptr, c.handle), r.ptr) AS node,
-    iif(r.kind = :BR_REPLY, n.cookie, r.cookie) AS cookie,
-    t.upid AS receiver,
-    d.freed_by,
-    d.dur_seq,
-    d.seq
-  FROM raw_delivery d JOIN raw_record r USING (place) JOIN raw_thread t ON t.utid = d.utid
-    LEFT JOIN raw_record c ON c.place = d.call AND r.kind = :BR_REPLY
-    LEFT JOIN raw_send s ON s.place = d.call AND r.kind = :BR_REPLY LEFT JOIN node_of n ON n.generation = s.generation
-  WHERE EXISTS (SELECT 1 FROM finding WHERE section = 'buffers')),
-  kept AS MATERIALIZED (SELECT DISTINCT relation, code, about, node, cookie FROM d WHERE freed_by IS NULL)
-SELECT d.relation, d.code, d.about, d.node, d.receiver, count(*) AS n, count(d.freed_by) AS good,
-  max(d.dur_seq) AS longest_seq, max(z.ts - x.ts) AS longest
+    CASE WHEN d.reply THEN 'reply to' WHEN d.oneway THEN 'oneway at' ELSE 'at' END AS relation,
+    d.code,
+    iif(d.reply, coalesce(n.upid, -d.receiver), d.receiver) AS about,
+    iif(d.reply, coalesce(n.ptr, d.handle), d.ptr) AS node,
+    iif(d.reply, n.cookie, d.cookie) AS cookie,
+    d.receiver,
+    d.n,
+    d.good,
+    d.longest_seq,
+    d.longest
+  FROM (SELECT 1 FROM finding WHERE section = 'buffers' LIMIT 1) CROSS JOIN came_sum d
+    LEFT JOIN node_of n ON n.generation = d.generation),
+  kept AS MATERIALIZED (SELECT DISTINCT relation, code, about, node, cookie FROM d WHERE good < n)
+SELECT d.relation, d.code, d.about, d.node, d.receiver, sum(d.n) AS n, sum(d.good) AS good,
+  max(d.longest_seq) AS longest_seq, max(d.longest) AS longest
 FROM d CROSS JOIN kept k ON k.about = d.about AND k.code IS d.code AND k.node IS d.node AND k.cookie IS d.cookie
     AND k.relation = d.relation
-  LEFT JOIN side_time x ON x.seq = d.seq LEFT JOIN side_time z ON z.seq = d.seq + d.dur_seq
 GROUP BY 1, 2, 3, 4, 5;
 CREATE UNIQUE INDEX temp.buffer_path_of ON buffer_path(about, node, code, relation, receiver);
 UPDATE finding SET (n_all, n_good, longest_seq, longest) = (
@@ -42,15 +40,10 @@ WHERE section = 'buffers';
 -- Calls and oneway sends to a target, by code: how many were answered or delivered, and how long that took.
 -- beside: records.sql
 CREATE TEMP TABLE send_path AS
-SELECT r.code, coalesce(n.upid, -t.upid) AS upid, coalesce(n.ptr, r.handle) AS ptr, coalesce(n.cookie, 0) AS cookie,
-  r.flags & :TF_ONE_WAY AS oneway, count(*) AS n, count(e.seq) AS good, max(e.seq - s.seq) AS longest_seq,
-  max(z.ts - x.ts) AS longest
-FROM raw_send s JOIN raw_record r USING (place) JOIN raw_thread t ON t.utid = s.utid LEFT JOIN raw_call c USING (place)
-  LEFT JOIN node_of n ON n.generation = s.generation
-  LEFT JOIN raw_record e ON e.place = iif(r.flags & :TF_ONE_WAY, s.delivery, iif(c.verdict = 1, c.closer, NULL))
-  LEFT JOIN side_time x ON x.seq = s.seq LEFT JOIN side_time z ON z.seq = e.seq
-WHERE s.generation IS NOT NULL
-  AND r.code IN (SELECT code FROM finding
+SELECT s.code, coalesce(n.upid, -g.upid) AS upid, coalesce(n.ptr, g.handle) AS ptr, coalesce(n.cookie, 0) AS cookie,
+  s.oneway, sum(s.sends) AS n, sum(s.good) AS good, max(s.good_seq) AS longest_seq, max(s.good_time) AS longest
+FROM sent_sum s JOIN raw_generation g ON g.id = s.generation LEFT JOIN node_of n ON n.generation = s.generation
+WHERE s.code IN (SELECT code FROM finding
     WHERE section IN ('calls', 'served', 'refused', 'strays', 'oneway', 'spam', 'objects', 'books'))
 GROUP BY 1, 2, 3, 4, 5;
 UPDATE finding SET n_all = p.n, n_good = p.good, longest_seq = p.longest_seq, longest = p.longest
@@ -67,11 +60,8 @@ WHERE section = 'books' AND NOT p.oneway
 -- Served calls of a node, by code.
 -- beside: records.sql
 CREATE TEMP TABLE served_path AS
-SELECT r.code, t.upid, r.ptr, r.cookie, count(*) AS n, sum(c.verdict = 2) AS good,
-  max(iif(c.verdict = 2, c.dur_seq, NULL)) AS longest_seq, max(iif(c.verdict = 2, z.ts - x.ts, NULL)) AS longest
-FROM raw_call c JOIN raw_record r USING (place) JOIN raw_thread t ON t.utid = c.utid
-  LEFT JOIN side_time x ON x.seq = c.seq LEFT JOIN side_time z ON z.seq = c.seq + c.dur_seq
-WHERE c.served AND r.code IN (SELECT code FROM finding WHERE section = 'served') GROUP BY 1, 2, 3, 4;
+SELECT code, upid, ptr, cookie, n, good, longest_seq, longest FROM served_sum
+WHERE code IN (SELECT code FROM finding WHERE section = 'served');
 UPDATE finding SET n_all = p.n, n_good = p.good, longest_seq = p.longest_seq, longest = p.longest
 FROM served_path p
 WHERE section = 'served'

@@ -1,8 +1,7 @@
 -- Findings in groups, and who talks to whom: what the page shows first.
--- needs: database/schema.sql: finding, raw_call, raw_delivery, raw_generation, raw_record, raw_send, side_time;
---   database/views.sql: process; nodes.sql: node_of, who; names.sql: call_named, code_named; paths.sql: given,
---   given_way, way; rule.sql: rule, title; causes.sql: led_by; judging.py: bare_name, call_words, counted, path_text,
---   rank_of, short_name, status_name
+-- needs: database/schema.sql: finding, raw_generation; database/views.sql: process; sums.sql: sent_sum; nodes.sql:
+--   node_of, who; names.sql: call_named, code_named; paths.sql: given, given_way, way; rule.sql: rule, title;
+--   causes.sql: led_by; judging.py: bare_name, call_words, counted, path_text, rank_of, short_name, status_name
 -- after: texts.sql
 -- makes: tables: finding_head, finding_group, traffic; temporary tables: titled, alike_name, alike_way, named, ranked,
 --   common, paths; indexes: titled_kind, alike_name_of, alike_way_of, head_of_group, ranked_group, common_of, paths_of
@@ -179,16 +178,7 @@ CREATE TABLE traffic(upid INTEGER NOT NULL, handle INTEGER NOT NULL, generation 
   cookie INTEGER, longest INTEGER) STRICT;
 -- beside: nodes.sql
 INSERT INTO traffic
-SELECT x.upid, x.handle, x.generation, x.code, x.oneway, x.sends, x.failed, x.refused, x.open, x.bytes, x.delivered,
-  x.one_fits, x.buffers, x.peak, x.longest_seq, n.upid, n.ptr, n.cookie, x.longest
-FROM (SELECT g.upid, g.handle, s.generation, r.code, r.flags & :TF_ONE_WAY AS oneway, count(*) AS sends,
-    sum(coalesce(c.verdict = 3, 0) OR s.refused NOTNULL) AS failed, count(s.refused) AS refused,
-    coalesce(sum(c.verdict = 0), 0) AS open,
-    CAST(min(total(r.data_size), 9e18) AS INTEGER) AS bytes, count(s.delivery) AS delivered,
-    coalesce(sum(s.certain AND s.fits = 1), 0) AS one_fits,
-    coalesce(sum(s.delivery IS NOT NULL AND d.freed_by IS NULL), 0) AS buffers, max(d.held) AS peak,
-    max(c.dur_seq) AS longest_seq, max(z.ts - b.ts) AS longest
-  FROM raw_send s CROSS JOIN raw_record r USING (place) JOIN raw_generation g ON g.id = s.generation
-    LEFT JOIN raw_call c USING (place) LEFT JOIN raw_delivery d ON d.place = s.delivery
-    LEFT JOIN side_time b ON b.seq = c.seq LEFT JOIN side_time z ON z.seq = c.seq + c.dur_seq
-  GROUP BY s.generation, r.code, r.flags & :TF_ONE_WAY) x LEFT JOIN node_of n ON n.generation = x.generation;
+SELECT g.upid, g.handle, x.generation, x.code, x.oneway, x.sends, x.failed, x.refused, x.open,
+  CAST(min(x.bytes, 9e18) AS INTEGER), x.delivered, x.one_fits, x.buffers, x.peak, x.longest_seq, n.upid, n.ptr, n.cookie,
+  x.longest
+FROM sent_sum x CROSS JOIN raw_generation g ON g.id = x.generation LEFT JOIN node_of n ON n.generation = x.generation;

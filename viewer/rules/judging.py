@@ -4,9 +4,10 @@ import contextlib
 import functools
 import pathlib
 import sqlite3
-from typing import Callable
+from typing import Callable, Sequence
 
-from viewer.database.finders import Finders, Given, Query, insert
+from viewer.database.finders import Finders, Given, Query, insert, path_of
+from viewer.database.raw_tables import PACKED_TABLES
 from viewer.database.report import number_of
 from viewer.database.sqlite import named_numbers
 from viewer.rules.effect import ANY_RULE, Effect
@@ -42,6 +43,19 @@ OF_RULES, OF_WAITS, OF_BOOKS = ("if_missing",), ("waits", "full_pool", "queued",
     "lossy", "dead_record", "told_death")
 
 
+def empty_of(database: sqlite3.Connection, tables: Sequence[str]) -> set[str]:
+    """Those of some tables that have no row."""
+    query = ", ".join(f"EXISTS (SELECT 1 FROM {table})" for table in tables)
+    return {table for table, has_rows in zip(tables, database.execute(f"SELECT {query}").fetchone()) if not has_rows}
+
+
+def finds_nothing(effect: Effect, lacking: set[str]) -> bool:
+    """Whether a statement finds nothing, since all that it would need is lacking."""
+    if effect.does not in ("make", "insert", "update", "delete"):
+        return False
+    return not any(all(not lacking.issuperset(names) for names in needs) for needs in effect.needs)
+
+
 class Tables:
     """Which tables have no row, and which sections and rules no finding. A temporary table without a row is made only
     where a statement names it that does something."""
@@ -52,9 +66,7 @@ class Tables:
         self.made: set[str] = set()
         self.unmade: dict[str, list[str]] = {}
         self.views: dict[str, tuple[str, ...]] = {}
-        query = ", ".join(f"EXISTS (SELECT 1 FROM {table})" for table in plan.tables)
-        there = database.execute(f"SELECT {query}").fetchone()
-        self.lacking = {*plan.told, *(table for table, has_rows in zip(plan.tables, there) if not has_rows)}
+        self.lacking = {*plan.told, *empty_of(database, plan.tables)}
         self.note_sections()
 
     def note_sections(self) -> None:
@@ -67,9 +79,7 @@ class Tables:
         """Whether a statement finds nothing, and need not run: what it would make has no row."""
         if effect.does == "index" and effect.to in self.unmade:
             return True
-        if effect.does not in ("make", "insert", "update", "delete"):
-            return False
-        return not any(all(not self.lacking.issuperset(names) for names in needs) for needs in effect.needs)
+        return finds_nothing(effect, self.lacking)
 
     def leave(self, effect: Effect, text: str) -> None:
         """Takes note of a statement that need not run."""
@@ -127,9 +137,11 @@ def query_of(number: int, statement: Statement) -> Query:
 
 def begin(database: sqlite3.Connection, finders: Finders) -> None:
     """Has other processes find what the rules take of the raw tables alone, while the database is filled."""
-    plan = plan_of(FOLDER, run)
-    due = [(number, it) for number, it in enumerate(plan.statements) if it.beside == LOADING]
-    finders.begin([query_of(number, it) for number, it in due], [], numbers_of(database))
+    plan = with_sums(database, plan_of(FOLDER, run))
+    empty = empty_of(database, [table for table in plan.tables if table.startswith("raw_") or table in PACKED_TABLES])
+    due = [(number, it) for number, it in enumerate(plan.statements)
+           if it.beside == LOADING and not finds_nothing(it.effect, empty)]
+    finders.begin([query_of(number, it) for number, it in due], views_of(plan, due), numbers_of(database))
 
 
 class Judging:
@@ -137,9 +149,10 @@ class Judging:
     say `-- beside: FILE`, from the end of that file on."""
 
     def __init__(self, database: sqlite3.Connection, plan: Plan, timing: Timing | None, finders: Finders | None):
-        self.database, self.plan, self.timing = database, plan, timing
+        self.database, self.plan, self.timing = database, with_sums(database, plan), timing
         self.finders = finders if plan.empty else None
         self.numbers = numbers_of(database)
+        self.packed = packed_tables(database)
         self.tables = Tables(database, plan) if plan.empty else None
 
     def judge(self) -> None:
@@ -149,6 +162,8 @@ class Judging:
                 self.after(file)
                 self.begin(file)
                 file = statement.file
+            if statement.effect.does == "index" and statement.effect.to in self.packed:
+                continue
             if self.tables and self.tables.do_nothing(statement.effect):
                 self.tables.leave(statement.effect, statement.text)
                 continue
@@ -179,7 +194,8 @@ class Judging:
         if due:
             self.database.execute("COMMIT")
             names = {word for _, it in due for word in it.effect.words}
-            given = [self.of_findings(), *(self.given(self.tables, name) for name in self.plan.empty if name in names)]
+            given = [self.of_findings(), *(self.given(self.tables, name) for name in self.plan.empty if name in names),
+                     *views_of(self.plan, due)]
             self.finders.begin([query_of(number, it) for number, it in due], given, self.numbers)
             self.database.execute("BEGIN")
 
@@ -220,6 +236,33 @@ class Judging:
     def note_rows(self, table: str) -> None:
         if self.tables:
             self.tables.lacking.discard(table)
+
+
+def packed_tables(database: sqlite3.Connection) -> set[str]:
+    """The tables that are packed, which have indexes of their own."""
+    return {name for name, in database.execute("SELECT name FROM sqlite_schema WHERE sql LIKE 'CREATE VIRTUAL %'")}
+
+
+# The file with the views that have the rows of tables of the module `sums`, and which tables must be packed for these.
+SUMS, SUMMED = "sums.sql", {"raw_call", "raw_delivery", "raw_frame", "raw_record", "raw_send"}
+
+
+def with_sums(database: sqlite3.Connection, plan: Plan) -> Plan:
+    """The plan for a database: if its tables are packed, sums are tables of the module `sums`."""
+    packed = packed_tables(database)
+    if not SUMMED <= packed or "side_time" not in packed and database.execute("SELECT 1 FROM side_time").fetchone():
+        return plan
+    path = path_of(database).replace("'", "''")
+    return plan._replace(statements=[
+        it._replace(text=f"CREATE VIRTUAL TABLE temp.{it.effect.to} USING sums('{path}')") if it.file == SUMS else it
+        for it in plan.statements])
+
+
+def views_of(plan: Plan, due: list[tuple[int, Statement]]) -> list[Given]:
+    """The temporary views that statements name."""
+    names = {word for _, it in due for word in it.effect.words}
+    return [Given(it.text, it.effect.to, []) for it in plan.statements
+            if it.effect.does == "view" and it.effect.to in names]
 
 
 def numbers_of(database: sqlite3.Connection) -> dict[str, float]:

@@ -1,7 +1,8 @@
 -- Which interfaces calls name: those of each code at each node, and those of each node; and under which names nodes are
 -- registered as services.
 -- needs: database/schema.sql: call_interface, method, object_interface, object_service, raw_call, raw_generation,
---   raw_object, raw_record, raw_thread; database/views.sql: came_to, interface, sent_to, service; nodes.sql: node_of
+--   raw_interface, raw_object, raw_record, raw_thread; database/views.sql: came_to, interface, sent_to, service;
+--   sums.sql: came_name, sent_name; nodes.sql: node_of
 -- after: records.sql
 -- makes: temporary tables: naming, told_name, to_manager, is_service, call_named, code_named, object_named,
 --   service_named; indexes: call_named_of, code_named_of, object_named_of, service_named_of
@@ -11,14 +12,17 @@
 -- A code of NULL: the reply to _NTF names the interface of the node that was asked.
 -- beside: nodes.sql
 CREATE TEMP TABLE naming AS
-SELECT code, upid, ptr, interface, count(*) AS n
-FROM (SELECT code, upid, ptr, interface FROM came_to WHERE interface NOTNULL
-  UNION ALL SELECT code, upid, ptr, interface FROM sent_to WHERE interface NOTNULL)
-WHERE EXISTS (SELECT 1 FROM interface) GROUP BY 1, 2, 3, 4;
+SELECT code, upid, ptr, interface, sum(n) AS n
+FROM (SELECT code, upid, ptr, interface, n FROM came_name
+  UNION ALL SELECT s.code, coalesce(n.upid, -g.upid), coalesce(n.ptr, g.handle), s.interface, s.n
+  FROM sent_name s JOIN raw_generation g ON g.id = s.generation LEFT JOIN node_of n ON n.generation = s.generation)
+WHERE EXISTS (SELECT 1 FROM raw_interface) GROUP BY 1, 2, 3, 4;
 -- beside: loading
 CREATE TEMP TABLE told_name AS
-SELECT r.place, b.interface FROM raw_record r JOIN raw_call c USING (place) JOIN raw_record b ON b.place = c.closer
-WHERE r.code = :_NTF AND b.interface NOTNULL AND EXISTS (SELECT 1 FROM interface);
+SELECT r.place, b.interface
+FROM (SELECT 1 FROM raw_interface LIMIT 1) CROSS JOIN raw_record r JOIN raw_call c USING (place)
+  JOIN raw_record b ON b.place = c.closer
+WHERE r.code = :_NTF AND b.interface NOTNULL;
 INSERT INTO naming
 SELECT NULL, a.upid, a.ptr, t.interface, count(*)
 FROM (SELECT place, upid, ptr FROM told_name JOIN came_to USING (place)

@@ -1,6 +1,6 @@
 -- Which node each generation of a handle leads to: who talks to whom.
--- needs: database/schema.sql: book_handle, raw_delivery, raw_generation, raw_object, raw_process, raw_record, raw_send,
---   raw_thread, side_device; database/views.sql: device, process
+-- needs: database/schema.sql: book_handle, raw_delivery, raw_generation, raw_object, raw_process, raw_send, raw_thread,
+--   side_device; database/views.sql: device, process; sums.sql: peer_sum
 -- makes: tables: who, peer, node_of; temporary tables: handed, passed_on, manager; indexes: object_of_record,
 --   send_refused, generation_of_handle, passed_on_from, node_of_object
 
@@ -25,10 +25,7 @@ CREATE TABLE peer(generation INTEGER NOT NULL, node_upid INTEGER NOT NULL, ptr I
   cookie INTEGER NOT NULL, deliveries INTEGER NOT NULL, certain INTEGER NOT NULL,
   PRIMARY KEY(generation, node_upid, ptr, cookie)) STRICT;
 -- beside: loading
-INSERT INTO peer
-SELECT s.generation, t.upid, r.ptr, r.cookie, count(*), sum(s.certain)
-FROM raw_send s JOIN raw_record r ON r.place = s.delivery JOIN raw_thread t ON t.utid = r.utid
-WHERE s.generation IS NOT NULL GROUP BY 1, 2, 3, 4;
+INSERT INTO peer SELECT * FROM peer_sum;
 
 -- The node that is taken: the only one with a certain delivery.
 CREATE TABLE node_of(generation INTEGER PRIMARY KEY, upid INTEGER NOT NULL, ptr INTEGER NOT NULL,

@@ -51,14 +51,20 @@ def needed_by(statements: list[Statement]) -> Iterator[str]:
                 yield from names
 
 
+def texts_of(path: pathlib.Path) -> list[str]:
+    """The statements of a file of rules. A view can't have parameters, so it has the numbers."""
+    from viewer.database.raw_tables import with_numbers
+    from viewer.database.sqlite import statements_of
+    return [with_numbers(text) if "\nCREATE TEMP VIEW " in f"\n{text}" else text for text in statements_of(path)]
+
+
 def plan_in(folder: pathlib.Path, judge: Judge) -> Plan:
     """The plan of the rules in a folder. `judge` runs all statements of a plan."""
     from viewer.database.raw_tables import schema
-    from viewer.database.sqlite import statements_of
     from viewer.rules.catalogue import catalogue_of, files_in_order, rows_of
     from viewer.rules.idle import beside_of, effect_of
     every = [Statement(name, text, effect_of(text), *beside_of(text)) for name in files_in_order(folder)
-             for text in statements_of(folder / name)]
+             for text in texts_of(folder / name)]
     made = {it.effect.to for it in every if it.effect.does in ("make", "view")}
     statements = [it._replace(effect=it.effect._replace(words=tuple(word for word in it.effect.words if word in made)))
                   for it in every]

@@ -1,0 +1,286 @@
+/*
+ * Reads packed rows. A row is found by the first column by binary search in the list of blocks, and then row after row
+ * in the block. The file is mapped: it belongs to who opens the database, and nobody else writes it.
+ */
+#include <fcntl.h>
+#include <stdlib.h>
+#include <string.h>
+#include <sys/mman.h>
+#include <sys/stat.h>
+#include <unistd.h>
+
+#include "packed_rows.h"
+
+/* So many stretches of a file are kept in memory, of so many bytes: about as much as the system maps at a time. */
+enum { STRETCH = 16, MOST_STRETCHES = 1024 };
+
+/* ---- a file */
+
+char *packed_unquoted(const char *word)
+{
+	char *path = sqlite3_mprintf("%s", word + 1), *to = path;
+	if (!path)
+		return NULL;
+	for (const char *from = path; *from && !(from[0] == '\'' && from[1] != '\''); from++) {
+		*to++ = *from;
+		from += *from == '\'';
+	}
+	*to = 0;
+	return path;
+}
+
+static int map_bytes(struct packed_file *file, const char *path)
+{
+	int opened = open(path, O_RDONLY | O_CLOEXEC);
+	struct stat about;
+	if (opened < 0 || fstat(opened, &about)) {
+		if (opened >= 0)
+			close(opened);
+		return SQLITE_CANTOPEN;
+	}
+	file->length = (size_t)about.st_size;
+	void *bytes = file->length ? mmap(NULL, file->length, PROT_READ, MAP_PRIVATE, opened, 0) : MAP_FAILED;
+	close(opened);
+	if (bytes == MAP_FAILED)
+		return SQLITE_CANTOPEN;
+	file->bytes = bytes;
+	file->is_in_memory = calloc((file->length >> STRETCH) + 1, 1);
+	return file->is_in_memory ? SQLITE_OK : SQLITE_NOMEM;
+}
+
+int packed_map(struct packed_file *file, const char *path)
+{
+	struct packed_end end;
+	*file = (struct packed_file){ 0 };
+	int status = map_bytes(file, path);
+	if (status)
+		return status;
+	if (file->length < sizeof end)
+		return SQLITE_CORRUPT;
+	memcpy(&end, file->bytes + file->length - sizeof end, sizeof end);
+	uint64_t room = file->length - sizeof end;
+	if (end.blocks > room / sizeof *file->block || end.blocks_at != room - end.blocks * sizeof *file->block
+	    || end.blocks_at % sizeof(uint64_t) || end.rows_end > end.blocks_at || !end.columns || end.columns > MOST_COLUMNS)
+		return SQLITE_CORRUPT;
+	file->columns = (int)end.columns;
+	file->repeats = end.repeats != 0;
+	file->blocks = end.blocks;
+	file->end = end.rows_end;
+	file->block = (const struct packed_block *)(file->bytes + end.blocks_at);
+	return SQLITE_OK;
+}
+
+void packed_unmap(struct packed_file *file)
+{
+	if (file->bytes)
+		munmap(file->bytes, file->length);
+	free(file->is_in_memory);
+}
+
+/* Gives back to the system what was read, from time to time: otherwise the whole file would stay in memory. */
+static void note_stretch(struct packed_file *file, size_t at)
+{
+	unsigned char *is_in_memory = &file->is_in_memory[at >> STRETCH];
+	if (*is_in_memory)
+		return;
+	*is_in_memory = 1;
+	if (++file->stretches < MOST_STRETCHES)
+		return;
+	madvise(file->bytes, file->length, MADV_DONTNEED);
+	memset(file->is_in_memory, 0, (file->length >> STRETCH) + 1);
+	file->stretches = 0;
+}
+
+/* ---- numbers and rows */
+
+static const unsigned char *take_number(const unsigned char *at, const unsigned char *end, uint64_t *number)
+{
+	*number = 0;
+	for (unsigned shift = 0; at < end && shift < 64; shift += 7) {
+		*number |= (uint64_t)(*at & 0x7f) << shift;
+		if (!(*at++ & 0x80))
+			return at;
+	}
+	return NULL;
+}
+
+static const unsigned char *take_signed(const unsigned char *at, const unsigned char *end, int64_t *number)
+{
+	uint64_t packed;
+	at = take_number(at, end, &packed);
+	*number = (int64_t)(packed >> 1 ^ -(packed & 1));
+	return at;
+}
+
+/* Takes the mask of the row where the cursor is. */
+static int take_mask(struct packed_cursor *cursor)
+{
+	cursor->at = take_number(cursor->row.rest, cursor->row.next, &cursor->mask);
+	if (!cursor->at || cursor->mask >> cursor->file->columns)
+		return SQLITE_CORRUPT;
+	cursor->left = cursor->mask & ~(uint64_t)1;
+	cursor->values[0] = cursor->row.key;
+	cursor->is_taken = 1;
+	return SQLITE_OK;
+}
+
+int packed_take_columns(struct packed_cursor *cursor, int column)
+{
+	if (!cursor->is_taken && take_mask(cursor))
+		return SQLITE_CORRUPT;
+	for (uint64_t due = cursor->left & (((uint64_t)2 << column) - 1); due; due &= due - 1) {
+		cursor->at = take_signed(cursor->at, cursor->row.next, &cursor->values[__builtin_ctzll(due)]);
+		if (!cursor->at)
+			return SQLITE_CORRUPT;
+		cursor->left &= cursor->left - 1;
+	}
+	return SQLITE_OK;
+}
+
+/* Takes the row that begins at `at`, after one with the key `before`. Returns whether it is whole. */
+static int take_row(const unsigned char *at, const unsigned char *end, int64_t before, struct packed_row *row)
+{
+	uint64_t length;
+	int64_t more;
+	at = take_number(at, end, &length);
+	if (!at || length > (size_t)(end - at))
+		return 0;
+	row->next = at + length;
+	row->rest = take_signed(at, row->next, &more);
+	row->key = (int64_t)((uint64_t)before + (uint64_t)more);
+	return row->rest != NULL;
+}
+
+/* ---- where a cursor is */
+
+static int go_to_block(struct packed_cursor *cursor, size_t block)
+{
+	struct packed_file *file = cursor->file;
+	size_t at = file->block[block].at, end = block + 1 < file->blocks ? file->block[block + 1].at : file->end;
+	if (at >= end || end > file->end || !take_row(file->bytes + at, file->bytes + end, 0, &cursor->row))
+		return SQLITE_CORRUPT;
+	note_stretch(file, at);
+	cursor->block = block;
+	cursor->nth = 0;
+	cursor->block_end = file->bytes + end;
+	cursor->is_taken = 0;
+	return SQLITE_OK;
+}
+
+static int take_next(const struct packed_cursor *cursor, struct packed_row *row)
+{
+	return take_row(cursor->row.next, cursor->block_end, cursor->row.key, row) ? SQLITE_OK : SQLITE_CORRUPT;
+}
+
+static void go_to_next_of_block(struct packed_cursor *cursor, const struct packed_row *row)
+{
+	cursor->row = *row;
+	cursor->nth++;
+	cursor->is_taken = 0;
+}
+
+static int begins_by(const struct packed_file *file, size_t block, int64_t key)
+{
+	return block < file->blocks && file->block[block].first <= key;
+}
+
+/*
+ * The number of the last block that begins at or before a key; 0 if none does. Who looks up many rows mostly does so in
+ * their order: so it is looked for near the one where the cursor is, in steps that grow, and then between two steps.
+ */
+static size_t block_of(const struct packed_cursor *cursor, int64_t key)
+{
+	const struct packed_file *file = cursor->file;
+	size_t low = cursor->block, high = low + 1, step;
+	for (step = 1; low && !begins_by(file, low, key); step *= 2) {
+		high = low;
+		low -= step < low ? step : low;
+	}
+	for (; begins_by(file, high, key); step *= 2) {
+		low = high;
+		high += step;
+	}
+	if (high > file->blocks)
+		high = file->blocks;
+	while (high - low > 1) {
+		size_t middle = low + (high - low) / 2;
+		if (file->block[middle].first <= key)
+			low = middle;
+		else
+			high = middle;
+	}
+	return low;
+}
+
+/* Goes on in the block while the next row has at most this key. */
+static int go_up_to(struct packed_cursor *cursor, int64_t key)
+{
+	struct packed_row row;
+	while (cursor->row.next < cursor->block_end) {
+		if (take_next(cursor, &row))
+			return SQLITE_CORRUPT;
+		if (row.key > key)
+			break;
+		go_to_next_of_block(cursor, &row);
+	}
+	return SQLITE_OK;
+}
+
+int packed_find_last(struct packed_cursor *cursor, int64_t key)
+{
+	size_t block = block_of(cursor, key);
+	int is_ahead = cursor->block_end && block == cursor->block && cursor->row.key <= key;
+	int status = is_ahead ? SQLITE_OK : go_to_block(cursor, block);
+	return status ? status : go_up_to(cursor, key);
+}
+
+int packed_find(struct packed_cursor *cursor, int64_t key, int *is_there)
+{
+	*is_there = 0;
+	if (!cursor->file->blocks)
+		return SQLITE_OK;
+	int status = packed_find_last(cursor, key);
+	*is_there = status == SQLITE_OK && cursor->row.key == key;
+	return status;
+}
+
+int packed_go_up(struct packed_cursor *cursor, int *is_there)
+{
+	struct packed_row row;
+	*is_there = 1;
+	if (cursor->row.next < cursor->block_end) {
+		if (take_next(cursor, &row))
+			return SQLITE_CORRUPT;
+		go_to_next_of_block(cursor, &row);
+		return SQLITE_OK;
+	}
+	if (cursor->block + 1 < cursor->file->blocks)
+		return go_to_block(cursor, cursor->block + 1);
+	*is_there = 0;
+	return SQLITE_OK;
+}
+
+/* All blocks but the last one have equally many rows. */
+int packed_go_to_number(struct packed_cursor *cursor, size_t number)
+{
+	size_t block = number / ROWS_OF_BLOCK, nth = number % ROWS_OF_BLOCK;
+	int is_ahead = cursor->block_end && block == cursor->block && cursor->nth <= nth;
+	int status = is_ahead ? SQLITE_OK : go_to_block(cursor, block);
+	struct packed_row row;
+	while (status == SQLITE_OK && cursor->nth < nth) {
+		status = cursor->row.next < cursor->block_end ? take_next(cursor, &row) : SQLITE_CORRUPT;
+		if (status == SQLITE_OK)
+			go_to_next_of_block(cursor, &row);
+	}
+	return status;
+}
+
+int packed_count_up_to(struct packed_cursor *cursor, int64_t key, size_t *rows)
+{
+	*rows = 0;
+	if (!begins_by(cursor->file, 0, key))
+		return SQLITE_OK;
+	int status = packed_find_last(cursor, key);
+	*rows = cursor->block * ROWS_OF_BLOCK + cursor->nth + 1;
+	return status;
+}

@@ -1,0 +1,82 @@
+-- Sums over all sends, deliveries and calls, which statements take in place of the rows: of large captures there are very
+-- many. Of a database that is not kept the loader makes tables of these names (database/sums.c), which have the same rows
+-- in the same order in a tenth of the time. A view can't have parameters, so plan.py puts the numbers in.
+-- needs: database/schema.sql: raw_call, raw_delivery, raw_record, raw_send, raw_thread, side_time
+-- makes: temporary views: peer_sum, sent_sum, came_sum, served_sum, came_name, sent_name
+
+-- What was sent to a generation of a handle, by the nodes that it came to.
+CREATE TEMP VIEW peer_sum AS
+SELECT s.generation, t.upid, r.ptr, r.cookie, count(*) AS deliveries, sum(s.certain) AS certain
+FROM raw_send s JOIN raw_record r ON r.place = s.delivery JOIN raw_thread t ON t.utid = r.utid
+WHERE s.generation NOTNULL GROUP BY 1, 2, 3, 4;
+
+-- What was sent to a generation of a handle, by code. `longest` is the longest call; `good` counts the calls that were
+-- answered, and the oneway sends that were delivered, and the two after it are the longest of these.
+CREATE TEMP VIEW sent_sum AS
+SELECT
+  s.generation,
+  r.code,
+  r.flags & :TF_ONE_WAY AS oneway,
+  count(*) AS sends,
+  sum(coalesce(c.verdict = 3, 0) OR s.refused NOTNULL) AS failed,
+  count(s.refused) AS refused,
+  coalesce(sum(c.verdict = 0), 0) AS open,
+  total(r.data_size) AS bytes,
+  count(s.delivery) AS delivered,
+  coalesce(sum(s.certain AND s.fits = 1), 0) AS one_fits,
+  coalesce(sum(s.delivery NOTNULL AND d.freed_by IS NULL), 0) AS buffers,
+  max(d.held) AS peak,
+  max(c.dur_seq) AS longest_seq,
+  max(z.ts - x.ts) AS longest,
+  count(e.seq) AS good,
+  max(e.seq - s.seq) AS good_seq,
+  max(y.ts - x.ts) AS good_time
+FROM raw_send s CROSS JOIN raw_record r USING (place) LEFT JOIN raw_call c USING (place)
+  LEFT JOIN raw_delivery d ON d.place = s.delivery
+  LEFT JOIN raw_record e ON e.place = iif(r.flags & :TF_ONE_WAY, s.delivery, iif(c.verdict = 1, c.closer, NULL))
+  LEFT JOIN side_time x ON x.seq = s.seq LEFT JOIN side_time z ON z.seq = c.seq + c.dur_seq
+  LEFT JOIN side_time y ON y.seq = e.seq
+WHERE s.generation NOTNULL GROUP BY 1, 2, 3;
+
+-- What each process got: replies by the call that they answer, and all else by the object. `good` counts what was freed.
+CREATE TEMP VIEW came_sum AS
+SELECT
+  reply,
+  oneway,
+  code,
+  generation,
+  handle,
+  receiver,
+  ptr,
+  cookie,
+  count(*) AS n,
+  count(freed_by) AS good,
+  max(dur_seq) AS longest_seq,
+  max(z.ts - x.ts) AS longest
+FROM (
+  SELECT r.kind = :BR_REPLY AS reply, r.kind <> :BR_REPLY AND r.flags & :TF_ONE_WAY AS oneway,
+    iif(r.kind = :BR_REPLY, c.code, r.code) AS code, iif(r.kind = :BR_REPLY, s.generation, NULL) AS generation,
+    iif(r.kind = :BR_REPLY, c.handle, NULL) AS handle, t.upid AS receiver, iif(r.kind = :BR_REPLY, NULL, r.ptr) AS ptr,
+    iif(r.kind = :BR_REPLY, NULL, r.cookie) AS cookie, d.freed_by, d.dur_seq, d.seq
+  FROM raw_delivery d JOIN raw_record r USING (place) JOIN raw_thread t ON t.utid = d.utid
+    LEFT JOIN raw_record c ON c.place = d.call LEFT JOIN raw_send s ON s.place = d.call) d
+  LEFT JOIN side_time x ON x.seq = d.seq LEFT JOIN side_time z ON z.seq = d.seq + d.dur_seq
+GROUP BY 1, 2, 3, 4, 5, 6, 7, 8;
+
+-- What each object served, by code. `good` counts what was replied, and the two after it are the longest of that.
+CREATE TEMP VIEW served_sum AS
+SELECT r.code, t.upid, r.ptr, r.cookie, count(*) AS n, sum(c.verdict = 2) AS good,
+  max(iif(c.verdict = 2, c.dur_seq, NULL)) AS longest_seq, max(iif(c.verdict = 2, z.ts - x.ts, NULL)) AS longest
+FROM raw_call c JOIN raw_record r USING (place) JOIN raw_thread t ON t.utid = c.utid
+  LEFT JOIN side_time x ON x.seq = c.seq LEFT JOIN side_time z ON z.seq = c.seq + c.dur_seq
+WHERE c.served GROUP BY 1, 2, 3, 4;
+
+-- Which interfaces the transactions name that came to an object, and those that were sent to a generation of a handle.
+CREATE TEMP VIEW came_name AS
+SELECT r.code, t.upid, r.ptr, r.interface, count(*) AS n
+FROM raw_delivery d JOIN raw_record r USING (place) JOIN raw_thread t ON t.utid = d.utid
+WHERE r.kind <> :BR_REPLY AND r.interface NOTNULL GROUP BY 1, 2, 3, 4;
+CREATE TEMP VIEW sent_name AS
+SELECT s.generation, r.code, r.interface, count(*) AS n
+FROM raw_send s JOIN raw_record r USING (place)
+WHERE s.generation NOTNULL AND r.interface NOTNULL GROUP BY 1, 2, 3;
