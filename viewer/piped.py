@@ -37,14 +37,18 @@ def run(make: Callable[[Send], None], into: int) -> NoReturn:
 
 
 class Piped:
-    """The lists that `make` sends in a process of its own. That process ends with the block."""
+    """The lists that `make` sends in a process of its own, or in several. These end with the block. The lists of several
+    processes come through one pipe, so they must be short: the system writes them whole."""
 
-    def __init__(self, make: Callable[[Send], None]):
+    def __init__(self, make: Callable[[Send], None], processes: int = 1):
         out, into = os.pipe()
-        self.maker = os.fork()
-        if self.maker == 0:
-            os.close(out)
-            run(make, into)
+        self.makers: list[int] = []
+        for _ in range(processes):
+            maker = os.fork()
+            if maker == 0:
+                os.close(out)
+                run(make, into)
+            self.makers.append(maker)
         os.close(into)
         self.pipe = open(out, "rb")
 
@@ -52,18 +56,21 @@ class Piped:
         return self.received()
 
     def __exit__(self, *_: object) -> None:
-        os.kill(self.maker, signal.SIGKILL)
-        os.waitpid(self.maker, 0)
+        for maker in self.makers:
+            os.kill(maker, signal.SIGKILL)
+            os.waitpid(maker, 0)
         self.pipe.close()
 
     def received(self) -> Iterator[list[tuple]]:
-        """The lists. If the last one does not come, the other process met an error, or was killed."""
-        while True:
+        """The lists. If the last one does not come, another process met an error, or was killed."""
+        at_work = len(self.makers)
+        while at_work:
             head = self.pipe.read(LENGTH_BYTES)
             length = int.from_bytes(head, "little")
             data = self.pipe.read(length)
             if len(head) < LENGTH_BYTES or len(data) < length:
                 raise sqlite3.OperationalError("its rows can't be read")
-            if not length:
-                return
-            yield marshal.loads(data)
+            if length:
+                yield marshal.loads(data)
+            else:
+                at_work -= 1

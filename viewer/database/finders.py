@@ -43,38 +43,52 @@ def attach(database: sqlite3.Connection, path: str) -> None:
         database.execute(f"PRAGMA found.{setting}")
 
 
-def find(path: str, given: list[Given], queries: list[tuple[Query, str]], values: Mapping[str, object], send: Send
-         ) -> None:
-    """Says by an empty list when it has all that may change, and then of each query when its rows are found."""
+def find(path: str, given: list[Given], queries: list[tuple[Query, str]], values: Mapping[str, object], due: int,
+         send: Send) -> None:
+    """Says by an empty list when it has all that may change. Then it takes one query after another that no other process
+    has taken, by its number in the pipe `due`, and says when its rows are found."""
     database = open_beside(path)
     for table in given:
         database.execute(table.making)
         insert(database, table.name, table.rows)
     database.execute("SELECT count(*) FROM raw_capture").fetchone()
     send([])
-    for query, found in queries:
+    while number := os.read(due, 1):
+        query, found = queries[number[0]]
         attach(database, found)
         database.execute(f"CREATE TABLE found.rows AS {query.text}", values)
         database.execute("DETACH found")
         send([(query.name,)])
 
 
-class Finder:
-    """A process that finds the rows of queries, one after another, each for a file."""
+class Crew:
+    """Processes that find the rows of some queries, each for a file."""
 
     def __init__(self, path: str, given: list[Given], queries: list[tuple[Query, str]], values: Mapping[str, object]):
+        processes = max(1, min((os.cpu_count() or 2) - 1, MOST, len(queries)))
         self.files = {query.name: file for query, file in queries}
-        self.piped = Piped(functools.partial(find, path, given, queries, values))
+        due, into = os.pipe()
+        os.write(into, bytes(range(len(queries))))
+        os.close(into)
+        self.piped = Piped(functools.partial(find, path, given, queries, values, due), processes)
+        os.close(due)
         self.lists = self.piped.received()
         self.found: set[str] = set()
+        while processes:
+            processes -= not self.receive()
+
+    def receive(self) -> list[tuple]:
+        """What a process says next: that it has all, or the name of a query of which the rows are found."""
+        said = next(self.lists, None)
+        if said is None:
+            raise sqlite3.OperationalError("its rows can't be read")
+        self.found.update(name for name, in said)
+        return said
 
     def wait(self, name: str) -> str:
         """Waits until the rows of a query are found. The file that has them."""
         while name not in self.found:
-            rows = next(self.lists, None)
-            if rows is None:
-                raise sqlite3.OperationalError("its rows can't be read")
-            self.found.update(found for found, in rows)
+            self.receive()
         return self.files.pop(name)
 
 
@@ -83,18 +97,15 @@ class Finders:
 
     def __init__(self, path: str):
         self.path = path
-        self.every: list[Finder] = []
-        self.of: dict[str, Finder] = {}
+        self.every: list[Crew] = []
+        self.of: dict[str, Crew] = {}
 
     def begin(self, queries: list[Query], given: list[Given], values: Mapping[str, object]) -> None:
         """Begins to find the rows of queries, in as many processes as there are processors beside this one's."""
-        files = [(query, f"{self.path}.found-{len(self.of) + at}") for at, query in enumerate(queries)]
-        processes = max(1, min((os.cpu_count() or 2) - 1, MOST, len(queries)))
-        begun = [Finder(self.path, given, files[at::processes], values) for at in range(processes)]
-        self.every += begun
-        for finder in begun:
-            next(finder.lists)
-            self.of.update(dict.fromkeys(finder.files, finder))
+        if queries:
+            files = [(query, f"{self.path}.found-{len(self.of) + at}") for at, query in enumerate(queries)]
+            self.every.append(Crew(self.path, given, files, values))
+            self.of.update(dict.fromkeys(self.every[-1].files, self.every[-1]))
 
     def has(self, name: str) -> bool:
         return name in self.of
@@ -117,8 +128,8 @@ class Finders:
         return self
 
     def __exit__(self, *_: object) -> None:
-        for finder in self.every:
-            finder.piped.__exit__()
+        for crew in self.every:
+            crew.piped.__exit__()
 
 
 def path_of(database: sqlite3.Connection) -> str:

@@ -23,10 +23,10 @@
 -- ---- what they say of which finding
 
 -- The first delivery to a process of which it is not known which objects it had: its data are not in the capture.
+-- beside: loading
 CREATE TEMP TABLE unseen AS
 SELECT t.upid, min(d.place) AS place
-FROM (SELECT 1 FROM finding f JOIN raw_generation g ON g.id = f.generation
-    WHERE f.section = 'handles' AND f.handle <> 0 AND g.given_by IS NULL LIMIT 1)
+FROM (SELECT 1 FROM raw_generation WHERE handle <> 0 AND given_by IS NULL LIMIT 1)
   CROSS JOIN raw_delivery d JOIN raw_record r USING (place) JOIN raw_thread t ON t.utid = d.utid
 WHERE r.offsets_size <> 0 AND r.attachment IS NULL GROUP BY 1;
 -- What a process held when the recording began is in the driver's books. What it named only after the copy was there,

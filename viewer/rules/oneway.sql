@@ -80,11 +80,12 @@ WHERE finding.rule IS NULL AND +finding.section = 'oneway' AND f.section = 'buff
   AND r.kind <> :BR_REPLY
   AND f.upid = finding.target AND f.ptr = finding.ptr AND f.cookie = finding.cookie;
 -- Or it waited for one that was freed only when its process ended.
+-- beside: records.sql
 CREATE TEMP TABLE last_oneway AS
 SELECT t.upid, r.ptr, r.cookie, max(d.place) AS place, d.freed_by
-FROM (SELECT 1 FROM finding WHERE section = 'oneway' AND rule IS NULL LIMIT 1)
+FROM (SELECT 1 FROM finding WHERE section = 'oneway' LIMIT 1)
   CROSS JOIN raw_delivery d JOIN raw_record r USING (place) JOIN raw_thread t ON t.utid = d.utid
-WHERE r.flags & :TF_ONE_WAY AND t.upid IN (SELECT target FROM finding WHERE section = 'oneway' AND rule IS NULL)
+WHERE r.flags & :TF_ONE_WAY AND r.kind <> :BR_REPLY
 GROUP BY 1, 2, 3;
 UPDATE finding SET rule = 'W2', said = 'the one at {other}', other = o.place
 FROM last_oneway o JOIN process_life p USING (upid) JOIN raw_record f ON f.place = o.freed_by

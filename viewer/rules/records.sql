@@ -13,6 +13,7 @@ CREATE INDEX call_of_thread ON raw_call(utid, place);
 -- ---- findings that are not rows of the report
 
 -- Oneway sends that the driver took and that were never seen to come; and those that it suspects as spam.
+-- beside: nodes.sql
 INSERT INTO finding(section, what, place, upid, handle, code)
 SELECT 'oneway', 'undelivered', s.place, t.upid, r.handle, r.code
 FROM raw_send s JOIN raw_record r USING (place) JOIN raw_thread t ON t.utid = s.utid
@@ -32,6 +33,7 @@ SELECT s.place FROM (SELECT 1 FROM report WHERE section = 'codes' AND text LIKE 
 WHERE k.kind = :BR_TRANSACTION_PENDING_FROZEN;
 CREATE UNIQUE INDEX temp.to_frozen_place ON to_frozen(place);
 -- Calls that were answered with a status. libgbinder also sends 0, which is no error.
+-- beside: nodes.sql
 INSERT INTO finding(section, what, place, upid, handle, code)
 SELECT 'answers', 'status', r.place, t.upid, r.handle, r.code
 FROM status x JOIN raw_delivery d USING (place) JOIN raw_record r ON r.place = d.call
@@ -48,6 +50,7 @@ SELECT id, 'books', 'open', upid, utid, code, server, ptr, cookie FROM from_befo
 
 CREATE TEMP TABLE dead_record(place INTEGER PRIMARY KEY, upid INTEGER, utid INTEGER, kind INTEGER, handle INTEGER,
   cookie INTEGER);
+-- beside: nodes.sql
 INSERT INTO dead_record
 SELECT r.place, t.upid, r.utid, r.kind, r.handle, r.cookie
 FROM (SELECT 1 FROM report WHERE section = 'codes' AND text GLOB '*DEA[TD]*' LIMIT 1)

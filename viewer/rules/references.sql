@@ -3,9 +3,10 @@
 --   who; records.sql: dead_record, told_death; paths.sql: given, given_way, thing_path; ages.sql: ended, last, leaving,
 --   process_life; handles.sql: handle_row; rule.sql: lossy; waits.sql: waits; ways.sql: collector, earlier,
 --   kept_handle, kept_way, let_go, of_way, outlived, recorded
--- makes: temporary tables: mourned, dead_way, outlives, let_go_later, taken_again, reference_change, most_held,
---   more_references, each_again, nearly_all, growing, by_design, overdue, unused, outliving, not_collected,
---   kept_elsewhere, weakly_kept; indexes: taken_again_of, most_held_of, more_references_of, by_design_of
+-- makes: temporary tables: mourned, dead_way, outlives, let_go_later, taken_again, reference_change, reference_level,
+--   most_held, more_references, each_again, nearly_all, growing, by_design, overdue, unused, outliving, not_collected,
+--   kept_elsewhere, weakly_kept; temporary views: held_change; indexes: taken_again_of, most_held_of,
+--   more_references_of, by_design_of
 
 -- ---- what findings are called
 
@@ -139,20 +140,29 @@ CREATE TEMP TABLE taken_again AS
 SELECT id, upid, handle, begin, strong, weak FROM raw_generation
 WHERE strong + weak > 0 AND (acquired > 1 OR increfs > 1);
 CREATE INDEX temp.taken_again_of ON taken_again(upid, handle, begin);
-CREATE TEMP TABLE reference_change AS
+CREATE TEMP VIEW held_change AS
+WITH held AS MATERIALIZED (
+  SELECT id, upid, handle, begin FROM raw_generation WHERE strong + weak > 0 AND (acquired > 1 OR increfs > 1))
 SELECT g.id AS generation, r.place, r.seq, r.utid, (r.kind = :BC_ACQUIRE) - (r.kind = :BC_RELEASE) AS strong,
   (r.kind = :BC_INCREFS) - (r.kind = :BC_DECREFS) AS weak
-FROM (SELECT 1 FROM taken_again LIMIT 1) CROSS JOIN raw_record r CROSS JOIN raw_thread t USING (utid)
-  CROSS JOIN taken_again g ON g.upid = t.upid AND g.handle = r.handle AND g.begin <= r.place
+FROM (SELECT 1 FROM held LIMIT 1) CROSS JOIN raw_record r CROSS JOIN raw_thread t USING (utid)
+  CROSS JOIN held g ON g.upid = t.upid AND g.handle = r.handle AND g.begin <= r.place
 WHERE r.kind IN (:BC_INCREFS, :BC_ACQUIRE, :BC_RELEASE, :BC_DECREFS);
+-- beside: loading
+CREATE TEMP TABLE reference_change AS SELECT * FROM held_change;
+-- What each thread brought a generation to at most.
+-- beside: loading
+CREATE TEMP TABLE reference_level AS
+SELECT generation, utid, max(strong) AS strong, max(weak) AS weak
+FROM (SELECT generation, utid, sum(strong) OVER changes AS strong, sum(weak) OVER changes AS weak FROM held_change
+  WINDOW changes AS (PARTITION BY generation ORDER BY place))
+GROUP BY 1, 2;
 CREATE TEMP TABLE most_held AS
-SELECT generation, iif(min(utid) = max(utid), max(strong), max(now_strong) - 1 - count(DISTINCT calls)) AS strong,
-  iif(min(utid) = max(utid), max(weak), max(now_weak) - 1 - count(DISTINCT calls)) AS weak
+SELECT generation, iif(min(utid) = max(utid), max(strong), max(now_strong) - 1 - count(calls)) AS strong,
+  iif(min(utid) = max(utid), max(weak), max(now_weak) - 1 - count(calls)) AS weak
 FROM (SELECT c.generation, g.strong AS now_strong, g.weak AS now_weak, c.utid,
-    iif(c.utid IN (SELECT utid FROM waits), c.utid, NULL) AS calls,
-    sum(c.strong) OVER changes AS strong, sum(c.weak) OVER changes AS weak
-  FROM reference_change c JOIN taken_again g ON g.id = c.generation
-  WINDOW changes AS (PARTITION BY c.generation ORDER BY c.place)) GROUP BY 1;
+    iif(c.utid IN (SELECT utid FROM waits), c.utid, NULL) AS calls, c.strong, c.weak
+  FROM reference_level c JOIN taken_again g ON g.id = c.generation) GROUP BY 1;
 CREATE UNIQUE INDEX temp.most_held_of ON most_held(generation);
 -- Of which references become more to the end: how many there are at the half of what was recorded of the process, and
 -- at the end, if that is more by enough, and the last two quarters have each made it more.

@@ -132,10 +132,11 @@ CREATE INDEX temp.queued_at ON queued(upid);
 -- The threads of such a process that may take calls and had not ended at the last frame: those that said that they are
 -- loopers, those that were seen to take one, and those that serve one from before the capture. How many there may be at
 -- most is not in a capture.
+-- beside: records.sql
 CREATE TEMP TABLE loop AS
 SELECT r.utid, r.kind, max(r.place)
-FROM (SELECT 1 FROM queued LIMIT 1) CROSS JOIN raw_record r JOIN raw_thread t USING (utid)
-WHERE r.kind IN (:BC_ENTER_LOOPER, :BC_REGISTER_LOOPER, :BC_EXIT_LOOPER) AND t.upid IN (SELECT upid FROM queued)
+FROM (SELECT 1 FROM finding WHERE section IN ('calls', 'oneway', 'books') LIMIT 1) CROSS JOIN raw_record r
+WHERE r.kind IN (:BC_ENTER_LOOPER, :BC_REGISTER_LOOPER, :BC_EXIT_LOOPER)
 GROUP BY 1;
 CREATE TEMP TABLE taker AS
 SELECT t.utid, t.upid, t.last_record, 0 AS earlier
