@@ -37,7 +37,7 @@ def run(make: Callable[[Send], None], into: int) -> NoReturn:
 
 
 class Piped:
-    """The lists that `make` sends in a process of its own, or in several. These end with the block. The lists of several
+    """The lists that `make` sends in a process of its own, or in several, which end with the block. Lists of several
     processes come through one pipe, so they must be short: the system writes them whole."""
 
     def __init__(self, make: Callable[[Send], None], processes: int = 1):

@@ -45,7 +45,7 @@ def attach(database: sqlite3.Connection, path: str) -> None:
 
 def find(path: str, given: list[Given], queries: list[tuple[Query, str]], values: Mapping[str, object], due: int,
          send: Send) -> None:
-    """Says by an empty list when it has all that may change. Then it takes one query after another that no other process
+    """Says by an empty list when it has all that may change. Then it takes one query after another that no other one
     has taken, by its number in the pipe `due`, and says when its rows are found."""
     database = open_beside(path)
     for table in given:
