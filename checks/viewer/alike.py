@@ -57,7 +57,7 @@ def judged(room: pathlib.Path, name: str, how: str) -> Rows:
     made = folder / "capture.db"
     all_of_them = mock.patch.object(loading, "judge", judge_all) if how == "all" else mock.patch.object(
         finders, "LEAST_RECORDS", 0 if how == "beside" else 2**63)
-    with all_of_them:
+    with all_of_them, mock.patch.object(loading, "LEAST_PACKED", 0):
         loading.database_of(ROOT, files, side, made, lambda _: None, kept=how != "beside")
     return rows_of(made)
 

@@ -22,6 +22,9 @@ from viewer.scratch import remove
 from viewer.started import Started
 from viewer.timing import Timing
 
+# The least bytes of a capture of which tables are packed: of fewer, the files of these take longer than they save.
+LEAST_PACKED = 2**20
+
 # The programs read a capture side by side if there is so much memory: so many times the capture, and so much besides.
 TIMES, BESIDE = 4, 2**28
 
@@ -78,12 +81,16 @@ def compare_with_books(database: sqlite3.Connection) -> None:
         agreement.compare(database)
 
 
+def bytes_of(files: list[str]) -> int:
+    return sum(os.stat(name).st_size for name in files)
+
+
 def memory_for(files: list[str]) -> bool:
     """Whether there is memory for the two programs that read a capture side by side: each takes a little more than the
     capture has bytes, and of a hostile one more."""
     with open("/proc/meminfo", encoding="utf-8") as lines:
         free = next((1024 * int(line.split()[1]) for line in lines if line.startswith("MemAvailable:")), 0)
-    return free > BESIDE + TIMES * sum(os.stat(name).st_size for name in files)
+    return free > BESIDE + TIMES * bytes_of(files)
 
 
 def wait_for_one(*programs: Started) -> None:
@@ -106,14 +113,14 @@ def load_while_read(loading: Loading, listing: Asked) -> int:
 
 
 def tables_of(root: pathlib.Path, parts: list[pathlib.Path], side: str | None, made: pathlib.Path,
-              packs: bool) -> tuple[str | None, pathlib.Path | None]:
+              packs: bool, is_kept: bool = False) -> tuple[str | None, pathlib.Path | None]:
     """Makes the database, with the raw tables. Returns the line of the capture's first fault, or None, and the file of
     the lines of the side list that are left to load, if it is not the list itself."""
     rows, told = made.with_suffix(".rows"), made.with_suffix(".told")
     words = "--tables", rows, *parts
     if not packs:
         status = answer(root, told, "listing", *words)
-        load_rows(made, rows, side)
+        load_rows(made, rows, side, is_kept)
         return fault_in(status, told), None
     others = made.with_suffix(".others") if side is not None else None
     with load_as_it_comes(made, rows, side, others) as loading, Asked(root, told, "listing", *words) as listing:
@@ -134,7 +141,8 @@ def database_of(root: pathlib.Path, files: list[str], side: str | None, made: pa
         with Asked(root, report, "audit", "report", *parts) as audit:
             if not memory_for(files):
                 audit.status()
-            listed, others = tables_of(root, parts, side, made, not kept and can_pack())
+            packs = not kept and bytes_of(files) >= LEAST_PACKED and can_pack()
+            listed, others = tables_of(root, parts, side, made, packs, kept)
             malformed = fault_in(audit.status(), report)
         if listed != malformed:
             raise Stopped(1, f"{called('listing')} and {called('audit')} do not agree: {listed!r} and {malformed!r}")

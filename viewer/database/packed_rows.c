@@ -93,7 +93,7 @@ static void note_stretch(struct packed_file *file, size_t at)
 
 /* ---- numbers and rows */
 
-static const unsigned char *take_number(const unsigned char *at, const unsigned char *end, uint64_t *number)
+static const unsigned char *take_long(const unsigned char *at, const unsigned char *end, uint64_t *number)
 {
 	*number = 0;
 	for (unsigned shift = 0; at < end && shift < 64; shift += 7) {
@@ -104,7 +104,18 @@ static const unsigned char *take_number(const unsigned char *at, const unsigned 
 	return NULL;
 }
 
-static const unsigned char *take_signed(const unsigned char *at, const unsigned char *end, int64_t *number)
+/* Most numbers are small. */
+static inline const unsigned char *take_number(const unsigned char *at, const unsigned char *end, uint64_t *number)
+{
+	if (end - at >= 2 && !(at[0] & at[1] & 0x80)) {
+		int is_short = !(at[0] & 0x80);
+		*number = is_short ? at[0] : (uint64_t)(at[0] & 0x7f) | (uint64_t)at[1] << 7;
+		return at + 2 - is_short;
+	}
+	return take_long(at, end, number);
+}
+
+static inline const unsigned char *take_signed(const unsigned char *at, const unsigned char *end, int64_t *number)
 {
 	uint64_t packed;
 	at = take_number(at, end, &packed);

@@ -1,7 +1,6 @@
 """The raw tables: from the rows of `./listing --tables` into a new database, by a loader in C. Without a database to
 keep, the longest tables are packed: they stay rows in files, in which SQLite finds them."""
 
-import ctypes
 import functools
 import os
 import pathlib
@@ -139,6 +138,7 @@ STREAMED = tuple(name.removeprefix("raw_") for name in PACKED_TABLES if name.sta
 def can_pack() -> bool:
     """Whether the SQLite of this Python reads packed tables. From now on it does so in each database that it opens;
     but not if it is built into Python itself."""
+    import ctypes
     try:
         ctypes.CDLL(str(loader().with_name("packed.so"))).packed_module_add_to_all()
     except (OSError, AttributeError):
@@ -168,10 +168,10 @@ class Loading:
 
     @staticmethod
     def words(database: pathlib.Path, rows: pathlib.Path, side: str | None, others: pathlib.Path | None,
-              packs: bool) -> list[Word]:
-        """What the loader is called with: for the `.rows` files of a folder, and a side list. If the database is not
-        kept, tables are packed, and `others` gets the lines of the list that are not loaded."""
-        schema_file = kept(MADE_FILE, (FOLDER,), write_made) if packs else kept(SCHEMA_FILE, (FOLDER,), write_schema)
+              packs: bool, is_kept: bool = False) -> list[Word]:
+        """What the loader is called with: for the `.rows` files of a folder, and a side list. If tables are packed,
+        `others` gets the lines of the list that are not loaded."""
+        schema_file = kept(SCHEMA_FILE, (FOLDER,), write_schema) if is_kept else kept(MADE_FILE, (FOLDER,), write_made)
         packed = [word for table in PACKED_TABLES for word in packed_words(table)] if packs else []
         return [loader(), *packed, database, rows, schema_file, *(it for it in (side, others) if it is not None)]
 
@@ -206,9 +206,9 @@ class Loading:
             raise Stopped(4, said_by(self.name, status, told).removeprefix("load: "))
 
 
-def load_rows(database: pathlib.Path, rows: pathlib.Path, side: str | None) -> None:
+def load_rows(database: pathlib.Path, rows: pathlib.Path, side: str | None, is_kept: bool = True) -> None:
     """Makes a new database from the `.rows` files of a folder, with the times of frames in a side list."""
-    with Loading(Loading.words(database, rows, side, None, False), rows) as loading:
+    with Loading(Loading.words(database, rows, side, None, False, is_kept), rows) as loading:
         loading.end()
 
 
