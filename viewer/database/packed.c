@@ -425,11 +425,15 @@ static int is_of_filter(const struct sqlite3_index_constraint *compared)
 	return compared->usable && compared->iColumn > 0 && compared->op == SQLITE_INDEX_CONSTRAINT_EQ;
 }
 
-/* The number of a comparison of a column that has an index; -1 if there is none. */
-static int indexed_of(struct table *table, const sqlite3_index_info *asked)
+/*
+ * The number of a comparison of a column that has an index; -1 if there is none. One with several values is none: the
+ * rows would come in the order of values.
+ */
+static int indexed_of(struct table *table, sqlite3_index_info *asked)
 {
 	for (int number = 0; number < asked->nConstraint; number++)
-		if (is_of_filter(&asked->aConstraint[number]) && index_of(table, asked->aConstraint[number].iColumn))
+		if (is_of_filter(&asked->aConstraint[number]) && index_of(table, asked->aConstraint[number].iColumn)
+		    && !sqlite3_vtab_in(asked, number, -1))
 			return number;
 	return -1;
 }

@@ -40,8 +40,9 @@ ASKED = ("SELECT * FROM {table}", "SELECT * FROM {table} WHERE {key} = {middle}"
          "SELECT a.{key}, b.{key} FROM {table} a JOIN {table} b ON b.{other} = a.{other} WHERE a.{key} = {middle}")
 
 # By which other column: one that only some rows have, if there is one.
-OTHER = {"raw_record": ("handle", "kind"), "raw_frame": ("direction",), "raw_delivery": ("call", "utid"),
-         "side_time": ("ts",)}
+OTHER = {"raw_record": ("handle", "kind"), "raw_frame": ("direction", "utid"), "raw_delivery": ("call", "utid"),
+         "raw_send": ("generation", "refused", "delivery"), "raw_call": ("utid", "closer"),
+         "raw_object": ("binder", "sort"), "side_time": ("ts",)}
 
 
 def both_of(folder: pathlib.Path, room: pathlib.Path, capture: pathlib.Path, side: pathlib.Path | None) \
@@ -75,7 +76,7 @@ def check_packed(folder: pathlib.Path, room: pathlib.Path, fail: Fail) -> None:
                 same = packed.execute(asked).fetchall() == real.execute(asked).fetchall()
                 compare(f"{scenario}: {asked}", same, True, fail)
         is_packed, = packed.execute("SELECT count(*) FROM sqlite_schema WHERE sql GLOB '* USING packed(*'").fetchone()
-        ordered = 3 if side is None or side == odd else 4
+        ordered = len(raw_tables.PACKED_TABLES) - (side is None or side == odd)
         compare(f"{scenario}: how many tables are packed", is_packed, ordered, fail)
         for table in "side_call", "side_process", "side_thread", "side_missed", "book":
             asked = f"SELECT * FROM {table} ORDER BY 1, 2"
