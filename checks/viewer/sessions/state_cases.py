@@ -5,7 +5,7 @@ from checks.kit.captures import (BC_ACQUIRE, BC_ACQUIRE_DONE, BC_CLEAR_DEATH_NOT
                                  BR_CLEAR_DEATH_NOTIFICATION_DONE, BR_DEAD_BINDER, BR_FAILED_REPLY, BR_RELEASE, ENTER,
                                  each, each_long, node, of_handle, offsets, record, watch)
 from checks.viewer.sessions.cases import case
-from checks.viewer.sessions.session import ONE_WAY, UPDATE_TXN
+from checks.viewer.sessions.session import DONE, ONE_WAY, UPDATE_TXN
 
 
 # ---- handles and nodes
@@ -370,6 +370,21 @@ def bad_object(s, sent):
     else:
         address = service.main.gets(client.main.sends(0, 1, body=body), 0, body, listed)
         client.main.answered(service.main.replies(address))
+
+
+@case("O1:1 E6:1 U6:1", "a reply to code 1 ", sent=True)
+@case("O2:1", "a reply ()", sent=False)
+def bad_object_in_reply(s, sent):
+    """An object at an offset that is no multiple of four is replied, and the caller gets an error; or is read."""
+    service, client = s.two()
+    client.main.asks(service.main)
+    address = service.main.gets(client.main.sends(0, 1))
+    body, listed = bytes(32), offsets(2)
+    if sent:
+        service.main.replies(None, body, listed)
+        client.main.reads(DONE, record(BR_FAILED_REPLY))
+    else:
+        client.main.answered(service.main.replies(address, body), body, listed)
 
 
 @case("O3:2")
