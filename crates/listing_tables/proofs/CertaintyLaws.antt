@@ -252,7 +252,7 @@ module _ (evidence : Evidence) (sought : Sought) where
 module _ (evidence : Evidence) (sought : Sought) (fitting : Fitting)
     (has_all : HasAll evidence.seen.now sought.upid.index sought.node sought.message.place sought.message.gaps)
     (looks : LooksAtAll evidence sought fitting) (whole : fitting.is_whole ≡ true) where
-  is_fit : (fit : Fit) → IsIn fitting.list.items fit → IsFitOf evidence sought fit
+  pub is_fit : (fit : Fit) → IsIn fitting.list.items fit → IsFitOf evidence sought fit
   is_fit fit h =
       let found = looks.looks.fits fit h in
       (found.0, subst (λ (l : List Look). IsIn l found.0) (looks.all whole) found.1, found.2)
@@ -292,3 +292,8 @@ module _ (evidence : Evidence) (sought : Sought) (fitting : Fitting)
         (λ (has : HasFit fitting index). inr (has.0, is_fit has.0 has.1, has.2, one.1 has.0 has.1))
         (against_or_fit list index may);
   }
+
+  pub is_of_handle : (one : AreOfOneGeneration fitting) (fit : Fit) → IsIn fitting.list.items fit
+      → fit.sent.generation ≡ (are_of_one_handle one).generation
+  unfolding are_of_one_handle
+  is_of_handle one fit h = one.1 fit h

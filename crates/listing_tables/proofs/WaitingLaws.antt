@@ -75,6 +75,39 @@ pub was_there : (old new : BTreeSet Entry) (k : Entry) → Updates entry_cmp old
     → (q : Entry) → IsTrue (contains entry_cmp new q) → IsTrue (contains entry_cmp old q)
 was_there old new k u q h = was (contains entry_cmp old q) (contains entry_cmp new q) _ (u.0 q) h
 
+pub none_waits : (a b : Bool) → a ≡ false → b ≡ false → (a || b) ≡ false
+none_waits a b e f = rw (e, f) refl
+
+either_less : (a b c d : Bool) → (IsTrue a → IsTrue b) → (IsTrue c → IsTrue d) → IsTrue (a || c) → IsTrue (b || d)
+either_less true b c d f g h = or_true b d (f h)
+  where
+    or_true : (b d : Bool) → IsTrue b → IsTrue (b || d)
+    or_true true d t = refl
+    or_true false d t = absurd (false_is t)
+      where
+        false_is : false ≡ true → ⊥
+        false_is e = cc
+either_less false b c d f g h = other_true b d (g h)
+  where
+    other_true : (b d : Bool) → IsTrue d → IsTrue (b || d)
+    other_true true d t = refl
+    other_true false d t = t
+
+pub fewer_wait : (old new other less : BTreeSet Entry) (k : Entry) → Updates entry_cmp old new k false → Updates entry_cmp other less k false
+    → (q : Entry) → IsTrue (contains entry_cmp new q || contains entry_cmp less q)
+    → IsTrue (contains entry_cmp old q || contains entry_cmp other q)
+fewer_wait old new other less k u v q h =
+    either_less (contains entry_cmp new q) (contains entry_cmp old q) (contains entry_cmp less q) (contains entry_cmp other q)
+    (was_there old new k u q) (was_there other less k v q) h
+
+-- what did not wait before does not wait after
+pub still_gone : (a b : Bool) → (IsTrue a → IsTrue b) → b ≡ false → a ≡ false
+still_gone true b f e = absurd (both (f refl) e)
+  where
+    both : {b : Bool} → b ≡ true → b ≡ false → ⊥
+    both t e = cc
+still_gone false b f e = refl
+
 -- after those in doubt of a key are forgotten, once all of them came
 pub leave_doubt : (old mid new : Waiting) (key : ℕ) → mid.untaken ≡ old.untaken → mid.guessed ≡ old.guessed
     → ((send : Entry) → IsTrue (in_doubt mid send) → IsTrue (in_doubt old send))

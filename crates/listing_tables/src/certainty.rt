@@ -6,6 +6,7 @@ ghost use Rattle.std.specs.Bool.{OnTrue, OnFalse};
 ghost use Rattle.listing_tables.specs.Certainty.{IsElsewhere, IsFit, IsJustified};
 ghost use Rattle.listing_tables.specs.Certainty.{IsOtherCall, IsRefused, IsRepliedBy, IsUnmarked};
 ghost use Rattle.listing_tables.specs.Certainty.{LieBadly, LooksAtAll, LooksAtOne, SpeaksAgainst};
+ghost use Rattle.listing_tables.specs.OneHandle.{LeavesFits};
 ghost use Rattle.listing_tables.specs.declared.calls.Closer.{Closer};
 
 use crate::calls::{Call, Closer};
@@ -104,7 +105,8 @@ impl Evidence<'_> {
         fitting: &mut Fitting,
         sought: &Sought,
     ) -> Result<Certainty, ListingError>
-        ensures { IfOk result (λ certainty. IsJustified self.now sought.now certainty) }
+        ensures justified { IfOk result (λ certainty. IsJustified self.now sought.now certainty) }
+        ensures left { IfOk result (LeavesFits self.now sought.now fitting.new) }
     {
         let message = sought.message;
         let all_there = self
@@ -298,7 +300,8 @@ fn is_unmarked(marks: &Numbered<Mark>, index: u32) -> Result<bool, ListingError>
 }
 
 pub(crate) fn is_refused(sent: &Sent) -> bool
-    ensures { OnFalse result (IsRefused sent.now → ⊥) }
+    ensures refused { OnTrue result (IsRefused sent.now) }
+    ensures other { OnFalse result (IsRefused sent.now → ⊥) }
 {
     matches!(sent.settled, Settled::Refused(_))
 }

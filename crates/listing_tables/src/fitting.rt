@@ -5,6 +5,7 @@ ghost use Rattle.std.specs.Bool.{OnTrue};
 ghost use Rattle.listing_tables.specs.Certainty.{Adds, AreOfOneGeneration, ComesAfter, IsIn};
 ghost use Rattle.listing_tables.specs.Certainty.{IsOnlyFit, IsOutOfQuestion};
 ghost use Rattle.listing_tables.specs.Learning.{IsFree};
+ghost use Rattle.listing_tables.specs.OneHandle.{IsFirstFresh, IsFirstOf};
 ghost use Rattle.listing_tables.specs.declared.fitting.Fit.{Fit};
 
 use crate::messages::{Sent, Settled};
@@ -138,20 +139,23 @@ impl Fitting {
     }
 
     /// Of oneway sends of one generation leaves those that may be the next of them to come.
-    pub(crate) fn keep_next(&mut self) {
-        if let Some(first) = self.first_fresh() {
-            self.list.retain(|fit| !is_after(fit, &first));
-        }
+    pub(crate) fn keep_next(&mut self)
+        ensures kept { (fit : Fit) → IsIn self.new.list.items fit → IsIn self.old.list.items fit }
+        ensures same { self.new ≡ record self.old { list = self.new.list } }
+    {
+        let Some(first) = self.first_fresh() else {
+            return;
+        };
+        self.list.retain(|fit| !is_after(fit, &first));
     }
 
+    /// The first one, in the order in which they are sent, that has certainly not come before.
     fn first_fresh(&self) -> Option<Fit>
-        ensures { IfSome result (IsIn self.now.list.items) }
+        ensures { IsFirstFresh self.now.list.items result }
     {
         let mut first: Option<Fit> = None;
         for fit in &self.list {
-            if fit.fresh && first.is_none_or(|it| fit.listed.index < it.listed.index) {
-                first = Some(*fit);
-            }
+            first = first_of(first, *fit);
         }
         first
     }
@@ -176,6 +180,19 @@ impl Fitting {
     /// How many they are: no more than were looked at.
     pub(crate) fn count(&self) -> Result<u32, ListingError> {
         narrow(self.list.len() as u64)
+    }
+}
+
+/// The first one of those that have certainly not come before: the first one so far, or this one.
+fn first_of(first: Option<Fit>, fit: Fit) -> Option<Fit>
+    ensures { IsFirstOf first fit result }
+{
+    if !fit.fresh {
+        return first;
+    }
+    match first {
+        Some(it) if it.listed.index <= fit.listed.index => first,
+        _ => Some(fit),
     }
 }
 

@@ -33,6 +33,8 @@ pub(crate) enum Effect {
 }
 
 impl Effect {
+    ghost use Rattle.listing_tables.specs.Naming.{gives};
+
     /// What a record of this kind does.
     pub(crate) fn of(kind: Kind) -> Effect
         ensures { taken_by result ≡ handle_effect kind }
@@ -47,7 +49,9 @@ impl Effect {
     }
 
     /// Whether it gives the process a reference.
-    fn gives(self) -> bool {
+    fn gives(self) -> bool
+        ensures { result ≡ gives self }
+    {
         matches!(
             self,
             Effect::Takes(_, HandleChange::Raise) | Effect::Holds(_)
@@ -270,7 +274,11 @@ pub(crate) struct Generations {
 }
 
 impl Generations {
-    pub(crate) fn new(alloc: Global) -> Generations {
+    ghost use Rattle.listing_tables.specs.Naming.{Begins, FindsNamed, LetsGo, NamesOne};
+
+    pub(crate) fn new(alloc: Global) -> Generations
+        ensures { result.list.all.items ≡ [] }
+    {
         Generations {
             list: Numbered::new(alloc),
             latest: IndexMap::new(alloc),
@@ -285,22 +293,40 @@ impl Generations {
         handle: u32,
         effect: Effect,
         place: u32,
-    ) -> Result<(u32, u32, u32), ListingError> {
-        let index = match self.latest.get(&(upid, handle)).copied() {
-            None => self.begin(upid, handle, 1, place)?,
-            Some(index) => {
-                let latest = self.list.at(index)?;
-                if latest.end.is_some() && effect.gives() {
-                    self.begin(upid, handle, one_more(latest.number)?, place)?
-                } else {
-                    index
-                }
-            }
-        };
-        let generation = self.list.at_mut(index)?;
-        let before = generation.strong.left;
+    ) -> Result<(u32, u32, u32), ListingError>
+        ensures { IfOk result (NamesOne self.old upid handle effect place self.new) }
+    {
+        let index = self.named(upid, handle, effect, place)?;
+        let before = self.list.at(index)?;
+        let mut generation = before;
         generation.apply(effect, place)?;
-        Ok((index, before, generation.strong.left))
+        self.list.set(index, generation)?;
+        Ok((index, before.strong.left, generation.strong.left))
+    }
+
+    /// The index of the generation that a record names: the latest one of the handle, or one that
+    /// begins with the record.
+    fn named(
+        &mut self,
+        upid: Upid,
+        handle: u32,
+        effect: Effect,
+        place: u32,
+    ) -> Result<u32, ListingError>
+        ensures { IfOk result (FindsNamed self.old upid handle effect place self.new) }
+    {
+        let Some(index) = self.latest.get(&(upid, handle)).copied() else {
+            return self.begin(upid, handle, 1, place);
+        };
+        let latest = self.list.at(index)?;
+        if latest.end.is_none() {
+            return Ok(index);
+        }
+        if !effect.gives() {
+            return Ok(index);
+        }
+        let number = one_more(latest.number)?;
+        self.begin(upid, handle, number, place)
     }
 
     /// Begins the generation of a handle that has this number there, and returns the index.
@@ -310,17 +336,24 @@ impl Generations {
         handle: u32,
         number: u32,
         place: u32,
-    ) -> Result<u32, ListingError> {
+    ) -> Result<u32, ListingError>
+        ensures { IfOk result (Begins self.old upid handle number place self.new) }
+    {
         let generation = Generation::new(upid, handle, number, place);
-        let index = self.list.push(generation)?;
+        let index = self.list.next()?;
+        self.list.push(generation)?;
         self.latest.insert((upid, handle), index)?;
         Ok(index)
     }
 
     /// Takes back a reference that a delivery held.
-    pub(crate) fn let_go(&mut self, reference: Reference, place: u32) -> Outcome {
-        let generation = self.list.at_mut(reference.generation)?;
-        generation.let_go(reference.strength, place)
+    pub(crate) fn let_go(&mut self, reference: Reference, place: u32) -> Outcome
+        ensures { OnOk result (LetsGo self.old self.new reference place) }
+    {
+        let before = self.list.at(reference.generation)?;
+        let mut generation = before;
+        generation.let_go(reference.strength, place)?;
+        self.list.set(reference.generation, generation)
     }
 
     /// Writes the rows of the table generation.

@@ -1,9 +1,11 @@
 //! Which node each generation means.
 
-ghost use Rattle.std.specs.Prelude.{◌≡◌, IfOk, IfSome};
+ghost use Rattle.std.specs.Prelude.{◌≡◌, ◌⊎◌, IfOk, IfSome, OnOk};
 ghost use Rattle.std.specs.Bool.{OnTrue};
 ghost use Rattle.listing_tables.specs.Certainty.{BeginsBefore, HasOtherHandle, MeansNode};
 ghost use Rattle.listing_tables.specs.Learning.{IsPastGap, MeansFirst, known_of_two};
+ghost use Rattle.listing_tables.specs.Meanings.{LearnsKnown, MakesKnown};
+ghost use Rattle.listing_tables.specs.declared.meanings.Known.TheVariants.{One};
 
 use crate::generations::Generations;
 use crate::numbered::Numbered;
@@ -89,7 +91,9 @@ impl Meanings {
 
     /// Notes that a generation means a node after so many gaps, for the next walk.
     pub(crate) fn learn(&mut self, generation: u32, gaps: u32, node: u32) -> Outcome
-        ensures { IsPastGap self.old generation gaps → self.new ≡ self.old }
+        ensures past { IsPastGap self.old generation gaps → self.new ≡ self.old }
+        ensures learnt { OnOk result (IsPastGap self.old generation gaps
+            ⊎ LearnsKnown self.old.list.all.items self.new.list.all.items generation (One node)) }
     {
         if self.list.at(generation)?.gaps != gaps {
             return Ok(());
@@ -108,10 +112,13 @@ impl Meanings {
         Ok(())
     }
 
-    fn join(&mut self, generation: u32, other: Known) -> Outcome {
-        let meaning = self.list.at_mut(generation)?;
-        meaning.learnt = joined(meaning.learnt, other);
-        Ok(())
+    fn join(&mut self, generation: u32, other: Known) -> Outcome
+        ensures { OnOk result (LearnsKnown self.old.list.all.items self.new.list.all.items
+            generation other) }
+    {
+        let meaning = self.list.at(generation)?;
+        let learnt = joined(meaning.learnt, other);
+        self.list.set(generation, Meaning { learnt, ..meaning })
     }
 
     /// Makes known what was learnt. Returns whether that is more than before.
@@ -139,13 +146,17 @@ impl Meanings {
         Ok(())
     }
 
-    fn settle_one(&mut self, index: u32, generations: &Generations) -> Result<bool, ListingError> {
-        let meaning = self.list.at_mut(index)?;
-        if meaning.known == meaning.learnt {
+    /// Makes known what was learnt of a generation. Returns whether that is something else.
+    fn settle_one(&mut self, index: u32, generations: &Generations) -> Result<bool, ListingError>
+        ensures { OnOk result (MakesKnown self.old.list.all.items self.new.list.all.items index) }
+    {
+        let meaning = self.list.at(index)?;
+        let known = meaning.learnt;
+        self.list.set(index, Meaning { known, ..meaning })?;
+        if meaning.known == known {
             return Ok(false);
         }
-        meaning.known = meaning.learnt;
-        if let Known::One(node) = meaning.known {
+        if let Known::One(node) = known {
             let upid = generations.list.at(index)?.upid;
             self.held.insert((upid.index, node, index))?;
         }

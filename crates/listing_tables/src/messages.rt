@@ -1,18 +1,20 @@
 //! What threads send and get: the records that open and close calls, and what became of them.
 
 ghost use Rattle.std.specs.Prelude.{◌≡◌, option_map, IfOk, OnOk};
-ghost use Rattle.std.specs.Bool.{OnFalse};
+ghost use Rattle.std.specs.Bool.{OnFalse, OnTrue};
 ghost use Rattle.listing_tables.specs.Columns.{AddsRows, WritesRows, number_at};
 ghost use Rattle.listing_tables.specs.Messages.{IsCallRow, call_columns, closed_after, confirmed_by, delivery_columns, delivery_row, delivery_rows};
 ghost use Rattle.listing_tables.specs.Messages.{freed_after, if_known, is_answer, place_for, place_of_message, refused_by, send_columns};
 ghost use Rattle.listing_tables.specs.Messages.{send_row, send_rows};
 ghost use Rattle.listing_tables.specs.Numbered.{thing_at};
+ghost use Rattle.listing_tables.specs.Changes.{Changes, Couples, IsSendAt, Rates};
+ghost use Rattle.listing_tables.specs.Changes.{sent_as, settled_as, with_detail, with_partner};
 ghost use Rattle.listing_tables.specs.Certainty.{AreAlike};
 
 use crate::buffers::{Buffer, Buffers};
 use crate::calls::{Call, Closer, verdict_number};
 use crate::handed::Node;
-use crate::numbered::{Numbered, difference, narrow};
+use crate::numbered::{Numbered, byte_of, difference, narrow};
 use crate::rows::{Column, RowWriter, columns};
 use crate::spans::{Upid, Utid};
 use binder_code::Kind;
@@ -133,32 +135,43 @@ impl Messages {
     }
 
     /// The send at this index.
-    pub(crate) fn sent(&self, index: u32) -> Result<Sent, ListingError> {
-        match self.list.at(index)?.detail {
+    pub(crate) fn sent(&self, index: u32) -> Result<Sent, ListingError>
+        ensures { IfOk result (IsSendAt self.now.list.all.items index) }
+    {
+        let message = self.list.at(index)?;
+        match message.detail {
             Detail::Sent(sent) => Ok(sent),
             _ => Err(ListingError::TooLarge),
         }
     }
 
-    fn set(&mut self, index: u32, sent: Sent) -> Outcome {
-        self.list.at_mut(index)?.detail = Detail::Sent(sent);
-        Ok(())
+    fn set(&mut self, index: u32, sent: Sent) -> Outcome
+        ensures { OnOk result (Changes self.old.list.all.items self.new.list.all.items index
+            (with_detail (sent_as sent))) }
+    {
+        let message = self.list.at(index)?;
+        let detail = Detail::Sent(sent);
+        self.list.set(index, Message { detail, ..message })
     }
 
     /// Notes what the driver said to a send.
-    pub(crate) fn settle(&mut self, index: u32, settled: Settled) -> Outcome {
+    pub(crate) fn settle(&mut self, index: u32, settled: Settled) -> Outcome
+        ensures { OnOk result (Changes self.old.list.all.items self.new.list.all.items index
+            (with_detail (settled_as settled))) }
+    {
         let sent = self.sent(index)?;
         self.set(index, Sent { settled, ..sent })
     }
 
     /// Notes how many sends fit the delivery of a send, and whether this one is certain.
-    pub(crate) fn rate(&mut self, index: u32, fits: u32, certain: bool) -> Outcome {
+    pub(crate) fn rate(&mut self, index: u32, fits: u32, certain: bool) -> Outcome
+        ensures { OnOk result (
+            Rates self.old.list.all.items self.new.list.all.items index fits certain) }
+    {
         let sent = self.sent(index)?;
-        let Ok(fits) = u8::try_from(fits) else {
-            return Err(ListingError::TooLarge);
-        };
+        let count = byte_of(fits)?;
         let rated = Sent {
-            fits,
+            fits: count,
             certain,
             ..sent
         };
@@ -166,15 +179,27 @@ impl Messages {
     }
 
     /// Makes a send and a delivery partners.
-    pub(crate) fn couple(&mut self, send: u32, delivery: u32) -> Outcome {
-        self.list.at_mut(send)?.partner = Some(delivery);
-        self.list.at_mut(delivery)?.partner = Some(send);
-        Ok(())
+    pub(crate) fn couple(&mut self, send: u32, delivery: u32) -> Outcome
+        ensures { OnOk result (
+            Couples self.old.list.all.items self.new.list.all.items send delivery) }
+    {
+        self.set_partner(send, delivery)?;
+        self.set_partner(delivery, send)
+    }
+
+    fn set_partner(&mut self, index: u32, partner: u32) -> Outcome
+        ensures { OnOk result (Changes self.old.list.all.items self.new.list.all.items index
+            (with_partner partner)) }
+    {
+        let message = self.list.at(index)?;
+        let partner = Some(partner);
+        self.list.set(index, Message { partner, ..message })
     }
 
     /// Whether two messages have the same key.
     pub(crate) fn are_alike(&self, one: Closer, other: Closer) -> Result<bool, ListingError>
-        ensures { IfOk result (λ alike. OnFalse alike (AreAlike self.now one other → ⊥)) }
+        ensures alike { IfOk result (λ alike. OnTrue alike (AreAlike self.now one other)) }
+        ensures other { IfOk result (λ alike. OnFalse alike (AreAlike self.now one other → ⊥)) }
     {
         let first = self.list.at(one.message)?;
         let second = self.list.at(other.message)?;

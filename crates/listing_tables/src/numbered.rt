@@ -1,11 +1,11 @@
 //! Things that are known by their index. A capture has millions of them, so an index takes four
 //! bytes, as the place of a record does.
 
-ghost use Rattle.std.specs.Prelude.{◌≡◌, ◌+◌, ◌++◌, ◌∷◌, [], length, slice_get, Some};
+ghost use Rattle.std.specs.Prelude.{◌≡◌, ◌+◌, ◌++◌, ◌∷◌, [], length, slice_get, slice_set, Some};
 ghost use Rattle.std.specs.Prelude.{IfOk, IfSome, OnOk};
 ghost use Rattle.listing_tables.specs.Numbered.{IsAt, thing_at};
 
-use listing_fields::ListingError;
+use listing_fields::{ListingError, Outcome};
 use std::alloc::Global;
 
 /// Things, each with its index.
@@ -61,6 +61,18 @@ impl<T: Copy + Drop> Numbered<T> {
             .ok_or(ListingError::TooLarge)
     }
 
+    /// Puts a thing in the place of the one at this index, as `at` has it.
+    pub(crate) fn set(&mut self, index: u32, thing: T) -> Outcome
+        ensures { OnOk result (self.new.all.items ≡ slice_set self.old.all.items index thing) }
+    {
+        let at = index as usize;
+        if at >= self.all.len() {
+            return Err(ListingError::TooLarge);
+        }
+        self.all[at] = thing;
+        Ok(())
+    }
+
     /// The thing at this index, if it is known of an index at all.
     pub(crate) fn find(&self, index: Option<u32>) -> Result<Option<T>, ListingError>
         ensures known { IfOk result (λ found. IfSome found (IsAt self.now.all.items index)) }
@@ -80,6 +92,17 @@ pub(crate) fn narrow(number: u64) -> Result<u32, ListingError>
 {
     match u32::try_from(number) {
         Ok(narrow) => Ok(narrow),
+        Err(_) => Err(ListingError::TooLarge),
+    }
+}
+
+/// A count in one byte, of things of which at most 64 are looked at; one that did not fit would be
+/// `TooLarge`.
+pub(crate) fn byte_of(count: u32) -> Result<u8, ListingError>
+    ensures { IfOk result (λ byte. byte ≡ count) }
+{
+    match u8::try_from(count) {
+        Ok(byte) => Ok(byte),
         Err(_) => Err(ListingError::TooLarge),
     }
 }

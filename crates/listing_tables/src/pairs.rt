@@ -1,14 +1,18 @@
 //! Pairs each delivery with the send that it came from. viewer/database/schema.sql says how.
 
-ghost use Rattle.std.specs.Prelude.{◌≡◌, IfOk};
+ghost use Rattle.std.specs.Prelude.{◌≡◌, ◌≢◌, ◌⊎◌, ◌&&◌, ℕ, ◌+◌, if◌then◌else◌, true, false, nat_eq, IfOk, IfSome, OnOk};
+ghost use Rattle.std.specs.Bool.{OnTrue};
 ghost use Rattle.listing_tables.specs.Certainty.{IsListOf};
+ghost use Rattle.listing_tables.specs.Pairing.{MarksAlso, MarksEach};
+ghost use Rattle.listing_tables.specs.Waiting.{AllWait, OthersWait};
+ghost use Rattle.listing_tables.specs.declared.waiting.Waiting.{Waiting};
 
 use crate::buffers::Buffers;
 use crate::calls::{Call, Closer};
 use crate::certainty::{Certainty, Evidence, Mark, Marked, Sought, is_refused, replied_by};
 use crate::fitting::{Fit, Fitting};
 use crate::generations::Generations;
-use crate::handed::{HandedOver, Object, numbered};
+use crate::handed::{Handed, HandedOver, Object, numbered};
 use crate::meanings::Meanings;
 use crate::messages::{Detail, Message, Messages, Sent};
 use crate::numbered::{Numbered, one_more};
@@ -87,6 +91,14 @@ pub(crate) fn pair_all(alloc: Global, traffic: &mut Traffic, calls: &Numbered<Ca
 }
 
 impl Pairing<'_, '_> {
+    ghost use Rattle.indexmap.specs.IndexSet.{contains};
+    ghost use Rattle.listing_tables.specs.Changes.{RatesPair};
+    ghost use Rattle.listing_tables.specs.Pairing.{AddsSend, Claims, ClosesNothing, ClosesSend};
+    ghost use Rattle.listing_tables.specs.Pairing.{GuessesFit, HasEnds, HasNoGap, KeepsGuess};
+    ghost use Rattle.listing_tables.specs.Pairing.{MarksClaimed, MustHaveCome};
+    ghost use Rattle.listing_tables.specs.Pairing.{PairsDelivery, PairsReply, messages_of};
+    ghost use Rattle.listing_tables.specs.Waiting.{entry_of, waits};
+
     fn pair(&mut self) -> Outcome {
         self.meanings
             .begin(self.facts.generations, self.facts.seen)?;
@@ -143,19 +155,33 @@ impl Pairing<'_, '_> {
 
     /// Adds a send to those that wait, unless it is refused. If it is after a gap, the error may be
     /// that of another send.
-    fn add_send(&mut self, index: u32, send: &Message, sent: &Sent) -> Outcome {
+    fn add_send(&mut self, index: u32, send: &Message, sent: &Sent) -> Outcome
+        ensures messages { self.new.messages ≡ self.old.messages }
+        ensures added { OnOk result (AddsSend self.old index send.now sent.now self.new) }
+        ensures kept { OnOk result (AllWait self.old.waiting self.new.waiting) }
+    {
         if is_refused(sent) && send.gaps == 0 {
             return Ok(());
         }
-        self.waiting.add(listed(&self.meanings, index, send, sent)?)
+        let listed = listed(&self.meanings, index, send, sent)?;
+        self.waiting.add(listed)
     }
 
     /// Takes out the send whose call a message closes, if its delivery is not sure.
-    fn close_send(&mut self, message: &Message) -> Outcome {
-        let Some(call) = self.facts.calls.find(message.call)? else {
+    fn close_send(&mut self, message: &Message) -> Outcome
+        ensures messages { self.new.messages ≡ self.old.messages }
+        ensures closed { OnOk result (
+            (ClosesNothing self.old message.now × (self.new.waiting ≡ self.old.waiting))
+            ⊎ ClosesSend self.old message.now self.new) }
+    {
+        let found = self.facts.calls.find(message.call)?;
+        let Some(call) = found else {
             return Ok(());
         };
-        if call.served || call.place == message.place {
+        if call.served {
+            return Ok(());
+        }
+        if call.place == message.place {
             return Ok(());
         }
         let send = self.messages.list.at(call.opener)?;
@@ -163,16 +189,15 @@ impl Pairing<'_, '_> {
             return Ok(());
         }
         let sent = self.messages.sent(call.opener)?;
-        self.waiting
-            .close(listed(&self.meanings, call.opener, &send, &sent)?)
+        let listed = listed(&self.meanings, call.opener, &send, &sent)?;
+        self.waiting.close(listed)
     }
 
-    fn sought(
-        &mut self,
-        index: u32,
-        message: &Message,
-        buffer: u32,
-    ) -> Result<Sought, ListingError> {
+    fn sought(&mut self, index: u32, message: &Message, buffer: u32) -> Result<Sought, ListingError>
+        ensures same { self.new ≡ record self.old { handed = self.new.handed } }
+        ensures index { IfOk result (λ sought. sought.index ≡ index) }
+        ensures message { IfOk result (λ sought. sought.message ≡ message.now) }
+    {
         let buffer = self.facts.buffers.list.at(buffer)?;
         let node = self.messages.node_of(buffer.path)?;
         Ok(Sought {
@@ -184,7 +209,9 @@ impl Pairing<'_, '_> {
         })
     }
 
-    fn pair_delivery(&mut self, sought: &Sought) -> Outcome {
+    fn pair_delivery(&mut self, sought: &Sought) -> Outcome
+        ensures { OnOk result (PairsDelivery self.old sought.now (messages_of self.new)) }
+    {
         let evidence = Evidence {
             messages: self.messages,
             calls: self.facts.calls,
@@ -195,9 +222,7 @@ impl Pairing<'_, '_> {
             marks: &self.marks,
         };
         let certainty = evidence.certainty_of(&mut self.fitting, sought)?;
-        if !self.fitting.is_whole {
-            self.crowded.insert(sought.message.key)?;
-        }
+        self.note_crowded(sought.message.key)?;
         let fits = self.fitting.count()?;
         match certainty {
             Certainty::Sure(fit) => self.take(sought, &fit),
@@ -210,23 +235,39 @@ impl Pairing<'_, '_> {
         }
     }
 
-    /// Takes the only send that a delivery can have come from.
-    fn take(&mut self, sought: &Sought, fit: &Fit) -> Outcome {
-        if !fit.fresh {
-            self.news = true;
+    /// Notes a key of which more sends wait than were looked at.
+    fn note_crowded(&mut self, key: u64) -> Outcome
+        ensures noted { OnOk result (self.old.fitting.is_whole ≡ false →
+            contains nat_eq self.new.crowded key ≡ true) }
+        ensures same { self.new ≡ record self.old { crowded = self.new.crowded } }
+    {
+        if self.fitting.is_whole {
+            return Ok(());
         }
+        self.crowded.insert(key)?;
+        Ok(())
+    }
+
+    /// Takes the only send that a delivery can have come from.
+    fn take(&mut self, sought: &Sought, fit: &Fit) -> Outcome
+        ensures pair { OnOk result (RatesPair (messages_of self.old) (messages_of self.new)
+            fit.now.listed.index sought.now.index 1 true) }
+        ensures gone { OnOk result (waits self.new.waiting (entry_of fit.now.listed) ≡ false) }
+    {
+        self.news |= !fit.fresh;
         self.waiting.take(fit.listed)?;
         self.keep_pair(fit.listed.index, sought)
     }
 
     /// Takes one of several sends of one generation.
-    fn take_one(&mut self, sought: &Sought) -> Outcome {
+    fn take_one(&mut self, sought: &Sought) -> Outcome
+        ensures { OnOk result ((count : ℕ) × GuessesFit (messages_of self.old)
+            (messages_of self.new) self.old.fitting count true) }
+    {
         let Some(fit) = self.fitting.first() else {
             return Err(ListingError::TooLarge);
         };
-        if let Some(generation) = fit.sent.generation {
-            self.meanings.learn(generation, fit.gaps, sought.node)?;
-        }
+        self.learn_target(fit.sent.generation, fit.gaps, sought.node)?;
         let fits = self.fitting.count()?;
         self.guess(sought, fits, true)?;
         self.doubt_all(sought.message.key)
@@ -234,69 +275,95 @@ impl Pairing<'_, '_> {
 
     /// Takes the best send by guess, if there is one that no other delivery has taken. So many
     /// sends fit, and it may be certain that it is one of this generation.
-    fn guess(&mut self, sought: &Sought, fits: u32, certain: bool) -> Outcome {
-        if self.fitting.rank == 0 {
-            self.mark_all(sought.index)?;
-        }
-        if let Some(fit) = self.fitting.best(sought.message.oneway) {
-            let index = fit.listed.index;
-            self.waiting.guess(fit.listed)?;
-            self.messages.rate(index, fits, certain)?;
-            self.marks.at_mut(index)?.guess = Some(sought.index);
-        }
-        Ok(())
+    fn guess(&mut self, sought: &Sought, fits: u32, certain: bool) -> Outcome
+        ensures { OnOk result (GuessesFit (messages_of self.old) (messages_of self.new)
+            self.old.fitting fits certain) }
+    {
+        self.mark_all(sought.index)?;
+        let Some(fit) = self.fitting.best(sought.message.oneway) else {
+            return Ok(());
+        };
+        let index = fit.listed.index;
+        self.waiting.guess(fit.listed)?;
+        let mark = self.marks.at(index)?;
+        let guess = Some(sought.index);
+        self.marks.set(index, Mark { guess, ..mark })?;
+        self.messages.rate(index, fits, certain)
     }
 
-    /// Notes of the sends that fit a delivery that it may be that of each of them.
-    fn mark_all(&mut self, delivery: u32) -> Outcome {
-        for fit in &self.fitting.list {
-            let mark = self.marks.at_mut(fit.listed.index)?;
-            mark.other = mark.other.and(delivery);
+    /// Notes of the sends that fit a delivery that it may be that of each of them, unless something
+    /// speaks against them all.
+    fn mark_all(&mut self, delivery: u32) -> Outcome
+        ensures same { self.new ≡ record self.old { marks = self.new.marks } }
+        ensures marks { OnOk result (self.old.fitting.rank ≡ 0 →
+            MarksEach self.old.marks.all.items self.new.marks.all.items
+            self.old.fitting.list.items delivery) }
+        ensures none { self.old.fitting.rank ≢ 0 → self.new ≡ self.old }
+    {
+        if self.fitting.rank != 0 {
+            return Ok(());
         }
-        Ok(())
+        mark_each(&mut self.marks, self.fitting.list.as_slice(), delivery)
     }
 
     /// Puts the sends that fit a delivery among those in doubt, of which one came.
-    fn doubt_all(&mut self, key: u64) -> Outcome {
-        for fit in &self.fitting.list {
-            self.waiting.doubt(fit.listed)?;
-        }
+    fn doubt_all(&mut self, key: u64) -> Outcome
+        ensures same { self.new ≡ record self.old { waiting = self.new.waiting } }
+        ensures waiting { OnOk result ((between : Waiting) × AllWait self.old.waiting between
+            × OthersWait between self.new.waiting) }
+    {
+        doubt_each(&mut self.waiting, self.fitting.list.as_slice())?;
         self.waiting.came(key)
     }
 
     /// Keeps a pair of which no other send can have been meant, and what follows from it.
-    fn keep_pair(&mut self, index: u32, sought: &Sought) -> Outcome {
+    fn keep_pair(&mut self, index: u32, sought: &Sought) -> Outcome
+        ensures pair { OnOk result (RatesPair (messages_of self.old) (messages_of self.new) index
+            sought.now.index 1 true) }
+        ensures waiting { self.new.waiting ≡ self.old.waiting }
+    {
         let sent = self.messages.sent(index)?;
-        if let Some(generation) = sent.generation {
-            let gaps = self.messages.list.at(index)?.gaps;
-            self.meanings.learn(generation, gaps, sought.node)?;
-        }
+        let gaps = self.messages.list.at(index)?.gaps;
+        self.learn_target(sent.generation, gaps, sought.node)?;
         self.messages.rate(index, 1, true)?;
         self.messages.couple(index, sought.index)?;
         self.learn_objects(index, sought.index)?;
-        if let Some(ends) = self.ends_of(sought.index)?
-            && self.is_whole(&ends)?
-        {
-            self.learn_objects(ends.replied, ends.answered.message)?;
+        self.learn_answer(sought.index)
+    }
+
+    /// Notes that the target of a send after so many gaps means a node, if it is that of a handle.
+    fn learn_target(&mut self, generation: Option<u32>, gaps: u32, node: u32) -> Outcome
+        ensures { self.new ≡ record self.old { meanings = self.new.meanings } }
+    {
+        match generation {
+            Some(generation) => self.meanings.learn(generation, gaps, node),
+            None => Ok(()),
         }
-        Ok(())
+    }
+
+    /// Notes what is known of the objects that the answer to a call delivers, if no frame is missing
+    /// up to it.
+    fn learn_answer(&mut self, delivery: u32) -> Outcome
+        ensures { self.new ≡ record self.old { meanings = self.new.meanings } }
+    {
+        let Some(ends) = self.ends_of(delivery)? else {
+            return Ok(());
+        };
+        if !self.is_whole(&ends)? {
+            return Ok(());
+        }
+        self.learn_objects(ends.replied, ends.answered.message)
     }
 
     /// Notes what is known of the objects that one message hands over and another one delivers.
-    fn learn_objects(&mut self, sent: u32, came: u32) -> Outcome {
+    fn learn_objects(&mut self, sent: u32, came: u32) -> Outcome
+        ensures { self.new ≡ record self.old { meanings = self.new.meanings } }
+    {
         let before = self.messages.list.at(sent)?.gaps;
         let after = self.messages.list.at(came)?.gaps;
+        let objects = self.handed.objects_of(sent);
         let others = self.handed.objects_of(came);
-        for one in self.handed.objects_of(sent) {
-            if let Some(other) = numbered(others, one.number) {
-                learn_object(
-                    &mut self.meanings,
-                    (one.object, before),
-                    (other.object, after),
-                )?;
-            }
-        }
-        Ok(())
+        learn_each(&mut self.meanings, (objects, before), (others, after))
     }
 
     /// Takes each call that was answered, and that only one delivery can be of: so that is its own.
@@ -311,23 +378,31 @@ impl Pairing<'_, '_> {
     }
 
     /// Marks the delivery by which a call must have come.
-    fn mark_claimed(&mut self, index: u32) -> Outcome {
-        if let Marked::By(delivery) = self.marks.at(index)?.other
-            && self.must_have_come(index)?
-        {
-            let claimed = self.marks.at_mut(delivery)?;
-            claimed.other = claimed.other.and(index);
+    fn mark_claimed(&mut self, index: u32) -> Outcome
+        ensures messages { self.new.messages ≡ self.old.messages }
+        ensures marks { OnOk result ((self.new.marks ≡ self.old.marks)
+            ⊎ MarksClaimed self.old index self.new.marks.all.items) }
+    {
+        let mark = self.marks.at(index)?;
+        let Marked::By(delivery) = mark.other else {
+            return Ok(());
+        };
+        let must = self.must_have_come(index)?;
+        if !must {
+            return Ok(());
         }
-        Ok(())
+        mark_also(&mut self.marks, delivery, index)
     }
 
     /// Whether a message is a call that was answered, and no frame is missing between the two.
-    fn must_have_come(&self, index: u32) -> Result<bool, ListingError> {
+    fn must_have_come(&self, index: u32) -> Result<bool, ListingError>
+        ensures { IfOk result (λ must. OnTrue must (MustHaveCome self.now index)) }
+    {
         let message = self.messages.list.at(index)?;
-        if !matches!(message.detail, Detail::Sent(_))
-            || message.partner.is_some()
-            || self.crowded.contains(&message.key)
-        {
+        let Detail::Sent(_) = message.detail else {
+            return Ok(false);
+        };
+        if message.partner.is_some() || self.crowded.contains(&message.key) {
             return Ok(false);
         }
         match self.facts.calls.find(message.call)? {
@@ -337,54 +412,72 @@ impl Pairing<'_, '_> {
     }
 
     /// Takes the one call that must have come by a delivery, if there is one.
-    fn claim(&mut self, index: u32) -> Outcome {
+    fn claim(&mut self, index: u32) -> Outcome
+        ensures { OnOk result ((messages_of self.new ≡ messages_of self.old)
+            ⊎ Claims self.old index (messages_of self.new)) }
+    {
         let delivery = self.messages.list.at(index)?;
-        if let Marked::By(send) = self.marks.at(index)?.other
-            && let Detail::Delivered(buffer) = delivery.detail
-            && delivery.partner.is_none()
-        {
-            self.news = true;
-            let sought = self.sought(index, &delivery, buffer)?;
-            self.keep_pair(send, &sought)?;
+        let mark = self.marks.at(index)?;
+        let Marked::By(send) = mark.other else {
+            return Ok(());
+        };
+        let Detail::Delivered(buffer) = delivery.detail else {
+            return Ok(());
+        };
+        if delivery.partner.is_some() {
+            return Ok(());
         }
-        Ok(())
+        self.news = true;
+        let sought = self.sought(index, &delivery, buffer)?;
+        self.keep_pair(send, &sought)
     }
 
     /// Keeps what the last walk guessed.
-    fn keep_guess(&mut self, index: u32) -> Outcome {
-        if let Some(delivery) = self.marks.at(index)?.guess
-            && self.messages.list.at(index)?.partner.is_none()
-            && self.messages.list.at(delivery)?.partner.is_none()
-        {
-            self.messages.couple(index, delivery)?;
+    fn keep_guess(&mut self, index: u32) -> Outcome
+        ensures { OnOk result ((messages_of self.new ≡ messages_of self.old)
+            ⊎ KeepsGuess self.old index (messages_of self.new)) }
+    {
+        let mark = self.marks.at(index)?;
+        let Some(delivery) = mark.guess else {
+            return Ok(());
+        };
+        let send = self.messages.list.at(index)?;
+        let other = self.messages.list.at(delivery)?;
+        if send.partner.is_some() || other.partner.is_some() {
+            return Ok(());
         }
-        Ok(())
+        self.messages.couple(index, delivery)
     }
 
     /// Finds the delivery of the reply to a call whose own delivery is found.
-    fn pair_reply(&mut self, index: u32) -> Outcome {
-        let Some(ends) = self.ends_of(index)? else {
+    fn pair_reply(&mut self, index: u32) -> Outcome
+        ensures { OnOk result ((messages_of self.new ≡ messages_of self.old)
+            ⊎ PairsReply self.old index (messages_of self.new)) }
+    {
+        let found = self.ends_of(index)?;
+        let Some(ends) = found else {
             return Ok(());
         };
         let sent = self.messages.sent(ends.send)?;
-        let fits = u32::from(sent.fits);
-        // With a frame missing, the answer may be that of another call.
-        if self.is_whole(&ends)? {
-            self.messages.rate(ends.replied, fits, sent.certain)?;
-        } else {
-            self.messages.rate(ends.replied, fits + 1, false)?;
-        }
+        let is_whole = self.is_whole(&ends)?;
+        let rate = rate_of_reply(&sent, is_whole);
+        self.messages.rate(ends.replied, rate.0, rate.1)?;
         self.messages.couple(ends.replied, ends.answered.message)
     }
 
     /// Whether no frame is missing from the send of a call to its answer.
-    fn is_whole(&self, ends: &Ends) -> Result<bool, ListingError> {
-        let gaps = self.messages.list.at(ends.send)?.gaps;
-        Ok(self.facts.seen.gaps_before(ends.answered.place)? == gaps)
+    fn is_whole(&self, ends: &Ends) -> Result<bool, ListingError>
+        ensures { IfOk result (λ whole. OnTrue whole (HasNoGap self.now ends.now)) }
+    {
+        let send = self.messages.list.at(ends.send)?;
+        let gaps = self.facts.seen.gaps_before(ends.answered.place)?;
+        Ok(gaps == send.gaps)
     }
 
     /// The ends of the call that a delivery opens, if its send is found.
-    fn ends_of(&self, index: u32) -> Result<Option<Ends>, ListingError> {
+    fn ends_of(&self, index: u32) -> Result<Option<Ends>, ListingError>
+        ensures { IfOk result (λ found. IfSome found (HasEnds self.now index)) }
+    {
         let delivery = self.messages.list.at(index)?;
         if !matches!(
             delivery.kind,
@@ -395,23 +488,75 @@ impl Pairing<'_, '_> {
         let Some(send) = delivery.partner else {
             return Ok(None);
         };
-        let made = self.facts.calls.find(self.messages.list.at(send)?.call)?;
-        let served = self.facts.calls.find(delivery.call)?;
-        if let Some(made) = made
-            && made.is_answered()
-            && let Some(answered) = made.closer
-            && let Some(served) = served
-            && let Some(replied) = replied_by(served)
-            && self.messages.are_alike(replied, answered)?
-        {
-            return Ok(Some(Ends {
-                replied: replied.message,
-                answered,
-                send,
-            }));
+        let opener = self.messages.list.at(send)?;
+        let opened = self.facts.calls.find(opener.call)?;
+        let Some(made) = opened else {
+            return Ok(None);
+        };
+        let begun = self.facts.calls.find(delivery.call)?;
+        let Some(served) = begun else {
+            return Ok(None);
+        };
+        let Some(answered) = made.closer else {
+            return Ok(None);
+        };
+        let Some(replied) = replied_by(served) else {
+            return Ok(None);
+        };
+        if !made.is_answered() {
+            return Ok(None);
         }
-        Ok(None)
+        if !self.messages.are_alike(replied, answered)? {
+            return Ok(None);
+        }
+        Ok(Some(Ends {
+            replied: replied.message,
+            answered,
+            send,
+        }))
     }
+}
+
+/// Puts each of these sends among those in doubt.
+fn doubt_each(waiting: &mut Waiting, fits: &[Fit]) -> Outcome
+    ensures { OnOk result (AllWait waiting.old waiting.new) }
+{
+    for fit in fits {
+        waiting.doubt(fit.listed)?;
+    }
+    Ok(())
+}
+
+/// Marks each of these sends by a delivery.
+fn mark_each(marks: &mut Numbered<Mark>, fits: &[Fit], delivery: u32) -> Outcome
+    ensures { OnOk result (MarksEach marks.old.all.items marks.new.all.items fits.now delivery) }
+{
+    for fit in fits {
+        mark_also(marks, fit.listed.index, delivery)?;
+    }
+    Ok(())
+}
+
+/// Marks the message at an index by another one.
+fn mark_also(marks: &mut Numbered<Mark>, index: u32, by: u32) -> Outcome
+    ensures { OnOk result (MarksAlso marks.old.all.items marks.new.all.items index by) }
+{
+    let mark = marks.at(index)?;
+    let other = mark.other.and(by);
+    marks.set(index, Mark { other, ..mark })
+}
+
+/// How many sends fit a reply to a call of this send, and whether that pair is certain. With a frame
+/// missing, the answer may be that of another call.
+fn rate_of_reply(sent: &Sent, is_whole: bool) -> (u32, bool)
+    ensures fits { result.0 ≡ (if is_whole then sent.now.fits else sent.now.fits + 1) }
+    ensures certain { result.1 ≡ (is_whole && sent.now.certain) }
+{
+    let fits = u32::from(sent.fits);
+    if is_whole {
+        return (fits, sent.certain);
+    }
+    (fits + 1, false)
 }
 
 /// A send as it waits.
@@ -438,6 +583,21 @@ fn listed(
         list,
         index,
     })
+}
+
+/// Notes what is known of the objects that a message hands over and another one delivers, each after
+/// so many gaps.
+fn learn_each(
+    meanings: &mut Meanings,
+    (objects, before): (&[Handed], u32),
+    (others, after): (&[Handed], u32),
+) -> Outcome {
+    for one in objects {
+        if let Some(other) = numbered(others, one.number) {
+            learn_object(meanings, (one.object, before), (other.object, after))?;
+        }
+    }
+    Ok(())
 }
 
 /// Notes what is known of an object, by what it is to the process that hands it over and to the one

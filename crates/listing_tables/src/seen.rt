@@ -1,9 +1,12 @@
 //! Whether all that was sent to a node is in the capture: frames may be missing, and a process may
 //! be older than the capture.
 
-ghost use Rattle.std.specs.Prelude.{◌≡◌, IfOk};
-ghost use Rattle.std.specs.Bool.{OnTrue};
+ghost use Rattle.std.specs.Prelude.{◌≡◌, slice_set, true, length, IfOk, OnOk};
+ghost use Rattle.std.specs.Bool.{OnFalse, OnTrue};
 ghost use Rattle.listing_tables.specs.Certainty.{HasAll, IsReferred, IsWhole};
+ghost use Rattle.listing_tables.specs.Gaps.{AreGapsBefore, BeginsThread, ComesAfterGap, GoesOn};
+ghost use Rattle.listing_tables.specs.Gaps.{IsWholeCall, NotesGap, NotesProcess, SaysTakesCalls};
+ghost use Rattle.listing_tables.specs.Gaps.{TakesFrame};
 ghost use Rattle.listing_tables.specs.Learning.{HasNoFrameBefore, TakesCalls};
 
 use crate::calls::Call;
@@ -52,44 +55,109 @@ impl Seen {
     }
 
     /// Takes a frame, before its records.
-    pub(crate) fn add_frame(&mut self, frame: Frame<'_>, owner: Owner) -> Outcome {
-        if let Some(last) = self.sequence
-            && difference(frame.sequence, last)? != 1
-        {
-            self.gaps.push(narrow(frame.place)?)?;
-        }
-        self.sequence = Some(frame.sequence);
-        if owner.upid.index == self.old.next()? {
-            self.old.push(false)?;
-        }
-        let gaps = self.gaps()?;
-        if owner.utid.index < self.threads.next()? {
-            let thread = self.threads.at_mut(owner.utid.index)?;
-            thread.earlier = Some(thread.last);
-            thread.last = gaps;
+    pub(crate) fn add_frame(&mut self, frame: Frame<'_>, owner: Owner) -> Outcome
+        ensures { OnOk result (TakesFrame self.entry.now frame.entry.sequence frame.entry.place
+            frame.entry.direction owner self.exit.now) }
+    {
+        self.note_gap(frame.sequence, frame.place)?;
+        self.note_process(owner.upid)?;
+        let is_first = self.note_thread(owner.utid)?;
+        if !is_first {
             return Ok(());
         }
-        self.threads.push(Watched {
-            last: gaps,
-            earlier: None,
-            takes_calls: false,
-        })?;
-        // It waited in the driver before the capture began.
-        if frame.direction == Direction::Read {
-            self.is_old(owner.upid)?;
+        // A thread whose first frame is a read waited in the driver before the capture began.
+        match frame.direction {
+            Direction::Read => self.is_old(owner.upid),
+            Direction::Write => Ok(()),
         }
+    }
+
+    /// Notes the gap before a frame of this sequence at this place, if there is one.
+    fn note_gap(&mut self, sequence: u64, place: u64) -> Outcome
+        ensures noted { OnOk result (NotesGap self.entry.now self.exit.now sequence place) }
+        ensures rest { self.exit.now ≡ record self.entry.now {
+          gaps = self.exit.now.gaps;
+          sequence = self.exit.now.sequence;
+        } }
+    {
+        let is_gap = is_after_gap(self.sequence, sequence)?;
+        self.sequence = Some(sequence);
+        if !is_gap {
+            return Ok(());
+        }
+        self.gaps.push(narrow(place)?)?;
         Ok(())
     }
 
-    fn is_old(&mut self, upid: Upid) -> Outcome {
-        *self.old.at_mut(upid.index)? = true;
+    /// Notes a process, which may be new.
+    fn note_process(&mut self, upid: Upid) -> Outcome
+        ensures noted { OnOk result (NotesProcess self.entry.now.old.all.items
+            self.exit.now.old.all.items upid.index) }
+        ensures rest { self.exit.now ≡ record self.entry.now { old = self.exit.now.old } }
+    {
+        if upid.index != self.old.next()? {
+            return Ok(());
+        }
+        self.old.push(false)?;
         Ok(())
+    }
+
+    /// Notes a frame of a thread. Returns whether it is the thread's first one.
+    fn note_thread(&mut self, utid: Utid) -> Result<bool, ListingError>
+        ensures first { IfOk result (λ first. OnTrue first (BeginsThread
+            self.entry.now.threads.all.items self.exit.now.threads.all.items utid.index
+            (length self.entry.now.gaps.items))) }
+        ensures later { IfOk result (λ first. OnFalse first (GoesOn
+            self.entry.now.threads.all.items self.exit.now.threads.all.items utid.index
+            (length self.entry.now.gaps.items))) }
+        ensures rest { self.exit.now ≡ record self.entry.now { threads = self.exit.now.threads } }
+    {
+        let last = self.gaps()?;
+        if utid.index >= self.threads.next()? {
+            self.threads.push(Watched {
+                last,
+                earlier: None,
+                takes_calls: false,
+            })?;
+            return Ok(true);
+        }
+        let thread = self.threads.at(utid.index)?;
+        let earlier = Some(thread.last);
+        self.threads.set(
+            utid.index,
+            Watched {
+                last,
+                earlier,
+                ..thread
+            },
+        )?;
+        Ok(false)
+    }
+
+    /// Notes that a process is older than the capture.
+    fn is_old(&mut self, upid: Upid) -> Outcome
+        ensures noted { OnOk result (self.exit.now.old.all.items
+            ≡ slice_set self.entry.now.old.all.items upid.index true) }
+        ensures rest { self.exit.now ≡ record self.entry.now { old = self.exit.now.old } }
+    {
+        self.old.set(upid.index, true)
     }
 
     /// Takes a record by which a thread says that it takes calls.
-    pub(crate) fn take_calls(&mut self, utid: Utid) -> Outcome {
-        self.threads.at_mut(utid.index)?.takes_calls = true;
-        Ok(())
+    pub(crate) fn take_calls(&mut self, utid: Utid) -> Outcome
+        ensures said { OnOk result (SaysTakesCalls self.entry.now.threads.all.items
+            self.exit.now.threads.all.items utid.index) }
+        ensures rest { self.exit.now ≡ record self.entry.now { threads = self.exit.now.threads } }
+    {
+        let thread = self.threads.at(utid.index)?;
+        let takes_calls = true;
+        self.threads.set(
+            utid.index,
+            Watched {
+                takes_calls,
+                ..thread
+            },
+        )
     }
 
     /// Takes a delivery that only a thread that takes calls gets.
@@ -117,26 +185,29 @@ impl Seen {
     }
 
     /// How many gaps there are so far.
-    pub(crate) fn gaps(&self) -> Result<u32, ListingError> {
+    pub(crate) fn gaps(&self) -> Result<u32, ListingError>
+        ensures { IfOk result (λ count. count ≡ length self.now.gaps.items) }
+    {
         narrow(self.gaps.len() as u64)
     }
 
     /// How many gaps come before a place.
-    pub(crate) fn gaps_before(&self, place: u32) -> Result<u32, ListingError> {
-        narrow(self.gaps.as_slice().partition_point(|gap| *gap <= place) as u64)
+    pub(crate) fn gaps_before(&self, place: u32) -> Result<u32, ListingError>
+        ensures { IfOk result (AreGapsBefore self.now place) }
+    {
+        let count = self.gaps.as_slice().partition_point(|gap| *gap <= place);
+        narrow(count as u64)
     }
 
     /// Whether no frame is missing in a call with this opener, so that it is known what closes it.
-    pub(crate) fn has_whole_call(
-        &self,
-        call: Call,
-        opener: &Message,
-    ) -> Result<bool, ListingError> {
-        let gaps = match call.closer {
-            Some(closer) => self.gaps_before(closer.place)?,
-            None => self.gaps()?,
-        };
-        Ok(gaps == opener.gaps)
+    pub(crate) fn has_whole_call(&self, call: Call, opener: &Message) -> Result<bool, ListingError>
+        ensures { IfOk result (λ whole. OnTrue whole (
+            IsWholeCall self.now call opener.now.gaps)) }
+    {
+        match call.closer {
+            Some(closer) => Ok(self.gaps_before(closer.place)? == opener.gaps),
+            None => Ok(self.gaps()? == opener.gaps),
+        }
     }
 
     /// Whether all that is sent to a node of a process, and delivered at a place after so many
@@ -176,5 +247,16 @@ impl Seen {
         ensures { IfOk result (λ whole. OnTrue whole (IsWhole self.now upid.index)) }
     {
         Ok(!self.old.at(upid.index)?)
+    }
+}
+
+/// Whether a frame of this sequence does not come right after the last one.
+fn is_after_gap(last: Option<u64>, sequence: u64) -> Result<bool, ListingError>
+    ensures gap { IfOk result (λ gap. OnTrue gap (ComesAfterGap last sequence)) }
+    ensures none { IfOk result (λ gap. OnFalse gap (ComesAfterGap last sequence → ⊥)) }
+{
+    match last {
+        Some(last) => Ok(difference(sequence, last)? != 1),
+        None => Ok(false),
     }
 }

@@ -1,8 +1,9 @@
 //! The sends that a delivery may have come from, while the messages are gone through in order.
 
-ghost use Rattle.std.specs.Prelude.{◌≡◌, ◌≤◌, ◌⊎◌, ◌++◌, ◌+◌, map, IsTrue, IfOk, IfSome, OnOk};
+ghost use Rattle.std.specs.Prelude.{◌≡◌, ◌≤◌, ◌⊎◌, ◌++◌, ◌+◌, map, false, IsTrue, IfOk, IfSome, OnOk};
 ghost use Rattle.std.specs.Bool.{OnTrue};
 ghost use Rattle.std.specs.BTreeSet.{contains};
+ghost use Rattle.listing_tables.specs.Doubts.{CountsCame, CountsDoubt, CountsLeaving, CountsLeft};
 ghost use Rattle.listing_tables.specs.Waiting.{AllWait, Entry, OthersWait, OthersWaitBut};
 ghost use Rattle.listing_tables.specs.Waiting.{all_looks, doubt_of, entry_cmp, entry_of, in_doubt};
 ghost use Rattle.listing_tables.specs.Waiting.{look_at, sends_in, waits};
@@ -103,6 +104,9 @@ impl Waiting {
             IsTrue (waits self.new other) ⊎ (other ≡ entry_of send) }
         ensures doubted { self.new.doubted ≡ self.old.doubted }
         ensures doubts { self.new.doubts ≡ self.old.doubts }
+        ensures gone { waits self.new (entry_of send) ≡ false }
+        ensures fewer { (other : Entry) → IsTrue (waits self.new other) →
+            IsTrue (waits self.old other) }
     {
         let at = (send.key, send.list, send.index);
         self.untaken.remove(&at);
@@ -111,7 +115,9 @@ impl Waiting {
 
     /// Takes out a send whose delivery is found.
     pub(crate) fn take(&mut self, send: Listed) -> Outcome
-        ensures { OnOk result (OthersWaitBut (entry_of send) self.old self.new) }
+        ensures others { OnOk result (OthersWaitBut (entry_of send) self.old self.new) }
+        ensures gone { OnOk result (waits self.new (entry_of send) ≡ false) }
+        ensures counted { OnOk result (CountsLeaving self.old send 0 self.new) }
     {
         self.remove(send);
         self.leave(send, 0)
@@ -119,7 +125,9 @@ impl Waiting {
 
     /// Takes out a send whose call is closed, so that it can't be delivered any more.
     pub(crate) fn close(&mut self, send: Listed) -> Outcome
-        ensures { OnOk result (OthersWaitBut (entry_of send) self.old self.new) }
+        ensures others { OnOk result (OthersWaitBut (entry_of send) self.old self.new) }
+        ensures gone { OnOk result (waits self.new (entry_of send) ≡ false) }
+        ensures counted { OnOk result (CountsLeaving self.old send 1 self.new) }
     {
         self.remove(send);
         self.leave(send, 1)
@@ -128,7 +136,10 @@ impl Waiting {
     /// Takes a send out of those in doubt. So many of what came may have been it, if any came.
     fn leave(&mut self, send: Listed, came: u32) -> Outcome
         requires { came ≤ 1 }
-        ensures { OnOk result (OthersWait self.old self.new) }
+        ensures others { OnOk result (OthersWait self.old self.new) }
+        ensures fewer { OnOk result ((other : Entry) → IsTrue (waits self.new other) →
+            IsTrue (waits self.old other)) }
+        ensures counted { OnOk result (CountsLeaving self.old send came self.new) }
     {
         if self.doubted.remove(&(send.key, send.index, send.list)) {
             let doubt = self.doubt_of(send.key);
@@ -155,29 +166,27 @@ impl Waiting {
 
     /// Puts a send among those in doubt.
     pub(crate) fn doubt(&mut self, send: Listed) -> Outcome
-        ensures { OnOk result (AllWait self.old self.new) }
+        ensures kept { OnOk result (AllWait self.old self.new) }
+        ensures counted { OnOk result (CountsDoubt self.old send self.new) }
     {
-        if self.doubted.insert((send.key, send.index, send.list))? {
-            let doubt = self.doubt_of(send.key);
-            let more = Doubt {
-                sends: one_more(doubt.sends)?,
-                ..doubt
-            };
-            self.doubts.insert(send.key, more)?;
+        let is_new = self.doubted.insert((send.key, send.index, send.list))?;
+        if !is_new {
+            return Ok(());
         }
+        let doubt = self.doubt_of(send.key);
+        let sends = one_more(doubt.sends)?;
+        self.doubts.insert(send.key, Doubt { sends, ..doubt })?;
         Ok(())
     }
 
     /// Notes that one of the sends of a key that are in doubt came.
     pub(crate) fn came(&mut self, key: u64) -> Outcome
-        ensures { OnOk result (OthersWait self.old self.new) }
+        ensures others { OnOk result (OthersWait self.old self.new) }
+        ensures counted { OnOk result (CountsCame self.old key self.new) }
     {
         let doubt = self.doubt_of(key);
-        let more = Doubt {
-            came: one_more(doubt.came)?,
-            ..doubt
-        };
-        self.doubts.insert(key, more)?;
+        let came = one_more(doubt.came)?;
+        self.doubts.insert(key, Doubt { came, ..doubt })?;
         self.forget(key);
         Ok(())
     }
@@ -193,9 +202,14 @@ impl Waiting {
 
     /// If all sends of a key that are in doubt came, none of them waits any more.
     fn forget(&mut self, key: u64)
-        ensures { (other : Entry) → IsTrue (waits self.old other) → IsTrue (waits self.new other)
+        ensures others { (other : Entry) → IsTrue (waits self.old other) →
+            IsTrue (waits self.new other)
             ⊎ ((other.0 ≡ key) × IsTrue (in_doubt self.old other)
             × ((doubt_of self.old key).sends ≤ (doubt_of self.old key).came)) }
+        ensures fewer { (other : Entry) → IsTrue (waits self.new other) →
+            IsTrue (waits self.old other) }
+        ensures counted { CountsLeft (doubt_of self.old key).sends (doubt_of self.old key).came key
+            self.new }
     {
         let doubt = self.doubt_of(key);
         if doubt.came < doubt.sends {

@@ -1,0 +1,54 @@
+use Rattle.std.proofs.Common.{List, true, false, refl, sym, ap, subst}
+use Rattle.std.proofs.lemmas.Result.{on_ok_weaker}
+use Rattle.listing_tables.specs.Changes.{RatesPair}
+use Rattle.listing_tables.specs.Pairing.{GuessesFit, PairsDelivery, messages_of}
+use Rattle.listing_tables.specs.declared.messages.Message.{Message}
+use Rattle.listing_tables.specs.declared.pairs.Pairing.{Pairing}
+use Rattle.listing_tables.proofs.PairLaws.{guess_from, on_ok_always, pairs_guess, pairs_one, pairs_only}
+use Rattle.listing_tables.proofs.pairs.Pairing.pair_delivery.Goals as goal
+
+pub returns-in-Sure : goal.returns-in-Sure
+returns-in-Sure c =
+    let sought = c.args.sought.now in
+    let fit = c.in-Sure.fit in
+    let new = messages_of c.take.new.self in
+    let only = rw c.in-Sure.is at c.in_ok-certainty.ensures.justified in
+    let same = ap messages_of c.in_ok-note_crowded.ensures.same in
+    on_ok_weaker c.take.result
+    (λ pair. pairs_only c.args.self.now sought new _ fit
+    (record { messages = refl; calls = refl; generations = refl; seen = refl; meanings = refl; waiting = refl; marks = refl })
+    only (subst (λ (l : List Message). RatesPair l new fit.listed.index sought.index 1 true) same pair))
+    c.take.ensures.pair
+
+pub returns-in-OneHandle : goal.returns-in-OneHandle
+returns-in-OneHandle c =
+    let mid = c.note_crowded.new.self in
+    let same = c.in_ok-note_crowded.ensures.same in
+    let new = messages_of c.take_one.new.self in
+    let fitting = c.certainty_of.new.fitting in
+    let left = rw c.in-OneHandle.is at c.in_ok-certainty.ensures.left in
+    on_ok_weaker c.take_one.result
+    (λ found. pairs_one c.args.self.now c.args.sought.now new _ fitting found.0
+    (record { messages = refl; calls = refl; generations = refl; seen = refl; meanings = refl; waiting = refl; marks = refl })
+    left (guess_from c.args.self.now mid new fitting found.0 true (ap messages_of same) (ap (λ (p : Pairing). p.fitting) same) found.1))
+    c.take_one.ensures
+
+pub returns-in_ok-guess-in-Several : goal.returns-in_ok-guess-in-Several
+returns-in_ok-guess-in-Several c =
+    let mid = c.note_crowded.new.self in
+    let same = c.in_ok-note_crowded.ensures.same in
+    let guessed = messages_of c.guess.new.self in
+    on_ok_always c.doubt_all.result
+    (subst (λ (l : List Message). PairsDelivery c.args.self.now c.args.sought.now l) (sym (ap messages_of c.doubt_all.ensures.same))
+    (pairs_guess c.args.self.now c.args.sought.now guessed mid.fitting c.in_ok-fits.fits
+    (guess_from c.args.self.now mid guessed mid.fitting c.in_ok-fits.fits false (ap messages_of same) refl c.in_ok-guess-in-Several.ensures)))
+
+pub returns-in_ok-one_more-in-Unknown : goal.returns-in_ok-one_more-in-Unknown
+returns-in_ok-one_more-in-Unknown c =
+    let mid = c.note_crowded.new.self in
+    let same = c.in_ok-note_crowded.ensures.same in
+    let guessed = messages_of c.guess-in-Unknown.new.self in
+    on_ok_weaker c.guess-in-Unknown.result
+    (λ found. pairs_guess c.args.self.now c.args.sought.now guessed mid.fitting c.in_ok-one_more-in-Unknown.field-0
+    (guess_from c.args.self.now mid guessed mid.fitting c.in_ok-one_more-in-Unknown.field-0 false (ap messages_of same) refl found))
+    c.guess-in-Unknown.ensures

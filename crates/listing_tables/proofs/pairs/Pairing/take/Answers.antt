@@ -1,0 +1,11 @@
+use Rattle.std.proofs.lemmas.Result.{on_ok_weaker}
+use Rattle.std.proofs.Common.{false, ◌≡◌, sym, subst}
+use Rattle.listing_tables.specs.Waiting.{entry_of, waits}
+use Rattle.listing_tables.specs.declared.waiting.Waiting.{Waiting}
+use Rattle.listing_tables.proofs.PairLaws.{on_ok_always}
+use Rattle.listing_tables.proofs.pairs.Pairing.take.Goals as goal
+
+pub returns-clause-gone : goal.returns-clause-gone
+returns-clause-gone c =
+    on_ok_always c.keep_pair.result
+    (subst (λ (w : Waiting). waits w (entry_of c.args.fit.now.listed) ≡ false) (sym c.keep_pair.ensures.waiting) c.in_ok-take.ensures.gone)
