@@ -365,8 +365,9 @@ u64 kernel_last_number(void)
 u64 kernel_bound(void)
 {
 	u64 bound = kernel_last_number();
+	u32 processors = (u32)libbpf_num_possible_cpus();
 	__atomic_thread_fence(__ATOMIC_SEQ_CST);
-	for (u32 i = 0; i < MOST_CPUS; i++) {
+	for (u32 i = 0; i < processors; i++) {
 		u64 number = __atomic_load_n(&program->bss->taking[i].number, __ATOMIC_SEQ_CST);
 		if (number && number - 1 < bound)
 			bound = number - 1;
