@@ -128,7 +128,7 @@ def loader() -> pathlib.Path:
 
 # The longest tables, and the columns by which their rows are asked for beside the first one.
 PACKED_TABLES = {"raw_record": (), "raw_frame": ("utid",), "raw_delivery": (), "raw_send": ("generation", "refused"),
-                 "raw_call": ("utid",), "raw_object": ("binder",), "side_time": ()}
+                 "raw_call": ("utid", "closer"), "raw_object": ("binder",), "side_time": ()}
 
 # Of these, those whose rows the listing writes.
 STREAMED = tuple(name.removeprefix("raw_") for name in PACKED_TABLES if name.startswith("raw_"))

@@ -1,10 +1,10 @@
 -- How long each finding has lasted, what its thread did after it, and whether it ended with its thread or process.
 -- Times are used if the side list has them, and frames otherwise.
 -- needs: database/schema.sql: book, book_opening, capture, finding, raw_call, raw_capture, raw_delivery, raw_frame,
---   raw_record, raw_thread, side_lost, side_time; database/views.sql: process, thread; late.sql: late
+--   raw_process, raw_record, raw_thread, side_lost, side_time; database/views.sql: process, thread; late.sql: late
 -- after: counts.sql
--- makes: temporary tables: last, process_life, begun, life, written, usual, old, ended, leaving; indexes:
---   life_of_process, begun_process, life_of_thread, old_finding, ended_finding, leaving_finding
+-- makes: temporary tables: last, process_life, begun, life, written, usual, old, ended, leaving, recorded; indexes:
+--   life_of_process, begun_process, life_of_thread, old_finding, ended_finding, leaving_finding, recorded_of
 
 -- ---- how long: to the end of its thread, its process or the capture
 
@@ -108,3 +108,36 @@ WHERE f.section IN ('buffers', 'deaths', 'freezes', 'freeze_clears') AND p.ended
   OR f.section IN ('nodes', 'clears') AND l.ended_after NOTNULL
     AND l.ended - (SELECT ts FROM side_time x WHERE x.seq = f.seq) <= :LONG;
 CREATE UNIQUE INDEX temp.leaving_finding ON leaving(id);
+
+-- ---- when each process was at work
+
+-- How long a process was at work: from its first frame to its last one, as a rest at the end says nothing of what it
+-- keeps. `grows_to` is the end of the time in which what it holds may grow. What a process takes when it starts is
+-- mostly kept by design; so that time goes on for one that has rested for longer than it worked since it started.
+CREATE TEMP TABLE recorded AS
+SELECT
+  upid,
+  first_seq,
+  first_ts,
+  last_seq,
+  last_ts,
+  end_seq,
+  end_ts,
+  iif(begins, end_seq, last_seq) AS grows_to_seq,
+  iif(begins, end_ts, last_ts) AS grows_to_ts
+FROM (
+  SELECT *, known AND coalesce(end_ts - last_ts > last_ts - first_ts, end_seq - last_seq > last_seq - first_seq)
+    AS begins
+  FROM (
+    SELECT
+      q.upid,
+      p.known,
+      q.first_seq,
+      x.ts AS first_ts,
+      q.last_seq,
+      z.ts AS last_ts,
+      coalesce(p.ended_after, last.seq) AS end_seq,
+      coalesce(p.ended, last.ts) AS end_ts
+    FROM raw_process q JOIN process_life p USING (upid) LEFT JOIN side_time x ON x.seq = q.first_seq
+      LEFT JOIN side_time z ON z.seq = q.last_seq, last));
+CREATE UNIQUE INDEX temp.recorded_of ON recorded(upid);

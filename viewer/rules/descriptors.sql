@@ -1,6 +1,6 @@
 -- K: processes that keep the file descriptors that they get, which are findings of their own, one for each process.
 -- needs: database/schema.sql: finding, raw_delivery, raw_object, raw_record, raw_send, raw_thread, side_time;
---   database/views.sql: delivery; nodes.sql: node_of, who; ways.sql: recorded; judging.py: counted
+--   database/views.sql: delivery; nodes.sql: node_of, who; ages.sql: recorded; judging.py: counted
 -- after: lookups.sql
 -- makes: temporary tables: got_fd, rising, fd_by, fd_path
 
@@ -20,6 +20,7 @@
 
 -- The descriptors that each process got, with their numbers, in four quarters of the time from the first of them to the
 -- end of the process's work, if that is most of its time.
+-- beside: ages.sql
 CREATE TEMP TABLE got_fd AS
 SELECT upid, place, fd, CAST(min(4 * (at - first) / (1 - first), 3) AS INTEGER) AS quarter
 FROM (

@@ -97,8 +97,9 @@ UPDATE finding SET ptr = r.ptr, cookie = r.cookie FROM raw_record r
 WHERE r.place = finding.place AND section = 'served';
 -- A reply has no code of its own: it is about the served call that it closes.
 CREATE TEMP TABLE replied AS
-SELECT place, closer FROM raw_call
-WHERE served AND closer IN (SELECT place FROM finding WHERE section = 'objects');
+SELECT c.place, c.closer
+FROM (SELECT DISTINCT place FROM finding WHERE section = 'objects') f CROSS JOIN raw_call c ON c.closer = f.place
+WHERE c.served;
 CREATE INDEX temp.replied_by ON replied(closer);
 UPDATE finding SET code = r.code, ptr = r.ptr, cookie = r.cookie FROM replied c JOIN raw_record r USING (place)
 WHERE section = 'objects' AND c.closer = finding.place;

@@ -1,12 +1,11 @@
 -- H3 to H12, H14, H15, T, U: references to handles and nodes that are held, and those that are balanced.
 -- needs: database/schema.sql: finding, raw_generation, raw_record, raw_thread, side_time; nodes.sql: manager, node_of,
 --   who; records.sql: dead_record, told_death; paths.sql: given, given_way, thing_path; ages.sql: ended, last, leaving,
---   process_life; handles.sql: handle_row; rule.sql: lossy; waits.sql: waits; ways.sql: collector, earlier,
---   kept_handle, kept_way, let_go, of_way, outlived, recorded
--- makes: temporary tables: mourned, dead_way, outlives, let_go_later, taken_again, reference_change, reference_level,
---   most_held, more_references, each_again, nearly_all, growing, by_design, overdue, unused, outliving, not_collected,
---   kept_elsewhere, weakly_kept; temporary views: held_change; indexes: taken_again_of, most_held_of,
---   more_references_of, by_design_of
+--   process_life, recorded; handles.sql: handle_row; rule.sql: lossy; waits.sql: waits; ways.sql: collector, earlier,
+--   kept_handle, kept_way, let_go, of_way, outlived
+-- makes: temporary tables: mourned, dead_way, outlives, let_go_later, reference_level, most_held, more_references,
+--   each_again, nearly_all, growing, by_design, overdue, unused, outliving, not_collected, kept_elsewhere, weakly_kept;
+--   temporary views: held_change; indexes: most_held_of, more_references_of, by_design_of
 
 -- ---- what findings are called
 
@@ -136,10 +135,6 @@ WHERE o.id = finding.id;
 -- say nothing of that: one may write late that it let go, when another has taken it again. By these a generation has
 -- more only if it has three now, besides one for each of them that is in a call, and may let go after it. A handle may
 -- have very many generations, of which at most one is held.
-CREATE TEMP TABLE taken_again AS
-SELECT id, upid, handle, begin, strong, weak FROM raw_generation
-WHERE strong + weak > 0 AND (acquired > 1 OR increfs > 1);
-CREATE INDEX temp.taken_again_of ON taken_again(upid, handle, begin);
 CREATE TEMP VIEW held_change AS
 WITH held AS MATERIALIZED (
   SELECT id, upid, handle, begin FROM raw_generation WHERE strong + weak > 0 AND (acquired > 1 OR increfs > 1))
@@ -148,8 +143,6 @@ SELECT g.id AS generation, r.place, r.seq, r.utid, (r.kind = :BC_ACQUIRE) - (r.k
 FROM (SELECT 1 FROM held LIMIT 1) CROSS JOIN raw_record r CROSS JOIN raw_thread t USING (utid)
   CROSS JOIN held g ON g.upid = t.upid AND g.handle = r.handle AND g.begin <= r.place
 WHERE r.kind IN (:BC_INCREFS, :BC_ACQUIRE, :BC_RELEASE, :BC_DECREFS);
--- beside: loading
-CREATE TEMP TABLE reference_change AS SELECT * FROM held_change;
 -- What each thread brought a generation to at most.
 -- beside: loading
 CREATE TEMP TABLE reference_level AS
@@ -162,17 +155,18 @@ SELECT generation, iif(min(utid) = max(utid), max(strong), max(now_strong) - 1 -
   iif(min(utid) = max(utid), max(weak), max(now_weak) - 1 - count(calls)) AS weak
 FROM (SELECT c.generation, g.strong AS now_strong, g.weak AS now_weak, c.utid,
     iif(c.utid IN (SELECT utid FROM waits), c.utid, NULL) AS calls, c.strong, c.weak
-  FROM reference_level c JOIN taken_again g ON g.id = c.generation) GROUP BY 1;
+  FROM reference_level c JOIN raw_generation g ON g.id = c.generation) GROUP BY 1;
 CREATE UNIQUE INDEX temp.most_held_of ON most_held(generation);
 -- Of which references become more to the end: how many there are at the half of what was recorded of the process, and
 -- at the end, if that is more by enough, and the last two quarters have each made it more.
+-- beside: ages.sql
 CREATE TEMP TABLE more_references AS
 SELECT generation, half || ' held at half of its time, ' || held || ' at the end' AS told
 FROM (SELECT generation, sum(n * (left >= :LATELY)) AS half, sum(n * (left >= :LATELY / 2)) AS later, sum(n) AS held
   FROM (SELECT c.generation, iif(g.strong > 0, c.strong, c.weak) AS n,
       coalesce(1.0 * (l.grows_to_ts - x.ts) / (l.grows_to_ts - l.first_ts),
         1.0 * (l.grows_to_seq - c.seq) / (l.grows_to_seq - l.first_seq)) AS left
-    FROM reference_change c JOIN taken_again g ON g.id = c.generation JOIN recorded l USING (upid)
+    FROM held_change c JOIN raw_generation g ON g.id = c.generation JOIN recorded l USING (upid)
       LEFT JOIN side_time x ON x.seq = c.seq) GROUP BY 1)
 WHERE held - half >= max(:TOO_MANY, :GROWTH * held) AND half < later AND later < held;
 CREATE UNIQUE INDEX temp.more_references_of ON more_references(generation);

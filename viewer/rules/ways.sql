@@ -1,45 +1,14 @@
 -- The ways by which handles came of which a process keeps several: how long it held those that it let go of, and
 -- whether it uses those that it keeps.
 -- needs: database/schema.sql: raw_generation, raw_process, raw_record, raw_send, side_process, side_time; nodes.sql:
---   manager, node_of; paths.sql: given, given_way; ages.sql: last, process_life
--- makes: temporary tables: kept_way, recorded, of_way, had_before, earlier, let_go, outlived, collector, kept_handle;
---   indexes: recorded_of, of_way_generation, had_before_of, earlier_of, let_go_of, outlived_of, collector_of,
---   kept_handle_of
+--   manager, node_of; paths.sql: given, given_way; ages.sql: recorded
+-- makes: temporary tables: kept_way, of_way, had_before, earlier, let_go, outlived, collector, kept_handle; indexes:
+--   of_way_generation, had_before_of, earlier_of, let_go_of, outlived_of, collector_of, kept_handle_of
 
 -- What the context manager gives, or gets, are services, which are meant to be kept.
 CREATE TEMP TABLE kept_way AS
 SELECT row_number() OVER () AS id, * FROM given_way
 WHERE kept >= :OFTEN AND upid NOT IN (SELECT upid FROM manager);
--- How long a process was at work: from its first frame to its last one, as a rest at the end says nothing of what it
--- keeps. `grows_to` is the end of the time in which what it holds may grow. What a process takes when it starts is
--- mostly kept by design; so that time goes on for one that has rested for longer than it worked since it started.
-CREATE TEMP TABLE recorded AS
-SELECT
-  upid,
-  first_seq,
-  first_ts,
-  last_seq,
-  last_ts,
-  end_seq,
-  end_ts,
-  iif(begins, end_seq, last_seq) AS grows_to_seq,
-  iif(begins, end_ts, last_ts) AS grows_to_ts
-FROM (
-  SELECT *, known AND coalesce(end_ts - last_ts > last_ts - first_ts, end_seq - last_seq > last_seq - first_seq)
-    AS begins
-  FROM (
-    SELECT
-      q.upid,
-      p.known,
-      q.first_seq,
-      x.ts AS first_ts,
-      q.last_seq,
-      z.ts AS last_ts,
-      coalesce(p.ended_after, last.seq) AS end_seq,
-      coalesce(p.ended, last.ts) AS end_ts
-    FROM raw_process q JOIN process_life p USING (upid) LEFT JOIN side_time x ON x.seq = q.first_seq
-      LEFT JOIN side_time z ON z.seq = q.last_seq, last));
-CREATE UNIQUE INDEX temp.recorded_of ON recorded(upid);
 -- Those that are kept, and those that were taken and let go of, `went` then. `came_left` and `went_left` are the shares
 -- of what was recorded of the process that were left then.
 CREATE TEMP TABLE of_way AS
