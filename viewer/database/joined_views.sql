@@ -4,7 +4,7 @@
 -- needs: schema.sql: book_handle, capture, method, object_interface, object_service, raw_call, raw_capture,
 --   raw_delivery, raw_generation, raw_interface, raw_object, raw_process, raw_record, raw_send, raw_service,
 --   raw_thread, side_process, side_thread, side_time; numbers.sql: kind, verdict; rules/nodes.sql: node_of, who;
---   rules/groups.sql: traffic; rules/defects.sql: call_text
+--   rules/matters.sql: traffic; rules/defects.sql: call_text
 -- makes: views: txn, holder, death_request, fd_sent, looper, sender
 
 -- The outcome of a call is how its thread saw it end; that of a oneway transaction is what became of it at the driver.

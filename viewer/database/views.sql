@@ -4,7 +4,7 @@
 -- needs: schema.sql: book_process, capture, object_interface, object_service, raw_call, raw_delivery, raw_frame,
 --   raw_generation, raw_interface, raw_level, raw_object, raw_process, raw_record, raw_send, raw_service, raw_thread,
 --   side_device, side_map, side_pc, side_process, side_thread, side_time, symbol; numbers.sql: cause, kind, sort,
---   verdict; rules/nodes.sql: node_of; rules/groups.sql: traffic; rules/defects.sql: call_text, program
+--   verdict; rules/nodes.sql: node_of; rules/matters.sql: traffic; rules/defects.sql: call_text, program
 -- makes: views: device, process, thread, frame, record, interface, service, object, call, handle, send, delivery,
 --   status, level, reference, listing, came_to, sent_to, node_interface, stack, node_service, talk
 

@@ -11,10 +11,9 @@
 --
 -- If any of that changes, the last number in this file, `prints`, rises: keys with another one are not compared.
 -- needs: database/schema.sql: call_interface, capture, finding, method, object_interface; database/views.sql: call,
---   device, interface, process, record, status; paths.sql: given; rule.sql: rule; groups.sql: titled, traffic;
---   judging.py: defect_key, path_text, status_name
--- makes: tables: program, call_text, defect, finding_defect; temporary tables: came_by, matter, told; indexes:
---   finding_of_defect
+--   device, interface, process, record, status; rule.sql: rule; matters.sql: in_matter, matter, traffic; groups.sql:
+--   titled; judging.py: defect_key, path_text, status_name
+-- makes: tables: program, call_text, defect, finding_defect; temporary tables: told; indexes: finding_of_defect
 
 -- ---- names that are the same in another capture
 
@@ -25,40 +24,14 @@ SELECT p.upid, coalesce(iif(p.begin GLOB '*[:_]', p.begin, p.name), 'a process')
   coalesce(d.name, 'device ' || p.device)
 FROM (SELECT upid, device, name, rtrim(name, '0123456789') AS begin FROM process) p JOIN device d USING (device);
 
--- How a handle that is kept with others came: in replies to a call, or with calls; and which process is at the other
--- end.
-CREATE TEMP TABLE came_by AS
-SELECT f.id, g.reply, g.code, g.asked AS handle, g.about AS upid, g.node AS ptr,
-  CASE WHEN f.rule = 'H12' THEN NULL WHEN NOT g.reply THEN g.sender WHEN g.about > 0 THEN g.about END AS other
-FROM finding f JOIN given g USING (generation)
-WHERE f.relation = 'given';
-
--- What each finding is about: a call, by its code and its node, and how the finding belongs to it; or a handle, a node
--- or an address. If the node of a call or a handle is not known, upid has the process that holds it with a minus, and
--- ptr the handle. Which oneway send finds no space at a receiver is chance: no code says it.
-CREATE TEMP TABLE matter AS
-SELECT f.id, f.section, f.what, f.place, f.rule, f.service, f.upid AS own, coalesce(f.culprit, f.upid) AS causes,
-  iif(f.rule = 'E5' AND f.culprit NOTNULL OR f.section = 'frees', NULL, coalesce(w.code, f.code)) AS code,
-  coalesce(w.upid, f.about, f.target, -f.upid) AS upid,
-  coalesce(w.ptr, f.node, iif(f.about > 0 OR f.target NOTNULL, f.ptr, f.handle)) AS ptr,
-  iif(w.id IS NULL, f.target, w.other) AS other, iif(w.id IS NULL, f.handle, w.handle) AS handle,
-  CASE
-    WHEN w.reply THEN 'given by replies to'
-    WHEN NOT w.reply THEN 'given by calls of'
-    WHEN f.rule = 'E5' AND f.culprit NOTNULL THEN 'no space at'
-    WHEN f.section = 'frees' THEN 'address'
-    WHEN f.relation = 'given' THEN 'handle'
-    ELSE f.relation END AS relation
-FROM finding f JOIN rule r ON r.id = f.rule LEFT JOIN came_by w ON w.id = f.id
-WHERE f.lead IS NULL AND r.verdict <> 'normal';
-
 -- What a call is called: by interface and method, or if no table has its method by interface and code.
 CREATE TABLE call_text(code INTEGER, upid INTEGER, ptr INTEGER, interface TEXT, method TEXT, call TEXT NOT NULL,
   PRIMARY KEY(code, upid, ptr)) STRICT;
+-- beside: matters.sql
 INSERT INTO call_text
 SELECT x.code, x.upid, x.ptr, coalesce(i.name, b.interface), coalesce(m.method, b.method),
   coalesce(i.name || coalesce('.' || m.method, ' code ' || x.code), b.interface || '.' || b.method, 'code ' || x.code)
-FROM (SELECT code, upid, ptr FROM matter WHERE code NOTNULL AND ptr NOTNULL
+FROM (SELECT code, upid, ptr FROM in_matter
   UNION SELECT code, coalesce(node_upid, -upid), coalesce(ptr, handle) FROM traffic) x
   LEFT JOIN call_interface c ON (c.code, c.upid, c.ptr) = (x.code, x.upid, x.ptr)
   LEFT JOIN interface i ON i.id = c.interface
@@ -75,7 +48,8 @@ SELECT id, kind || coalesce(' (' || answer || ')', '') AS kind, who, own_call AS
     CASE WHEN relation IN ('handle', 'node') THEN object WHEN relation IN ('at', 'oneway at') THEN own
       WHEN relation NOT IN ('a reply to', 'cookie', 'address', 'service') THEN other END,
     status) AS path
-FROM (SELECT m.id, m.relation, m.service, c.program || ' on ' || c.device AS who, p.program AS own, t.call,
+FROM (SELECT m.id, m.relation, (SELECT service FROM finding f WHERE f.id = m.id) AS service,
+    c.program || ' on ' || c.device AS who, p.program AS own, t.call,
     iif(m.causes IN (m.own, m.other), t.call, NULL) AS own_call,
     coalesce(r.fault, k.of_section) AS kind,
     CASE WHEN m.section = 'calls' AND m.what = 'failed' THEN (SELECT e.kind FROM call c

@@ -1,10 +1,10 @@
--- Findings in groups, and who talks to whom: what the page shows first.
--- needs: database/schema.sql: finding, raw_generation; database/views.sql: process; sums.sql: sent_sum; nodes.sql:
---   node_of, who; names.sql: call_named, code_named; paths.sql: given, given_way, way; rule.sql: rule, title;
---   causes.sql: led_by; judging.py: bare_name, call_words, counted, path_text, rank_of, short_name, status_name
+-- Findings in groups: what the page shows first.
+-- needs: database/schema.sql: finding; database/views.sql: process; nodes.sql: who; names.sql: call_named, code_named;
+--   paths.sql: given, given_way, way; rule.sql: rule, title; causes.sql: led_by; judging.py: bare_name, call_words,
+--   counted, path_text, rank_of, short_name, status_name
 -- after: texts.sql
--- makes: tables: finding_head, finding_group, traffic; temporary tables: titled, alike_name, alike_way, named, ranked,
---   common, paths; indexes: titled_kind, alike_name_of, alike_way_of, head_of_group, ranked_group, common_of, paths_of
+-- makes: tables: finding_head, finding_group; temporary tables: titled, alike_name, alike_way, named, ranked, common,
+--   paths; indexes: titled_kind, alike_name_of, alike_way_of, head_of_group, ranked_group, common_of, paths_of
 
 -- The title of each kind of finding that there is; and its title without what its rule says.
 CREATE TEMP TABLE titled AS
@@ -169,16 +169,3 @@ FROM (SELECT grp, 'with ' || group_concat(CASE rank
     ELSE counted(n, 'death not acknowledged', 'deaths not acknowledged') END, ' and ') AS told
   FROM (SELECT h.grp, l.rank, count(*) AS n FROM led_by l JOIN finding_head h USING (id) GROUP BY 1, 2 ORDER BY 1, 2)
   GROUP BY 1) l WHERE l.grp = finding_group.grp;
-
--- Who talks to whom, by handle and code.
-CREATE TABLE traffic(upid INTEGER NOT NULL, handle INTEGER NOT NULL, generation INTEGER NOT NULL, code INTEGER NOT NULL,
-  oneway INTEGER NOT NULL, sends INTEGER NOT NULL, failed INTEGER NOT NULL, refused INTEGER NOT NULL,
-  open INTEGER NOT NULL, bytes INTEGER NOT NULL, delivered INTEGER NOT NULL, one_fits INTEGER NOT NULL,
-  buffers INTEGER NOT NULL, buffers_peak INTEGER, longest_seq INTEGER, node_upid INTEGER, ptr INTEGER,
-  cookie INTEGER, longest INTEGER) STRICT;
--- beside: nodes.sql
-INSERT INTO traffic
-SELECT g.upid, g.handle, x.generation, x.code, x.oneway, x.sends, x.failed, x.refused, x.open,
-  CAST(min(x.bytes, 9e18) AS INTEGER), x.delivered, x.one_fits, x.buffers, x.peak, x.longest_seq, n.upid, n.ptr, n.cookie,
-  x.longest
-FROM sent_sum x CROSS JOIN raw_generation g ON g.id = x.generation LEFT JOIN node_of n ON n.generation = x.generation;

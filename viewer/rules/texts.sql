@@ -1,7 +1,7 @@
 -- The names, the path and the note of each finding, for who reads the database: here columns become texts.
 -- needs: database/schema.sql: finding; database/views.sql: process; nodes.sql: who; paths.sql: finding_names, path_of,
 --   way_path; judging.py: note_text
--- after: causes.sql, culprits.sql
+-- after: matters.sql
 -- makes: nothing
 
 UPDATE finding SET (interface, others, method, service, path) = (

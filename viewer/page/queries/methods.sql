@@ -1,6 +1,6 @@
 -- The calls that have a name: interface, code, method, where that is from, and how many were sent; most first. ?1: the
 -- most rows.
--- needs: database/schema.sql: call_interface, method; database/views.sql: interface; rules/groups.sql: traffic
+-- needs: database/schema.sql: call_interface, method; database/views.sql: interface; rules/matters.sql: traffic
 -- makes: columns: name, code, method, source, n
 SELECT i.name, t.code, m.method, m.source, sum(t.sends) AS n
 FROM traffic t JOIN call_interface c

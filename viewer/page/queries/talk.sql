@@ -1,5 +1,5 @@
 -- Who talks to whom, the most sends first. ?1: the most rows.
--- needs: rules/groups.sql: traffic
+-- needs: rules/matters.sql: traffic
 -- makes: columns: upid, handle, node_upid, ptr, code, oneway, delivered, one_fits, sends, failed, open, bytes, buffers,
 --   buffers_peak, longest, longest_seq
 SELECT upid, handle, node_upid, ptr, code, oneway, delivered, one_fits, sends, failed, open, bytes, buffers,
