@@ -11,7 +11,7 @@ CREATE TEMP TABLE buffer_path(relation TEXT, code INTEGER, about INTEGER, node I
   good INTEGER, longest_seq INTEGER, longest INTEGER);
 -- beside: nodes.sql
 INSERT INTO buffer_path
-WITH d AS MATERIALIZED (
+WITH d AS (
   SELECT
     CASE WHEN d.reply THEN 'reply to' WHEN d.oneway THEN 'oneway at' ELSE 'at' END AS relation,
     d.code,
@@ -24,13 +24,11 @@ WITH d AS MATERIALIZED (
     d.longest_seq,
     d.longest
   FROM (SELECT 1 FROM finding WHERE section = 'buffers' LIMIT 1) CROSS JOIN came_sum d
-    LEFT JOIN node_of n ON n.generation = d.generation),
-  kept AS MATERIALIZED (SELECT DISTINCT relation, code, about, node, cookie FROM d WHERE good < n)
-SELECT d.relation, d.code, d.about, d.node, d.receiver, sum(d.n) AS n, sum(d.good) AS good,
-  max(d.longest_seq) AS longest_seq, max(d.longest) AS longest
-FROM d CROSS JOIN kept k ON k.about = d.about AND k.code IS d.code AND k.node IS d.node AND k.cookie IS d.cookie
-    AND k.relation = d.relation
-GROUP BY 1, 2, 3, 4, 5;
+    LEFT JOIN node_of n ON n.generation = d.generation)
+SELECT relation, code, about, node, receiver, sum(n) AS n, sum(good) AS good, max(longest_seq) AS longest_seq,
+  max(longest) AS longest
+FROM (SELECT *, sum(n - good) OVER (PARTITION BY relation, code, about, node, cookie) AS kept FROM d)
+WHERE kept > 0 GROUP BY 1, 2, 3, 4, 5;
 CREATE UNIQUE INDEX temp.buffer_path_of ON buffer_path(about, node, code, relation, receiver);
 UPDATE finding SET (n_all, n_good, longest_seq, longest) = (
   SELECT sum(n), sum(good), max(longest_seq), max(longest) FROM buffer_path b

@@ -1,6 +1,7 @@
 -- Freeze notifications: which were acknowledged, and which clears were confirmed. The report counts their records as
 -- opaque, so what stays open, or answers nothing, becomes a finding here.
 -- needs: database/schema.sql: finding, raw_generation, raw_record, raw_thread, report
+-- after: nodes.sql
 -- makes: temporary tables: freeze_record, freeze_about, freeze_dropped, freeze_step; indexes: freeze_place,
 --   freeze_cookie, freeze_about_place, freeze_dropped_place
 

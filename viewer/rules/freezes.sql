@@ -1,6 +1,6 @@
 -- D, M, P, T, U: freeze notifications, and clears of them.
--- needs: database/schema.sql: book_opening, finding, raw_record, side_time; freeze_facts.sql: freeze_dropped,
---   freeze_record; nodes.sql: node_of; ages.sql: begun, ended, last, leaving, old, process_life; rule.sql: lossy
+-- needs: database/schema.sql: book_opening, finding, raw_record, side_time; nodes.sql: node_of; freeze_facts.sql:
+--   freeze_dropped, freeze_record; ages.sql: begun, ended, last, leaving, old, process_life; rule.sql: lossy
 -- makes: temporary tables: freeze_told, freeze_news, begun_freeze; indexes: freeze_told_of, freeze_news_of
 
 -- ---- what findings are called
