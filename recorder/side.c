@@ -5,10 +5,17 @@
 #include <stdlib.h>
 #include <string.h>
 
+#define MOST_OF_FRAMES 4096u		/* the bytes of a line of frames are fewer */
+#define LONGEST_DELTA 21u		/* a space, perhaps a sign, and a number below 2^63 */
+
 static struct file side;
 static int waits;
 static char *waiting;			/* what waits, without a NUL at its end */
 static u64 waiting_bytes, waiting_room;
+static struct {				/* the line of frames that is being written */
+	int is_open;			/* it has no end yet */
+	u64 number, time, bytes;	/* of its last frame; and how long it is */
+} frames;
 
 static const char *const reasons[REASON_END] = {
 	[REASON_NONE] = "none",
@@ -31,38 +38,6 @@ const char *reason_word(u32 reason)
 	return reason < REASON_END ? reasons[reason] : "unknown";
 }
 
-int side_create(const char *out, u32 number)
-{
-	char path[4096];
-	if (number)
-		snprintf(path, sizeof path, "%s-%u.side", out, number);
-	else
-		snprintf(path, sizeof path, "%s.side", out);
-	int error = file_create(&side, path);
-	side_text("binder side list 2\n");
-	return error;
-}
-
-int side_close(void)
-{
-	return file_close(&side);
-}
-
-u64 side_bytes(void)
-{
-	return side.bytes;
-}
-
-const char *side_path(void)
-{
-	return side.path;
-}
-
-void side_remove(void)
-{
-	file_remove(&side);
-}
-
 static void add_waiting(const char *text, u64 bytes)
 {
 	if (waiting_bytes + bytes > waiting_room) {
@@ -81,24 +56,68 @@ static void add(const char *text, u64 bytes)
 		file_add(&side, text, bytes);
 }
 
+/* Ends the line of frames that is being written, if there is one: after it comes another line, or nothing for a while. */
+static void end_frames(void)
+{
+	if (frames.is_open)
+		add("\n", 1);
+	frames.is_open = 0;
+}
+
+int side_create(const char *out, u32 number)
+{
+	char path[4096];
+	if (number)
+		snprintf(path, sizeof path, "%s-%u.side", out, number);
+	else
+		snprintf(path, sizeof path, "%s.side", out);
+	int error = file_create(&side, path);
+	side_text("binder side list 3\n");
+	return error;
+}
+
+int side_close(void)
+{
+	end_frames();
+	return file_close(&side);
+}
+
+u64 side_bytes(void)
+{
+	return side.bytes;
+}
+
+const char *side_path(void)
+{
+	return side.path;
+}
+
+void side_remove(void)
+{
+	file_remove(&side);
+}
+
 void side_text(const char *text)
 {
+	end_frames();
 	add(text, strlen(text));
 }
 
 void side_wait(void)
 {
+	end_frames();
 	waits = 1;
 }
 
 void side_go_on(void)
 {
+	end_frames();
 	waits = 0;
 }
 
 void side_let_go(void)
 {
-	waits = 0;
+	side_go_on();
 	if (waiting_bytes)
 		file_add(&side, waiting, waiting_bytes);
 	free(waiting);
@@ -132,20 +151,53 @@ static char *digits_before(char *end, u64 number)
 	return end;
 }
 
-/* There is one for each frame, so it is made without vsnprintf. */
+/* Puts the beginning of a line of frames before `end`. Returns where it begins. */
+static char *first_before(char *end, u64 time, u64 number)
+{
+	static const char word[] = " frames ";
+	char *begin = digits_before(end, number) - (sizeof word - 1);
+	memcpy(begin, word, sizeof word - 1);
+	return digits_before(begin, time);
+}
+
+/* Puts how much later than the last frame this one came before `end`. A frame may have an earlier time than the last
+ * one, whose number another processor took. */
+static char *delta_before(char *end, u64 time)
+{
+	int is_earlier = time < frames.time;
+	char *begin = digits_before(end, is_earlier ? frames.time - time : time - frames.time);
+	if (is_earlier)
+		*--begin = '-';
+	*--begin = ' ';
+	return begin;
+}
+
+static int is_next_in_line(u64 number)
+{
+	return frames.is_open && number == frames.number + 1 && frames.bytes + LONGEST_DELTA < MOST_OF_FRAMES;
+}
+
+/* It is called for each frame, so what it adds is made without vsnprintf. */
 void side_frame(u64 time, u64 number)
 {
-	static const char word[] = " frame ";
-	char line[64], *end = line + sizeof line, *begin = end - 1;
-	*begin = '\n';
-	begin = digits_before(begin, number) - (sizeof word - 1);
-	memcpy(begin, word, sizeof word - 1);
-	begin = digits_before(begin, time);
+	char text[64], *end = text + sizeof text, *begin;
+	if (is_next_in_line(number)) {
+		begin = delta_before(end, time);
+	} else {
+		end_frames();
+		frames.bytes = 0;
+		begin = first_before(end, time, number);
+	}
 	add(begin, (u64)(end - begin));
+	frames.is_open = 1;
+	frames.number = number;
+	frames.time = time;
+	frames.bytes += (u64)(end - begin);
 }
 
 int side_flush(void)
 {
+	end_frames();
 	return file_flush(&side);
 }
 

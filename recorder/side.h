@@ -13,7 +13,7 @@ void side_remove(void);
 #define LONGEST_LINE 2048
 /* Adds a line of less than LONGEST_LINE bytes: the time, a space, and the rest. */
 void side_line(u64 time, const char *format, ...) __attribute__((format(printf, 2, 3)));
-/* Adds the line of a frame: the time and the number. */
+/* Adds a frame: the next one to the line of the frame before it, if nothing came between. */
 void side_frame(u64 time, u64 number);
 /* Adds text: whole lines, as they are. */
 void side_text(const char *text);

@@ -23,9 +23,10 @@ from viewer import window  # noqa: E402
 from viewer.command_line import Words  # noqa: E402
 from viewer.database import raw_tables  # noqa: E402
 from viewer.database.side_beside import side_beside  # noqa: E402
-from viewer.database.side_list import FRAME_LINE, SideList, joined_sides  # noqa: E402
+from viewer.database.side_list import SideList, joined_sides, times_in  # noqa: E402
 from viewer.files import Stopped  # noqa: E402
 from viewer.terminal import tell, write  # noqa: E402
+from viewer.units import signed  # noqa: E402
 
 # The numbers that frames may have, as SQLite has them.
 MOST = 2**63 - 1
@@ -42,9 +43,8 @@ def database_of(sides: list[str]) -> sqlite3.Connection:
         taken = SideList(database)
         taken.load(path)
         with open(path, encoding="utf-8", errors="replace", newline="\n") as lines:
-            found = (FRAME_LINE.match(line) for line in lines)
-            database.executemany("INSERT OR REPLACE INTO side_time(ts, seq) VALUES (?, ?)",
-                                 ((int(it[1]), int(it[2])) for it in found if it))
+            database.executemany("INSERT OR REPLACE INTO side_time(seq, ts) VALUES (?, ?)",
+                                 ((signed(number), time) for number, time in times_in(lines)))
     first, last = database.execute("SELECT (SELECT ts FROM side_time ORDER BY seq LIMIT 1),"
                                    " (SELECT ts FROM side_time ORDER BY seq DESC LIMIT 1)").fetchone()
     facts = {**taken.facts, "first_ts": first, "until_ts": taken.facts.get("end_ts", last)}

@@ -13,6 +13,7 @@ from typing import Callable, Iterator, NamedTuple
 from checks.hostile.mutations import WORDS, changed_bytes, changed_capture, changed_lines, changed_source, encoded
 from checks.hostile.plays import Play, Player
 from checks.kit.programs import CHECKS, DRIVER, ROOT, SMALL
+from checks.kit.side_lists import LONGEST as LONGEST_LINE, packed
 from checks.lab.mutated import VALUES, mutated_results
 from lab import store
 
@@ -111,13 +112,20 @@ def session_in(chance: random.Random, room: pathlib.Path) -> None:
             shutil.copyfile(folder / what, room / f"capture.end.{what}")
 
 
+def in_some_form(chance: random.Random, side: bytes) -> bytes:
+    """A side list as it is, or with many frames in a line."""
+    text = side.decode("utf-8", "surrogateescape")
+    return packed(text, chance.choice((40, LONGEST_LINE))).encode("utf-8", "surrogateescape") \
+        if chance.random() < 0.5 else side
+
+
 SIDE = ("capture-1.cap", "--side", "capture.side")
 
 
 def sides(chance: random.Random, _: Stock, room: pathlib.Path) -> Iterator[Play]:
     session_in(chance, room)
     side, capture = room / "capture.side", room / "capture-1.cap"
-    side.write_bytes(changed_lines(chance, side.read_bytes()))
+    side.write_bytes(changed_lines(chance, in_some_form(chance, side.read_bytes())))
     if chance.random() < 0.2:
         capture.write_bytes(changed_capture(chance, capture.read_bytes(), chance.choice(CAPTURES).read_bytes()))
     yield view(chance, *SIDE)

@@ -21,7 +21,7 @@ from checks.kit.checking import FLAG, Fail, check, row
 from checks.kit.programs import CHECKS
 
 # How many instructions a call may take, by the bytes of its data.
-CEILINGS = {128: 11_300, 65_536: 12_300}
+CEILINGS = {128: 10_800, 65_536: 11_900}
 CALLS = 400
 
 

@@ -20,6 +20,9 @@ enum {
 	KEPT = 100,		/* of these before a write ends that they wait for */
 	DATA = 1 << 20,
 	RECORD = 4 + sizeof(struct binder_transaction_data),
+	SHARING = 2000,		/* frames in as few lines as there can be, */
+	FIRST_SHARING = 1000000,
+	LATER = 1234567890,	/* each so many nanoseconds later than the one before it */
 };
 
 static u64 last;		/* the number that was taken last */
@@ -268,6 +271,67 @@ static void command_lines(void)
 	redacted_commands();
 }
 
+/* Reads lines of frames of the side list back, from this number on. Returns how many frames follow each other, each so
+ * much later than the one before it; the time of the first one is 0. */
+static u64 read_back(u64 first, u64 later)
+{
+	u64 bytes, next = first;
+	char *text = whole_file(side_path(), &bytes);
+	for (char *line = text, *at; line; line = strchr(line + 1, '\n')) {
+		u64 time = strtoull(line, &at, 10);
+		if (strncmp(at, " frames ", 8) || strtoull(at + 8, &at, 10) != next)
+			continue;
+		for (; time == later * (next - first); time += strtoull(at, &at, 10)) {
+			next++;
+			if (*at != ' ')
+				break;
+		}
+	}
+	free(text);
+	return next - first;
+}
+
+/* How many bytes the longest line of frames has, with its end. */
+static u64 longest_line(void)
+{
+	u64 bytes, longest = 0;
+	char *text = whole_file(side_path(), &bytes);
+	for (char *line = strtok(text, "\n"); line; line = strtok(NULL, "\n"))
+		if (strstr(line, " frames ") && strlen(line) + 1 > longest)
+			longest = strlen(line) + 1;
+	free(text);
+	return longest;
+}
+
+/* Frames share lines. A line ends before another one, also if that waits, before a number that does not follow, where the
+ * list is handed to the system, and before it is too long. */
+static void lines_of_frames(void)
+{
+	static const u64 times[] = { 1000, 1007, 1003, 1003 };
+	parts_flush();
+	for (u64 i = 0; i < 4; i++)
+		side_frame(times[i], 5 + i);
+	side_line(1, "lost 9");
+	side_frame(2000, 10);
+	side_flush();
+	side_frame(2001, 11);
+	side_frame(3000, 13);
+	side_wait();
+	side_line(1, "waits");
+	side_go_on();
+	side_frame(4000, 14);
+	side_let_go();
+	side_flush();
+	should(is_last_line("\n1000 frames 5 7 -4 0\n1 lost 9\n2000 frames 10\n2001 frames 11\n3000 frames 13\n"
+			    "4000 frames 14\n1 waits\n"), "lines of frames", 0);
+	for (u64 i = 0; i < SHARING; i++)
+		side_frame(i * LATER, FIRST_SHARING + i);
+	side_flush();
+	should(read_back(FIRST_SHARING, LATER) == SHARING, "frames read back", (double)read_back(FIRST_SHARING, LATER));
+	should(longest_line() > 4096 - 22 && longest_line() <= 4096, "bytes of the longest line of frames",
+	       (double)longest_line());
+}
+
 int main(int count, char **words)
 {
 	static const char name[NAME_BYTES] = "caller";
@@ -283,6 +347,7 @@ int main(int count, char **words)
 	redact_begin(1);
 	long_settling();
 	command_lines();
+	lines_of_frames();
 	if (parts_end())
 		fail("the files can't be written");
 	return failed;

@@ -2,11 +2,11 @@
 # Checks that no caller can hold up the recorder's loader, or make it keep more than it may: one frame with 30,000
 # entries, 200,000 ends of processes while a write waits, 500 MiB of other frames while a write waits, and 100 MiB of
 # frames that can be written at once, and are redacted. Also that command lines of all bytes are whole lines of the side
-# list. And if most frames of a flight recorder are written only when it ends, that the last side list tells of the
-# driver's books of the end, and each one of what was missed meanwhile, since older side lists are removed then. And that
-# a recording ends at one moment: what has its number by then is written later, and what comes later is in no line. And
-# that the side list says what the clocks show after a sleep, and after the wall clock was set back, at once and in each
-# later list, and at the end. And that
+# list, and that frames share lines, which are read back. And if most frames of a flight recorder are written only when
+# it ends, that the last side list tells of the driver's books of the end, and each one of what was missed meanwhile,
+# since older side lists are removed then. And that a recording ends at one moment: what has its number by then is
+# written later, and what comes later is in no line. And that the side list says what the clocks show after a sleep, and
+# after the wall clock was set back, at once and in each later list, and at the end. And that
 # no process can take the files of a flight recorder for what it names and opens: each file has its frames, be the first
 # lines of its side list ever so many. If there is no room for more openings, the side lists say who has them. And that
 # names which somebody else makes in the same folder end no recording. And that a command line that the program in the
@@ -38,13 +38,21 @@ tells() { # OUT DUE SIDE..
   done < <(sed -nE 's/^[0-9]+ books ([a-z]+) ([a-z]+) .* bytes=([0-9]+)$/\1.\2 \3/p' "${@:3}")
 }
 
-# Checks the lines of what ends and is lost, the last frame, and that no frame is later than the end.
+# Prints side lists with a line for each frame.
+each_frame() { # SIDE..
+  awk '$2 != "frames" { print; next }
+    { time = $1; for (at = 3; at <= NF; at++) { if (at > 3) time += $at; printf "%.0f frame %.0f\n", time, $3 + at - 3 } }' "$@"
+}
+
+# Checks the lines of what ends and is lost, the last frame, that none is missing before it, and that no frame is later
+# than the end.
 ends_at_once() { # SIDE
   local due told
   due=$'end pid 2001 after=103\nend recording after=103 frames=103 lost=0\nframe 103 in time'
-  told=$(awk '$2 == "frame" { last = $3; if ($1 > latest) latest = $1 }
+  told=$(each_frame "$1" | awk '$2 == "frame" { if ($3 != last + 1) print "no frame", last + 1
+      last = $3; if ($1 > latest) latest = $1 }
     $2 == "end" || $2 == "lost" { time = $1; sub(/^[0-9]+ /, ""); print }
-    END { print "frame", last, (latest > time ? "late" : "in time") }' "$1")
+    END { print "frame", last, (latest > time ? "late" : "in time") }')
   if [[ $told != "$due" ]]; then
     printf 'checks/loader: the end of a recording: %s\n' "$told" && failed=1
   fi
@@ -69,7 +77,7 @@ failed=0
 # Large attachments are written from the ring if it has few bytes for its size. In one of 64 MiB they all stay there, in
 # one of 4 MiB some, and else all are copied.
 "$here/build.sh" lent "$room"
-lists_of() { sed 's/^[0-9]* //' "$1"-*.side; }
+lists_of() { each_frame "$1"-*.side | sed 's/^[0-9]* //'; }
 same_files() { cmp -s <(cat "$1"-*.cap) <(cat "$2"-*.cap) && cmp -s <(lists_of "$1") <(lists_of "$2"); }
 for how in '' redact; do
   for ring in copied 67108864 4194304; do "$room/lent" "$room/lent$how-$ring" "$ring" $how || failed=1; done

@@ -20,9 +20,10 @@ What must hold:
   found no space at their receiver has a table of what filled it.
 - Page, database and side list of a capture have no secret of its payloads, and a redacted capture has none either.
 - A side list of another form, or of another capture, what is no side list, and a line that is none, are refused in a
-  line; a list that is cut while it is loaded crashes nothing. If a side list may belong to another capture, a line says
-  so. A thread that changed its name has the last one, and what that costs has a ceiling. If frames are later than the
-  end of the recording, a line says how many.
+  line; a list that is cut while it is loaded crashes nothing. A list with many frames in a line has in the database
+  what it has with a line for each. If a side list may belong to another capture, a line says so. A thread that changed
+  its name has the last one, and what that costs has a ceiling. If frames are later than the end of the recording, a
+  line says how many.
 - A malformed capture, in one file or in parts, has a page with the line of its fault and what comes before it, and
   status 2. Standard error and the first line of --groups name the file and what the fault means; the status is 2 with
   --fail-on too.
@@ -78,7 +79,8 @@ from checks.viewer.page.packed import check_broken, check_packed, check_timing
 from checks.viewer.page.sections import check_filled, check_sections
 from checks.viewer.page.services import check_manager, check_services
 from checks.viewer.page.sides import (check_files, check_forms, check_last_names, check_late, check_list_of_loader,
-                                      check_loader, check_no_lists, check_renames, check_side, check_times)
+                                      check_loader, check_no_lists, check_packed_lists, check_renames, check_side,
+                                      check_times)
 from checks.viewer.page.stacks import check_stacks
 from checks.viewer.page.users import check_bits, check_packages
 from checks.viewer.page.words import (check_hostile, check_no_engine, check_python, check_secrets, check_stopped,
@@ -92,9 +94,9 @@ from viewer.database import raw_tables
 BY_SCRIPTS = parts_of(check_templates, check_words, check_stopped, check_no_engine, check_python, check_version)
 OTHERS = parts_of(
     check_malformed, check_pipes, check_names, check_changing, check_again, check_whole, check_terminal, check_beside,
-    check_side, check_forms, check_no_lists, check_list_of_loader, check_renames, check_last_names, check_files,
-    check_secrets, check_told, check_untimed, check_late, check_hostile, check_methods, check_unnamed, check_services,
-    check_manager, check_times, check_loader, check_packed, check_broken, check_timing, check_agreement,
+    check_side, check_forms, check_no_lists, check_list_of_loader, check_packed_lists, check_renames, check_last_names,
+    check_files, check_secrets, check_told, check_untimed, check_late, check_hostile, check_methods, check_unnamed,
+    check_services, check_manager, check_times, check_loader, check_packed, check_broken, check_timing, check_agreement,
     check_copies, check_bad_books, check_long_books, check_commands, check_sections, check_filled, check_packages,
     check_bits, check_stacks, check_growth, check_against, check_moments, check_windows)
 

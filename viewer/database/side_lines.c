@@ -1,6 +1,6 @@
 /*
  * The lines of a side list. Nearly all are of frames and of their calls, and are loaded here. The others are for
- * viewer/database/side_list.py, which takes longer for a line: a file gets them, and before each the last line of a
+ * viewer/database/side_list.py, which takes longer for a line: a file gets them, and before each a line of the last
  * frame that comes before it in the list, since some of them mean the number of that frame.
  */
 #include <errno.h>
@@ -11,7 +11,14 @@
 
 #include "load.h"
 
-enum { MOST_DIGITS = 20, LONGEST_LINE = 1 << 22, LONGEST_LOADED = 3 * MOST_DIGITS + sizeof " frame  stack=" };
+enum { MOST_DIGITS = 20, LONGEST_LINE = 1 << 22 };
+
+/* A frame of a line, and where the line goes on. */
+struct frame {
+	sqlite3_int64 time;
+	uint64_t number;
+	const char *at, *end;
+};
 
 struct side_list {
 	const char *path, *others_path;
@@ -21,7 +28,8 @@ struct side_list {
 	struct packer *times;		/* NULL: times are no packed rows */
 	size_t length, room;
 	char *line;
-	char frame[LONGEST_LOADED + 1];	/* the last line of a frame, if OTHERS has not got it */
+	struct frame last;		/* the last frame that came, */
+	int is_due;			/* if OTHERS has not got it */
 };
 
 /* Reads a number of at most 20 digits, below 2^64. Returns what follows it; NULL if there is no such number. */
@@ -51,11 +59,52 @@ static const char *after_word(const char *at, const char *end, const char *word)
 	return at && (size_t)(end - at) >= length && !memcmp(at, word, length) ? at + length : NULL;
 }
 
-/* Whether a line is one of a frame: a time, the word, a number, and nothing else. */
-static int is_of_frame(const char *line, const char *end, sqlite3_int64 *time, sqlite3_int64 *number)
+/* Whether a line begins as one of frames: with a time, this word, and the number of the first frame. */
+static int begins_frames(const char *line, const char *end, const char *word, struct frame *frame)
 {
-	const char *at = after_word(after_time(line, end, time), end, " frame ");
-	return at && after_number(at, end, number) == end;
+	sqlite3_int64 number;
+	const char *at = after_word(after_time(line, end, &frame->time), end, word);
+	frame->at = at ? after_number(at, end, &number) : NULL;
+	frame->end = end;
+	frame->number = frame->at ? (uint64_t)number : 0;
+	return frame->at != NULL;
+}
+
+/* Reads how much later a frame is than the one before it, below 2^63 and with a sign if it is earlier. */
+static const char *after_delta(const char *at, const char *end, sqlite3_int64 *delta)
+{
+	*delta = 0;
+	const char *earlier = after_word(at, end, "-");
+	at = at ? after_number(earlier ? earlier : at, end, delta) : NULL;
+	if (*delta < 0)
+		return NULL;
+	*delta = earlier ? -*delta : *delta;
+	return at;
+}
+
+/* Goes on to the next frame of a line. Returns 0 if there is none, or what follows is wrong. */
+static int next_frame(struct frame *frame)
+{
+	sqlite3_int64 delta;
+	const char *at = after_delta(after_word(frame->at, frame->end, " "), frame->end, &delta);
+	if (!at || frame->number == UINT64_MAX || __builtin_add_overflow(frame->time, delta, &frame->time) || frame->time < 0)
+		return 0;
+	frame->number++;
+	frame->at = at;
+	return 1;
+}
+
+/* Whether a line is one of frames, from its beginning to its end. */
+static int is_of_frames(const char *line, const char *end, struct frame *first)
+{
+	if (begins_frames(line, end, " frame ", first))
+		return first->at == end;
+	if (!begins_frames(line, end, " frames ", first))
+		return 0;
+	struct frame last = *first;
+	while (next_frame(&last))
+		continue;
+	return last.at == end;
 }
 
 /* Whether a line is one of the stack of a call. */
@@ -76,21 +125,30 @@ static void add(struct side_list *list, sqlite3_stmt *to, sqlite3_int64 first, s
 	sqlite3_reset(to);
 }
 
-static void add_frame(struct side_list *list, sqlite3_int64 number, sqlite3_int64 time)
+static void add_frame(struct side_list *list, const struct frame *frame)
 {
+	sqlite3_int64 number = (sqlite3_int64)frame->number;
 	if (list->times)
-		packer_add(list->times, 3, (int64_t[]){ number, time });
+		packer_add(list->times, 3, (int64_t[]){ number, frame->time });
 	else
-		add(list, list->add_time, number, time);
-	memcpy(list->frame, list->line, list->length);
-	list->frame[list->length] = 0;
+		add(list, list->add_time, number, frame->time);
+}
+
+static void add_frames(struct side_list *list, struct frame frame)
+{
+	do
+		add_frame(list, &frame);
+	while (next_frame(&frame));
+	list->last = frame;
+	list->is_due = 1;
 }
 
 static void hand_frame_on(struct side_list *list)
 {
-	if (list->others && *list->frame && fprintf(list->others, "%s\n", list->frame) < 0)
+	if (list->others && list->is_due && fprintf(list->others, "%llu frame %llu\n", (unsigned long long)list->last.time,
+						    (unsigned long long)list->last.number) < 0)
 		stop("%s: %s", list->others_path, strerror(errno));
-	*list->frame = 0;
+	list->is_due = 0;
 }
 
 static void hand_line_on(struct side_list *list, int is_whole)
@@ -104,14 +162,13 @@ static void hand_line_on(struct side_list *list, int is_whole)
 
 static void take_line(struct side_list *list)
 {
-	sqlite3_int64 first = 0, second = 0;
+	struct frame frame;
+	sqlite3_int64 number = 0, stack = 0;
 	const char *end = list->line + list->length;
-	if (list->length > LONGEST_LOADED)
-		hand_line_on(list, 1);
-	else if (is_of_frame(list->line, end, &first, &second))
-		add_frame(list, second, first);
-	else if (list->others && is_of_call(list->line, end, &first, &second))
-		add(list, list->add_call, first, second);
+	if (is_of_frames(list->line, end, &frame))
+		add_frames(list, frame);
+	else if (list->others && is_of_call(list->line, end, &number, &stack))
+		add(list, list->add_call, number, stack);
 	else
 		hand_line_on(list, 1);
 }

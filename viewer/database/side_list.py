@@ -1,9 +1,10 @@
 """The side list of the recorder, line by line into the tables `side_..`."""
 
+import itertools
 import pathlib
 import re
 import sqlite3
-from typing import Iterable, NamedTuple
+from typing import Iterable, Iterator, NamedTuple
 
 from viewer.database import side_belongs
 from viewer.database.finders import Finders, Query
@@ -93,8 +94,8 @@ def drivers_of(text: str) -> dict[tuple[int, int], str]:
     return found
 
 
-# The first lines of the forms that are read: of earlier recorders, and of today's.
-VERSIONS = {"binder side list 1\n": 1, "binder side list 2\n": 2}
+# The first lines of the forms that are read: of earlier recorders, and of today's, the last one.
+VERSIONS = {f"binder side list {version}\n": version for version in (1, 2, 3)}
 
 
 def version_of(first: str, path: str) -> int:
@@ -102,7 +103,7 @@ def version_of(first: str, path: str) -> int:
     if first in VERSIONS:
         return VERSIONS[first]
     what = "is empty, and no" if not first else "is a capture, and no" if first.startswith("BNDRCAP") else "is not a"
-    raise Stopped(4, f"{path} {what} side list of version 1 or 2")
+    raise Stopped(4, f"{path} {what} side list of version 1, 2 or 3")
 
 
 def refuse_others(paths: list[str]) -> None:
@@ -142,11 +143,37 @@ MOST_OF_STACK = 64
 # BR_FROZEN_REPLY.
 ANSWERS = {0x7205: 261, 0x7211: 273, 0x7212: 274}
 
-# The time and the number of a frame, of at most 18 digits each.
+# The time and the number of a frame, of at most 18 digits each, in a list of an earlier recorder.
 FRAME_LINE = re.compile(r"([0-9]{1,18}) frame ([0-9]{1,18})\n")
 
 # The number of a frame and that of its stack.
 CALL_LINE = re.compile(r"[0-9]{1,18} call ([0-9]{1,18}) stack=([0-9]{1,18})\n")
+
+
+def delta(word: str) -> int:
+    """How much later a frame is than the one before it, with a sign if it is earlier."""
+    size = decimal(word.removeprefix("-"), 63)
+    return -size if word.startswith("-") else size
+
+
+def frames_of(time: int, words: list[str]) -> tuple[int, list[int]]:
+    """The frames of a line `frames`, by its time and the words after that: the number of the first one, and the times
+    of all."""
+    first, times = decimal(words[0], 64), list(itertools.accumulate(map(delta, words[1:]), initial=time))
+    if first + len(times) > 2**64 or min(times) < 0 or max(times) >= 2**63:
+        raise OverflowError(words)
+    return first, times
+
+
+def times_in(lines: Iterable[str]) -> Iterator[tuple[int, int]]:
+    """The numbers and the times of the frames in a side list, whose lines are good."""
+    for line in lines:
+        if frame := FRAME_LINE.match(line):
+            yield int(frame[2]), int(frame[1])
+        elif line.endswith("\n") and line.partition(" ")[2].startswith("frames "):
+            time, _, *words = line.split()
+            first, times = frames_of(int(time), words)
+            yield from enumerate(times, first)
 
 
 class SideList:
@@ -212,7 +239,7 @@ class SideList:
 
     def read_lines(self, lines: Iterable[str], path: str) -> None:
         for line in lines:
-            # Nearly all lines are those of frames and of their stacks, so they are not split like the others.
+            # Nearly all lines may be those of a frame and of its stack, so they are not split like the others.
             if frame := FRAME_LINE.match(line):
                 self.frame = frame
             elif call := CALL_LINE.match(line):
@@ -242,6 +269,13 @@ class SideList:
     def take_frame(self, _: int, positional: list[str], __: dict[str, str]) -> None:
         """A frame with a number of more digits than FRAME_LINE has."""
         self.told = max(self.told, *numbers(positional, 1))
+
+    def take_frames(self, time: int, positional: list[str], keyed: dict[str, str]) -> None:
+        """The last number of the line counts."""
+        if keyed:
+            raise ValueError(keyed)
+        first, times = frames_of(time, positional)
+        self.told = max(self.told, signed(first + len(times) - 1))
 
     def take_begin(self, time: int, _: list[str], keyed: dict[str, str]) -> None:
         if self.version > 1 and not BEGIN_FIELDS <= keyed.keys():

@@ -18,6 +18,7 @@ from collections import Counter, defaultdict
 from checks.kit.captures import BR_TRANSACTION, BR_TRANSACTION_SEC_CTX
 from checks.kit.frames import frames_of
 from checks.kit.programs import ROOT
+from checks.kit.side_lists import packed
 from checks.recorder.driver import books as books_of
 from checks.recorder.driver import side_form
 from checks.recorder.driver.recording import Recording, Report, report_on
@@ -112,21 +113,25 @@ def witness_differences(recording, folder):
 # ---- one scenario
 
 def lost_differences(recording):
-    """Each number that no frame has must have its line in the side list."""
+    """Each number that no frame has must have its line in the side list, and each frame its time there."""
     told = {number for number, _ in recording.lost}
     used = [frame.sequence for frame in recording.frames]
     first = used[0] if recording.is_cut else 1
     unused = set(range(first, used[-1] + 1)) - set(used) if used else set()
     if not unused <= told:
         yield "lost", "all", "untold", len(unused - told), 0
+    if untimed := set(used) - recording.timed:
+        yield "lost", "all", "untimed", len(untimed), 0
     for why, count in sorted(Counter(why for _, why in recording.lost).items()):
         yield "lost", "all", why, count, 0
 
 
-def form_differences(recording):
-    """Each side list has the form that its page describes. In another form it is told."""
+def form_differences(recording, is_stored):
+    """Each side list has the form that its page describes, and a stored one of an earlier recorder has it with many
+    frames in a line. In another form it is told."""
     for path in recording.sides:
         text = path.read_text("utf-8", errors="surrogateescape")
+        text = packed(text) if is_stored else text
         if wrong := side_form.faults(text):
             yield "form", path.stem, wrong[0][:80], len(wrong), 0
         elif untold := sum(not side_form.faults(one) for one in side_form.wrong_forms(text)):
@@ -342,7 +347,8 @@ class Scenario:
         self.name, self.folder = folder.name.removesuffix("-rust"), folder  # as store.py calls some
         self.recording = Recording(folder)
         status = folder / "status"
-        self.status, self.how = status.read_text("utf-8").split()[:2] if status.exists() else ("0", "stored")
+        self.is_stored = not status.exists()
+        self.status, self.how = ("0", "stored") if self.is_stored else status.read_text("utf-8").split()[:2]
         code, text = report_on(auditor, self.recording.captures)
         if code == 2 and self.how == "killed" and self.recording.captures:
             with tempfile.TemporaryDirectory() as room:
@@ -374,7 +380,7 @@ class Scenario:
             return [("capture", "all", self.text.strip(), 0, 0)], {"capture"}
         if self.how in PARTIAL:
             found = [item for item in lost_differences(self.recording)
-                     if item[2] in ("untold", "broken", "not-written")]
+                     if item[2] in ("untold", "untimed", "broken", "not-written")]
             if self.how == "full" and "ring-full" not in {why for _, why in self.recording.lost}:
                 found.append(("lost", "all", "ring-full", 0, "some"))
             if self.how in ("late", "hidden") and self.recording.met != OPENINGS_BEFORE:
@@ -397,7 +403,7 @@ class Scenario:
                 found += view_differences(self.folder)
             found += copy_differences(self.how, self.recording, self.folder)
             found += end_differences(self.recording)
-            found += form_differences(self.recording)
+            found += form_differences(self.recording, self.is_stored)
             return found, {"capture", "lost", "names", "books", "end", "form"} | (
                 {"view"} if self.name == "before" else set())
         if self.books is None:
@@ -407,7 +413,7 @@ class Scenario:
         found += purpose_differences(self.name, self.report, self.recording)
         found += lost_differences(self.recording)
         found += end_differences(self.recording)
-        found += form_differences(self.recording)
+        found += form_differences(self.recording, self.is_stored)
         found += sender_differences(self.recording)
         found += bits_differences(self.how, self.recording)
         found += [("status", "all", "unsaid", words, 0) for words in SAYS.get(self.how, ()) if words not in self.output]

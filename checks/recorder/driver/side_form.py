@@ -5,13 +5,13 @@ from functools import cache
 
 from checks.kit.programs import ROOT
 
-FIRST_LINE = "binder side list 2"
+FIRST_LINE = "binder side list 3"
 NUMBER = "[0-9]+"
 # What the words in capitals stand for; all others stand for a number.
 KINDS = {
     **dict.fromkeys(("RELEASE", "MACHINE"), r"\S+"), **dict.fromkeys(("NAME", "COMMAND", "PATH"), ".*"),
     **dict.fromkeys(("WHEN", "WHICH", "WHAT", "WHY", "REASON", "MET"), "[a-z0-9-]+"),
-    "DEVICES": rf"(?:{NUMBER}:{NUMBER}:(?:C|Rust)(?:,|(?= |$)))*", "ADDRESS": "(?:0x[0-9a-f]+|-)",
+    "DELTA": "-?[0-9]+", "DEVICES": rf"(?:{NUMBER}:{NUMBER}:(?:C|Rust)(?:,|(?= |$)))*", "ADDRESS": "(?:0x[0-9a-f]+|-)",
     "ID": "(?:[0-9a-f]+|-)"}
 
 
@@ -31,13 +31,10 @@ def templates(text: str) -> list[str]:
 
 
 def pattern_of(template: str) -> str:
-    """A line without its time. `A,A..` is one A or more, with commas between."""
-    listed = re.sub(r"([A-Z]+),\1\.\.", r"\1+", template)
-
-    def kind(found: re.Match[str]) -> str:
-        one = KINDS.get(found[1], NUMBER)
-        return f"{one}(?:,{one})*" if found[2] else one
-    return re.sub(r"\b([A-Z]+)\b(\+?)", kind, listed)
+    """A line without its time. `A,A..` is one A or more, with commas between, and ` A A ..` none or more, with a space
+    before each."""
+    listed = re.sub(r"([A-Z]+),\1\.\.", r"\1(?:,\1)*", re.sub(r" ([A-Z]+) \1 \.\.", r"(?: \1)*", template))
+    return re.sub(r"\b[A-Z]+\b", lambda found: KINDS.get(found[0], NUMBER), listed)
 
 
 @cache
@@ -64,4 +61,4 @@ def faults(text: str) -> list[str]:
 
 def wrong_forms(text: str) -> tuple[str, ...]:
     """The list in two other forms: with `begin` as it was before, and under the first line of the form before."""
-    return re.sub(r" drivers=\S*", "", text), text.replace(FIRST_LINE, "binder side list 1", 1)
+    return re.sub(r" drivers=\S*", "", text), text.replace(FIRST_LINE, "binder side list 2", 1)

@@ -313,9 +313,9 @@ def detached(stage: Stage) -> None:
     time.sleep(5)
     end_adbd(stage)
     stage.connect(stage.serials[0])
-    before = stage.shell(f"cat {FOLDER}/capture-*.side | grep -c ' frame '").said
+    before = stage.shell(f"cat {FOLDER}/capture-*.side | grep -c ' frames '").said
     time.sleep(10)
-    after = stage.shell(f"cat {FOLDER}/capture-*.side | grep -c ' frame '").said
+    after = stage.shell(f"cat {FOLDER}/capture-*.side | grep -c ' frames '").said
     stage.must(f"it does not go on: {before} and {after}", before != after)
     came = stage.record(stage.serials[0], "--fetch", "-o", "flight")
     stage.line(came, 0, r"record: \d+ frames, 0 lost; .*", r"record: \d+ files, .*; next: \S+view flight-\d+\.cap .*")

@@ -8,6 +8,7 @@ import sqlite3
 
 from checks.kit.programs import CHECKS, DRIVER
 from checks.kit.runs import answer
+from checks.kit.side_lists import unpacked
 from checks.kit.stored import renew
 from checks.viewer.sessions.session import Session
 from viewer.database import loading
@@ -35,11 +36,11 @@ def stored(scenario: str) -> tuple[pathlib.Path, str, pathlib.Path]:
 
 
 def texts_stored(scenario: str) -> tuple[bytes, str]:
-    """The capture and the side list themselves. The list does not name the copies of the driver's books, which are not
-    beside what a check makes of it. Names may have any bytes."""
+    """The capture and the side list themselves, with a line for each frame. The list does not name the copies of the
+    driver's books, which are not beside what a check makes of it. Names may have any bytes."""
     capture, _, side = stored(scenario)
     text = side.read_text("utf-8", errors="surrogateescape")
-    return capture.read_bytes(), re.sub(r"^\d+ books .*\n", "", text, flags=re.MULTILINE)
+    return capture.read_bytes(), re.sub(r"^\d+ books .*\n", "", unpacked(text), flags=re.MULTILINE)
 
 
 def on_one_clock(side: str) -> str:

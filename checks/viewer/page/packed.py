@@ -117,13 +117,16 @@ def check_broken(folder: pathlib.Path, room: pathlib.Path, fail: Fail) -> None:
     compare("a loader that fails", told, f"{taken}: File exists", fail)
     _, packed = both_of(folder, room, capture, None)
     packed.close()
+    compare("this SQLite reads packed tables", raw_tables.can_pack(), True, fail)
     file = room / "packed-objects.db.raw_record"
     whole = file.read_bytes()
-    for number, bad in enumerate((b"", whole[:-8], whole[:-1] + b"\xff", whole[:100] + b"\xff" * 40 + whole[140:])):
+    none, malformed = f"SQLite: {file}: it holds no packed rows", "SQLite: database disk image is malformed"
+    for number, (bad, due) in enumerate(((b"", none), (whole[:-8], none), (whole[:-9] + b"\xff" + whole[-8:], none),
+                                         (whole[:100] + b"\xff" * 40 + whole[140:], malformed))):
         file.write_bytes(bad)
         database = open_database(room / "packed-objects.db")
         told = told_by(lambda: database.execute("SELECT sum(seq), sum(kind) FROM raw_record").fetchall())
-        compare(f"a wrong file {number}", told.startswith("SQLite: "), True, fail)
+        compare(f"a wrong file {number}", told, due, fail)
         database.close()
 
 

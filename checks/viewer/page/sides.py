@@ -14,6 +14,7 @@ from checks.kit.checking import Fail, compare
 from checks.kit.frames import frames_of
 from checks.kit.programs import DRIVER
 from checks.kit.rows import columns_of_tables, rows_of
+from checks.kit.side_lists import packed, unpacked
 from checks.viewer.page.common import loaded, texts_of, texts_stored, view
 from viewer.database import programs, raw_tables, side_list
 from viewer.database.sqlite import open_database
@@ -76,7 +77,7 @@ def check_late(folder: pathlib.Path, room: pathlib.Path, fail: Fail) -> None:
     """Of a recording that goes on after its end, as those of earlier recorders do, the page says how many frames are
     later."""
     here = DRIVER / "hung"
-    side = (here / "capture.side").read_text("utf-8")
+    side = unpacked((here / "capture.side").read_text("utf-8"))
     times = sorted(int(time) for time in re.findall(r"^(\d+) frame ", side, re.MULTILINE))
     for late in 0, 1, 3:
         (room / "late.side").write_text(re.sub(r"^\d+ end recording", f"{times[-1 - late]} end recording", side,
@@ -90,21 +91,22 @@ def check_late(folder: pathlib.Path, room: pathlib.Path, fail: Fail) -> None:
 # Side lists, and why ./view refuses them; "" if it reads them. Each has `begin` at 5.
 OLD_BEGIN = "realtime=1 kernel=6.1 machine=x86_64"
 FORMS = (
-    (1, OLD_BEGIN, ""), (2, f"{OLD_BEGIN} boottime=1 payloads=whole drivers=", ""),
-    *((2, f"{OLD_BEGIN} {lacking}", "the line 'begin' at 5 is not valid") for lacking in (
+    (1, OLD_BEGIN, ""),
+    *((version, f"{OLD_BEGIN} boottime=1 payloads=whole drivers=", "") for version in (2, 3)),
+    *((version, f"{OLD_BEGIN} {lacking}", "the line 'begin' at 5 is not valid") for version in (2, 3) for lacking in (
         "payloads=whole drivers=10:1:C", "boottime=1 drivers=10:1:C", "boottime=1 payloads=whole")),
-    (3, OLD_BEGIN, "is not a side list of version 1 or 2"))
+    (4, OLD_BEGIN, "is not a side list of version 1, 2 or 3"))
 
 
 def check_forms(_: pathlib.Path, room: pathlib.Path, fail: Fail) -> None:
-    """A side list is of one of two versions, and in the second one `begin` has all its fields."""
+    """A side list is of one of three versions, and since the second one `begin` has all its fields."""
     for number, (version, begin, due) in enumerate(FORMS):
         list_ = room / f"form-{number}.side"
         list_.write_text(f"binder side list {version}\n5 begin {begin}\n", "utf-8")
         taken = side_list.SideList(empty_database())
         came = refusal(lambda: taken.load(str(list_)))
         compare(f"side list {number}", (due in came, bool(came)), (True, bool(due)), fail)
-        compare(f"the version of side list {number}", taken.facts.get("side_list"), version if version < 3 else None,
+        compare(f"the version of side list {number}", taken.facts.get("side_list"), version if version < 4 else None,
                 fail)
 
 
@@ -142,6 +144,10 @@ def check_files(folder: pathlib.Path, room: pathlib.Path, fail: Fail) -> None:
     came = view(folder, room, "part-1.cap", "part-2.cap", "--groups")
     due = "view: takes part-1.side part-2.side beside the capture; --no-side leaves it out\n"
     compare("the files of a flight recorder with the side lists beside them", came, (0, whole, due), fail)
+    for list_ in room / "part-1.side", room / "part-2.side":
+        list_.write_text(packed(list_.read_text("utf-8")), "utf-8")
+    came = view(folder, room, "part-1.cap", "part-2.cap", "--groups")
+    compare("the files of a flight recorder of today", came, (0, whole, due), fail)
     status, _, told = view(folder, room, "part-2.cap", "--side", "part-2.side", "-o", "part-2.html")
     compare("the last file of a flight recorder", (status, told), (0, ""), fail)
     text = texts_of(room / "part-2.html")
@@ -278,10 +284,10 @@ def check_last_names(_: pathlib.Path, room: pathlib.Path, fail: Fail) -> None:
 CAPTURE = (DRIVER / "objects/capture-1.cap").read_bytes()
 
 # What is no side list, and why it is refused.
-NO_LISTS = ((b"", "is empty, and no side list of version 1 or 2"),
-            (CAPTURE, "is a capture, and no side list of version 1 or 2"),
-            (b"\xff\x1b[2J a text\n", "is not a side list of version 1 or 2"),
-            (b"binder side list 2", "is not a side list of version 1 or 2"))
+NO_LISTS = ((b"", "is empty, and no side list of version 1, 2 or 3"),
+            (CAPTURE, "is a capture, and no side list of version 1, 2 or 3"),
+            (b"\xff\x1b[2J a text\n", "is not a side list of version 1, 2 or 3"),
+            (b"binder side list 2", "is not a side list of version 1, 2 or 3"))
 
 # Lines of a side list, and why it is refused; "" if it is read.
 BAD_LINES = (
@@ -294,6 +300,12 @@ BAD_LINES = (
     ("6 books begin\x1b]0;a\x07 state from=0 after=0 bytes=0", "the line 'books' at 6 is not valid"),
     ("6 books begin ../state from=0 after=0 bytes=0", "the line 'books' at 6 is not valid"),
     ("6 books begin state from=0 after=0 bytes=0", ""))
+
+# What may follow the time 6 and the word `frames`, and what not. The first lines have the highest number, and the first
+# and the last time.
+FRAMES = (f"{2**64 - 2} 1", "1 -6", f"1 {2**63 - 7}", f"1 {2**63 - 7} -{2**63 - 1}", "1", "1 0 5 -5", "01 007")
+NO_FRAMES = ("", "1 x", "x 1", "1 2 ", "1  2", "1 --2", "1 +2", "1 2-", "1 -", "1 2 a=3", "1 2 name=a", "-1 2",
+             f"{2**64} 2", f"{2**64 - 2} 1 1", "1 -7", f"1 {2**63 - 6}", f"1 -6 {2**63}", f"1 {'9' * 5000}")
 
 
 def refusal(do: Callable[[], object]) -> str:
@@ -322,20 +334,25 @@ def check_no_lists(_: pathlib.Path, room: pathlib.Path, fail: Fail) -> None:
         for lists in ([list_], [good, list_]):
             came = refusal(lambda: side_list.joined_sides(list(map(str, lists)), room / "joined.side"))
             compare(f"what is no side list, {number} of {len(lists)}", came, f"{list_} {due}", fail)
-    for number, (line, due) in enumerate(BAD_LINES):
+    frames = "the line 'frames' at 6 is not valid"
+    bad_lines = (*BAD_LINES, *((f"6 frames {words}", "") for words in FRAMES),
+                 *((f"6 frames {words}", frames) for words in NO_FRAMES), ("6 frames", frames))
+    for number, (line, due) in enumerate(bad_lines):
         list_ = room / f"bad-{number}.side"
         list_.write_text(f"{WHOLE_BEGIN}{line}\n", "utf-8")
         came = refusal(lambda: side_list.SideList(empty_database()).load(str(list_)))
         compare(f"a bad line, {number}", (due in came, bool(came)), (True, bool(due)), fail)
 
 
-# Lines of frames: one that comes twice, one with a number of 19 digits, one within a name, and a last one that is cut.
+# Lines of frames: one that comes twice, one with a number of 19 digits, one within a name, one of several frames, of
+# which the last one comes again, and a last line that is cut.
 ODD_SIDE = """binder side list 1
 100 frame 1
 200 frame 2
 250 frame 2
 260 process 0 5 pid=5 start=1 opening=1 met=from-start name=a 270 frame 4
 300 frame 3
+400 frames 4 7 0 -9
 999999999999999999 frame 7
 700 frame 1000000000000000000
 800 frame 8"""
@@ -351,7 +368,7 @@ def check_times(folder: pathlib.Path, room: pathlib.Path, fail: Fail) -> None:
     made = open_database(room / "odd.db")
     side_list.SideList(made).load(str(list_))
     compare("times of frames", made.execute("SELECT seq, ts FROM side_time").fetchall(),
-            [(1, 100), (2, 250), (3, 300), (7, 999999999999999999), (10**18, 700)], fail)
+            [(1, 100), (2, 250), (3, 300), (4, 400), (5, 407), (6, 407), (7, 999999999999999999), (10**18, 700)], fail)
     made.close()
 
 
@@ -364,16 +381,22 @@ def is_reading(process: int, path: pathlib.Path) -> bool:
     return False
 
 
-def check_list_of_loader(_: pathlib.Path, room: pathlib.Path, fail: Fail) -> None:
-    """The loader does not crash if a side list is cut while it reads it, and refuses a line that would take all memory
-    of who reads it next."""
-    rows, list_ = room / "rows", room / "long.side"
+def no_rows(room: pathlib.Path) -> tuple[pathlib.Path, pathlib.Path]:
+    """What the loader gets of no capture: a folder of empty tables, and their schema."""
+    rows = room / "rows"
     rows.mkdir()
     for table in columns_of_tables():
         (rows / f"{table}.rows").touch()
     (rows / "schema.sql").write_text(raw_tables.schema(), "utf-8")
+    return rows, rows / "schema.sql"
+
+
+def check_list_of_loader(_: pathlib.Path, room: pathlib.Path, fail: Fail) -> None:
+    """The loader does not crash if a side list is cut while it reads it, and refuses a line that would take all memory
+    of who reads it next."""
+    list_ = room / "long.side"
     list_.write_text("binder side list 2\n" + "".join(f"{5 + at} frame {at}\n" for at in range(1, 300_000)), "utf-8")
-    words = rows, rows / "schema.sql", list_
+    words = *no_rows(room), list_
     loading = subprocess.Popen([raw_tables.loader(), room / "cut.db", *words])
     while loading.poll() is None and not is_reading(loading.pid, list_):
         time.sleep(0.001)
@@ -383,6 +406,44 @@ def check_list_of_loader(_: pathlib.Path, room: pathlib.Path, fail: Fail) -> Non
         list_.write_text("binder side list 2\n6 " + "a" * (2**22 - 2 + longer), "utf-8")
         ended = subprocess.run([raw_tables.loader(), room / f"long-{longer}.db", *words], capture_output=True)
         compare(f"the loader, of a long line, {longer}", (ended.returncode, ended.stderr), due, fail)
+
+
+def loaded_list(words: tuple[pathlib.Path, pathlib.Path], list_: pathlib.Path, is_split: bool) \
+        -> tuple[dict[str, object], dict[str, list[tuple[object, ...]]]]:
+    """What a side list has in a database, without a capture: its facts, and its tables. If it is split, the loader
+    leaves some lines in a file, as it does for a large capture."""
+    made, others = list_.with_suffix(".db"), list_.with_suffix(".others") if is_split else None
+    subprocess.run([raw_tables.loader(), made, *words, list_, *([others] if others else [])], check=True)
+    database = open_database(made)
+    taken = side_list.SideList(database)
+    taken.load(str(list_), others)
+    names = [name for name, in database.execute("SELECT name FROM sqlite_schema WHERE name GLOB 'side_*' AND"
+                                                " type = 'table'")]
+    tables = {name: database.execute(f"SELECT * FROM {name}").fetchall() for name in names}
+    facts: dict[str, object] = {**taken.facts, "last": taken.last(), "side_list": None}
+    database.close()
+    for path in filter(None, (made, others)):
+        path.unlink()
+    return facts, tables
+
+
+def check_packed_lists(_: pathlib.Path, room: pathlib.Path, fail: Fail) -> None:
+    """The stored side lists have the same in the database with a line for each frame and with lines of many, also short
+    ones, and also if the loader takes the frames alone. Of lines that are no lines of frames it takes none."""
+    words, before, today = no_rows(room), room / "before.side", room / "today.side"
+    for number, stored in enumerate(sorted(DRIVER.glob("*/capture*.side"))):
+        side = unpacked(stored.read_text("utf-8", errors="surrogateescape"))
+        for list_, text in (before, side), (today, packed(side, (4095, 40)[number % 2])):
+            list_.write_text(text, "utf-8", errors="surrogateescape")
+        compare(f"{stored} with other lines", before.read_bytes() != today.read_bytes(), True, fail)
+        due, *came = (loaded_list(words, *it) for it in ((before, False), (today, False), (today, True)))
+        compare(f"{stored} with lines of many frames", [one == due for one in came], [True, True], fail)
+    wrong = [f"6 frames {words}\n" for words in NO_FRAMES]
+    today.write_text(WHOLE_BEGIN + "".join([*(f"6 frames {words}\n" for words in FRAMES), *wrong]), "utf-8")
+    others = today.with_suffix(".others")
+    subprocess.run([raw_tables.loader(), room / "wrong.db", *words, today, others], check=True)
+    compare("lines that are none of frames", others.read_text("utf-8"), f"{WHOLE_BEGIN}13 frame 2\n{''.join(wrong)}",
+            fail)
 
 
 def loaded_rows(database: sqlite3.Connection, table: str) -> list[dict[str, object]]:

@@ -7,6 +7,7 @@ import shutil
 
 from checks.kit.checking import Fail, compare
 from checks.kit.runs import answer
+from checks.kit.side_lists import packed
 from checks.viewer.page.common import stored, texts_of, timeline_of, view
 from checks.viewer.page.moments import SECOND, ZONE, clock_of
 
@@ -69,7 +70,18 @@ def check_windows(folder: pathlib.Path, room: pathlib.Path, fail: Fail) -> None:
                                          *(["--groups"] if program == "view" else [])], cwd=room, encoding="utf-8")
             compare(f"{program} {words}", (status, said, bool(re.search(f"^{program}: ", told, re.MULTILINE))),
                     (due, "", True), fail)
+    check_packed_windows(folder, room, fail)
     check_untimed_windows(folder, room, fail)
+
+
+def check_packed_windows(folder: pathlib.Path, room: pathlib.Path, fail: Fail) -> None:
+    """The frames of a time are the same if the side list has many frames in a line."""
+    capture, _, side = stored("hello-stuck")
+    (room / "today.side").write_text(packed(side.read_text("utf-8")), "utf-8")
+    for words, *_ in WINDOWS:
+        due, came = (answer([folder / "viewer/frames_within.py", f"--side={one}", *map(str, words), "--", capture],
+                            cwd=room, encoding="utf-8", env={**os.environ, **ZONE}) for one in (side, "today.side"))
+        compare(f"{words}, frames by lines of many frames", (came, came[0]), (due, 0), fail)
 
 
 def check_untimed_windows(folder: pathlib.Path, room: pathlib.Path, fail: Fail) -> None:

@@ -57,7 +57,7 @@ FOLDER FILE..., --table NAME FILE..., or --help\n"
             ListingError::Read => "fault Read\n",
             ListingError::Write => "fault Write\n",
             ListingError::Open => "fault Open\n",
-            ListingError::SideList => "listing: the side list is not of version 1 or 2\n",
+            ListingError::SideList => "listing: the side list is not of version 1, 2 or 3\n",
             ListingError::Closed => "",
         }
     }

@@ -1,7 +1,7 @@
 //! Calls from their openers to their closers.
 
 ghost use Rattle.std.specs.Prelude.{OnOk};
-ghost use Rattle.listing_lines.specs.Calls.{SaysClosed, FollowsOneMore};
+ghost use Rattle.listing_lines.specs.Calls.{FollowsOneMore, HasNone, SaysClosed};
 
 use call_stacks::{CallEvent, Calls};
 use capture_frame::{Frame, Thread};
@@ -21,7 +21,9 @@ pub(crate) struct Followed {
 
 impl Followed {
     /// The call that a record opens, before the record is followed.
-    pub(crate) fn new(alloc: Global, frame: Frame<'_>) -> Followed {
+    pub(crate) fn new(alloc: Global, frame: Frame<'_>) -> Followed
+        ensures { HasNone result }
+    {
         Followed {
             thread: thread_of(frame),
             calls: Calls::empty(alloc),

@@ -5,6 +5,7 @@ mod asked;
 mod calls;
 mod columns;
 mod flags;
+mod frame_times;
 mod line;
 mod number;
 mod objects;

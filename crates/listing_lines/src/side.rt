@@ -1,6 +1,7 @@
 //! The side list of `./record`, whose form is in docs/SIDE-LIST.md: the times of frames, and the ids
 //! and names of processes and threads.
 
+use crate::frame_times::FrameTimes;
 use crate::number::number_of;
 use capture_frame::{Frame, Process, Thread};
 use indexmap::IndexMap;
@@ -10,7 +11,11 @@ use std::io::{BufRead, BufReader, Read};
 use std::str;
 
 /// The first line of each form that is read: of earlier recorders, and of today's.
-const FIRST_LINES: [&[u8]; 2] = [b"binder side list 1\n", b"binder side list 2\n"];
+const FIRST_LINES: [&[u8]; 3] = [
+    b"binder side list 1\n",
+    b"binder side list 2\n",
+    b"binder side list 3\n",
+];
 
 /// The side list, which is read line by line beside the capture.
 #[derive(Drop)]
@@ -24,9 +29,7 @@ pub(crate) struct Side<S: Read> {
 /// What the side list has said so far.
 #[derive(Drop)]
 struct Known {
-    /// The number of the latest frame, and its time.
-    frame: Option<u64>,
-    time: String,
+    times: FrameTimes,
     /// All ids and names.
     words: String,
     processes: IndexMap<Process, Span>,
@@ -88,14 +91,25 @@ impl<S: Read + Drop> Side<S> {
     /// Reads on to the line of the frame with this sequence, or of the first frame after it.
     pub(crate) fn go_to(&mut self, sequence: u64) -> Result<(), ListingError> {
         for _ in 0..u64::MAX {
-            if self.known.has_come_to(sequence) || !self.read_line()? {
+            if self.known.times.has_come_to(sequence) || !self.read_on()? {
                 break;
-            }
-            if let Ok(line) = str::from_utf8(self.line.as_slice()) {
-                self.known.take(line)?;
             }
         }
         Ok(())
+    }
+
+    /// Goes on to the next frame of the line, or else to the next line, if there is one.
+    fn read_on(&mut self) -> Result<bool, ListingError> {
+        if self.known.times.take_next()? {
+            return Ok(true);
+        }
+        if !self.read_line()? {
+            return Ok(false);
+        }
+        if let Ok(line) = str::from_utf8(self.line.as_slice()) {
+            self.known.take(line)?;
+        }
+        Ok(true)
     }
 
     /// Reads the next line, if there is one.
@@ -121,7 +135,7 @@ impl<S: Read + Drop> Side<S> {
             Some(person) => (Some(person.pid), Some(person.tid), Some(person.name)),
             None => (None, None, None),
         };
-        push_field(text, marks[0], self.known.time_of(frame.sequence))?;
+        push_field(text, marks[0], self.known.times.time_of(frame.sequence))?;
         push_field(text, marks[1], self.known.word(pid))?;
         push_field(text, marks[2], self.known.word(tid))?;
         push_field(text, marks[3], self.known.word(name))?;
@@ -132,26 +146,10 @@ impl<S: Read + Drop> Side<S> {
 impl Known {
     fn new(alloc: Global) -> Known {
         Known {
-            frame: None,
-            time: String::new(alloc),
+            times: FrameTimes::new(alloc),
             words: String::new(alloc),
             processes: IndexMap::new(alloc),
             threads: IndexMap::new(alloc),
-        }
-    }
-
-    fn has_come_to(&self, sequence: u64) -> bool {
-        match self.frame {
-            Some(number) => sequence <= number,
-            None => false,
-        }
-    }
-
-    /// The time of the frame with this sequence, if its line has come.
-    fn time_of(&self, sequence: u64) -> &str {
-        match self.frame {
-            Some(number) if number == sequence => self.time.as_str(),
-            _ => "",
         }
     }
 
@@ -175,22 +173,14 @@ impl Known {
         let (time, rest) = first_word(line);
         let (word, fields) = first_word(rest);
         match word {
-            "frame" => self.take_frame(time, fields)?,
+            "frame" => self.times.take_one(time, fields)?,
+            "frames" => self.times.take_first(time, fields)?,
             "process" => self.take_process(fields)?,
             "thread" => self.take_thread(fields)?,
             "name" => self.rename(fields)?,
             _ => {}
         }
         Ok(())
-    }
-
-    fn take_frame(&mut self, time: &str, number: &str) -> Result<(), AllocError> {
-        let Some(number) = number_of(number) else {
-            return Ok(());
-        };
-        self.frame = Some(number);
-        self.time.clear();
-        self.time.push_str(time)
     }
 
     fn take_process(&mut self, fields: &str) -> Result<(), ListingError> {
@@ -239,7 +229,7 @@ fn push_field(text: &mut String, mark: &str, field: &str) -> Result<(), AllocErr
 }
 
 /// The word up to the first space, and what comes after that space.
-fn first_word(text: &str) -> (&str, &str) {
+pub(crate) fn first_word(text: &str) -> (&str, &str) {
     match text.bytes().position(|byte| byte == b' ') {
         Some(length) => (
             text.get(..length).unwrap_or(text),

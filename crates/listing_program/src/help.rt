@@ -48,7 +48,7 @@ hexadecimal after 0x.
 
 A malformed capture is listed up to its first fault. A last line names the fault as the auditor
 does, and the status is 2. The other statuses: 1, nothing is at PLACE; 3, memory was refused; 4, a
-file can't be opened or read, or has more than 1 GiB, the side list is of another version than 1 or
-2, or the listing can't be written; 64, the command line is not valid. docs/ENVELOPE.md and
+file can't be opened or read, or has more than 1 GiB, the side list is of another version than 1,
+2 or 3, or the listing can't be written; 64, the command line is not valid. docs/ENVELOPE.md and
 docs/COMMANDS.md have the format of a capture.
 ";

@@ -115,7 +115,7 @@ fn ends_where_the_side_list_fails(rt: HostRuntime) -> Result<(), Fail> {
 fn refuses_a_side_list_of_another_form(rt: HostRuntime) -> Result<(), Fail> {
     let alloc = rt.alloc();
     let side = Source {
-        bytes: b"binder side list 3\n9 frame 1\n",
+        bytes: b"binder side list 4\n9 frame 1\n",
         fails: false,
     };
     let parts = sources(alloc, [ENTER, ENTER], false)?;
