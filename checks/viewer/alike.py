@@ -1,11 +1,13 @@
 """Checks that the rules find the same, however their statements are run: all of them; without those of which the plan
 says that they find nothing; and with other processes that find rows, beside tables that are packed.
 
-    checks/run alike                plays a share of the stored captures
+    checks/run alike                plays a share of the stored captures, and what is made for the sums
     checks/run alike -- CASE..      plays these alone, as `leaks`
     checks/run alike -- --all       plays all
 
-Each table of the database must have the same rows in the same order, but for the raw tables, which no rule changes.
+Each table of the database must have the same rows in the same order, but for the raw tables, which no rule changes. So
+must each sum over packed tables, which are in C, and the view of its name. What is made for these are the sessions of
+sum_cases.py, and one with more groups than have room at first.
 """
 
 import argparse
@@ -20,10 +22,14 @@ from unittest import mock
 
 from checks.kit.checking import FLAG, Fail, check
 from checks.kit.programs import DRIVER, ROOT
+from checks.kit.tokens import marked
+from checks.viewer.sessions import every, sum_cases
+from checks.viewer.sessions.session import Session
 from viewer.database import finders, loading, raw_tables
 from viewer.database.programs import build_programs
 from viewer.database.sqlite import open_database
 from viewer.rules import judging
+from viewer.rules.plan import Statement, plan_of
 from viewer.timing import Timing
 
 CASES = {path.name: ([str(path / "capture-1.cap")], str(path / "capture.side"))
@@ -32,6 +38,24 @@ CASES |= {path.name: ([str(path)], None) for path in sorted(ROOT.glob("samples/*
 
 # Of these `.ci/run` takes each so many-th.
 SHARE = 4
+
+# There is room for so many groups of a sum at first, by sums.c.
+FIRST_ROOM = 1024
+
+
+def many_groups() -> Session:
+    """Calls of many codes, which name an interface; and of the first ones again, when there are more groups than had
+    room. None takes any time."""
+    session = Session()
+    service, client = session.two()
+    session.wait = lambda _: None
+    for code in (*range(FIRST_ROOM + 100), *range(20)):
+        client.main.asks(service.main, code, body=marked("a.b.IOne"))
+    return session
+
+
+SESSIONS = {one.name: one.played for one in every.CASES if hasattr(sum_cases, one.name.partition(" ")[0])}
+SESSIONS["many_groups"] = many_groups
 
 Rows = dict[str, list[tuple]]
 
@@ -49,32 +73,67 @@ def rows_of(made: pathlib.Path) -> Rows:
         return {name: database.execute(f"SELECT * FROM {name}").fetchall() for name in names}
 
 
-def judged(room: pathlib.Path, name: str, how: str) -> Rows:
-    """The rows that come of a capture."""
-    files, side = CASES[name]
+def files_of(folder: pathlib.Path, name: str) -> tuple[list[str], str | None]:
+    """The files of a capture, and its side list. Those of a session are written into a folder."""
+    if name in CASES:
+        return CASES[name]
+    session, capture, side = SESSIONS[name](), folder / "session.cap", folder / "session.side"
+    capture.write_bytes(session.capture())
+    side.write_text(session.side(), "utf-8")
+    return [str(capture)], str(side) if session.has_side else None
+
+
+def sums_of(name: str, made: pathlib.Path) -> Iterator[str]:
+    """The sums over packed tables that do not have the rows of their views, in the same order. Frames whose sequences
+    fall are not packed, and then the sums are views: but not in what is made for them."""
+    plan = plan_of(judging.FOLDER, judging.run)
+    with closing(open_database(made)) as database:
+        for view, table in zip(plan.statements, judging.with_sums(database, plan).statements):
+            if view.file == judging.SUMS and (view.text == table.text and name in SESSIONS
+                                              or rows_by(database, view) != rows_by(database, table)):
+                yield view.effect.to
+
+
+def rows_by(database: sqlite3.Connection, statement: Statement) -> list[str]:
+    """The rows of the view, or of the table, that a statement makes."""
+    database.execute(statement.text)
+    rows = database.execute(f"SELECT * FROM {statement.effect.to}").fetchall()
+    kind, = database.execute("SELECT type FROM temp.sqlite_schema WHERE name = ?", (statement.effect.to,)).fetchone()
+    database.execute(f"DROP {kind} temp.{statement.effect.to}")
+    return list(map(repr, rows))
+
+
+def judged(room: pathlib.Path, name: str, how: str) -> tuple[Rows, list[str]]:
+    """The rows that come of a capture; and the sums that are wrong, where they are packed."""
     folder = room / f"{name}-{how}"
     folder.mkdir()
+    files, side = files_of(folder, name)
     made = folder / "capture.db"
     all_of_them = mock.patch.object(loading, "judge", judge_all) if how == "all" else mock.patch.object(
         finders, "LEAST_RECORDS", 0 if how == "beside" else 2**63)
     with all_of_them, mock.patch.object(loading, "LEAST_PACKED", 0):
         loading.database_of(ROOT, files, side, made, lambda _: None, kept=how != "beside")
-    return rows_of(made)
+    return rows_of(made), list(sums_of(name, made)) if how == "beside" else []
 
 
 def compared(room: pathlib.Path, name: str) -> list[str]:
     """What differs of a capture."""
-    due = judged(room, name, "all")
+    due, _ = judged(room, name, "all")
     wrong = []
     for how in ("needed", "beside"):
-        came = judged(room, name, how)
+        came, sums = judged(room, name, how)
         wrong += [f"{name}, {how}: {table} has other rows" for table in sorted(due.keys() | came.keys())
                   if came.get(table) != due.get(table)]
+        wrong += [f"{name}: {sum} has other rows than the view" for sum in sums]
     return wrong
 
 
 def names(given: argparse.Namespace) -> Iterator[str]:
-    yield from given.cases if given.named else itertools.islice(CASES, 0, None, 1 if given.all else SHARE)
+    if given.named:
+        yield from given.cases
+    else:
+        yield from itertools.islice(CASES, 0, None, 1 if given.all else SHARE)
+        yield from SESSIONS
 
 
 def judge(given: argparse.Namespace, room: pathlib.Path, fail: Fail) -> None:
@@ -87,4 +146,4 @@ def judge(given: argparse.Namespace, room: pathlib.Path, fail: Fail) -> None:
 
 
 if __name__ == "__main__":
-    check(judge, lambda: list(CASES), all=FLAG)
+    check(judge, lambda: [*CASES, *SESSIONS], all=FLAG)

@@ -60,27 +60,51 @@ def due_of(one: Case) -> Counter:
     return Counter({rule: int(count) for rule, count in (word.split(":") for word in one.due.split())})
 
 
+# What is said of a judged case, as queries of one column each.
+TEXTS = (
+    # Paths and notes of the findings; where those of pools are, and in which call; how many of each rule a process
+    # causes; and how many took the path of each finding, how many of these well, and how long that took at most.
+    "SELECT coalesce(path, '') || ' (' || coalesce(note, '') || ')' FROM finding",
+    "SELECT rule || ' at ' || place || ': code ' || code || ' in thread ' || thread"
+    " FROM finding JOIN raw_thread USING (utid) WHERE section = 'pools'",
+    "SELECT rule || ' by ' || who || ': ' || count(*) FROM finding f"
+    " JOIN who w ON w.upid = coalesce(f.culprit, f.upid) GROUP BY rule, w.upid",
+    "SELECT rule || ' at ' || coalesce(place, '-') || ': ' || coalesce(n_good, '-') || ' of ' || coalesce(n_all, '-')"
+    " || ', ' || coalesce(longest_seq, '-') || ' frames, ' || coalesce(longest, '-') || ' ns' FROM finding",
+    # Who sent how many of which code to whom, and how many of these came; and what else is summed of these.
+    "SELECT a.who || ' to ' || b.who || ' code ' || code || ': ' || delivered || ' of ' || sends"
+    " FROM traffic t JOIN who a USING (upid) JOIN who b ON b.upid = t.node_upid",
+    "SELECT 'handle ' || handle || ' of ' || who || iif(oneway, ', oneway code ', ', code ') || code || ': ' || sends"
+    " || ' sends, ' || bytes || ' bytes, ' || failed || ' failed, ' || refused || ' refused, ' || open || ' open, '"
+    " || delivered || ' delivered, ' || one_fits || ' fit, ' || buffers || ' kept, ' || coalesce(buffers_peak, '-')"
+    " || ' at most, ' || coalesce(longest_seq, '-') || ' frames, ' || coalesce(longest, '-') || ' ns, node '"
+    " || coalesce(ptr || ' ' || cookie, '-') FROM traffic JOIN who USING (upid)",
+    "SELECT '(' || count(*) || ' codes of handles)' FROM traffic",
+    # The nodes that handles were seen to lead to, and the interfaces that calls name.
+    "SELECT 'handle ' || handle || ' of ' || a.who || ' at ' || b.who || ' node ' || ptr || ' ' || cookie || ': '"
+    " || certain || ' certain of ' || deliveries FROM peer p JOIN raw_generation g ON g.id = p.generation"
+    " JOIN who a USING (upid) JOIN who b ON b.upid = p.node_upid",
+    "SELECT 'code ' || code || iif(c.upid < 0, ' to handle ', ' at node ') || coalesce(ptr, '-') || ' of ' || who"
+    " || ' names ' || name || ', ' || others || ' others' FROM call_interface c JOIN who w ON w.upid = abs(c.upid)"
+    " JOIN interface i ON i.id = c.interface",
+    "SELECT iif(o.upid < 0, 'handle ', 'node ') || ptr || ' of ' || who || ' names ' || name || ' ' || n || ' times, '"
+    " || others || ' others' FROM object_interface o JOIN who w ON w.upid = abs(o.upid)"
+    " JOIN interface i ON i.id = o.interface",
+    "SELECT '(' || count(*) || ' codes of nodes name an interface)' FROM call_interface",
+    # The groups, and how many each verdict has; stacks; and the defects with their keys and calls.
+    "SELECT verdict || ' ' || title || ': ' || n || ' of ' || coalesce(n_all, '-') || ' ' || path || ' ' || rules"
+    " || ' (' || coalesce(note, '') || ')' FROM finding_group",
+    "SELECT 'groups that are ' || v.verdict || ': ' || count(g.grp) FROM (SELECT DISTINCT verdict FROM rule) v"
+    " LEFT JOIN finding_group g USING (verdict) GROUP BY v.verdict",
+    "SELECT 'finding_stack ' || n || ': ' || stack || ', ' || whose FROM finding_stack",
+    "SELECT 'finding_stack 2: -' WHERE NOT EXISTS (SELECT 1 FROM finding_stack WHERE n = 2)",
+    "SELECT 'defect: ' || kind || ' | ' || who || ' | ' || path || '; key ' || id || '; '"
+    " || coalesce(call, 'no call') FROM defect",
+    "SELECT '(' || count(*) || ' defects)' FROM defect")
+
+
 def texts_of(database: sqlite3.Connection) -> str:
-    """Paths and notes of the findings; where those of pools are, and in which call; how many of each rule a process
-    causes; the groups, and how many each verdict has; who sent how many of which code to whom, and how many of these
-    came; and the defects with their keys and calls."""
-    return "\n".join(text for text, in database.execute(
-        "SELECT coalesce(path, '') || ' (' || coalesce(note, '') || ')' FROM finding"
-        " UNION ALL SELECT rule || ' at ' || place || ': code ' || code || ' in thread ' || thread"
-        " FROM finding JOIN raw_thread USING (utid) WHERE section = 'pools'"
-        " UNION ALL SELECT rule || ' by ' || who || ': ' || count(*) FROM finding f"
-        " JOIN who w ON w.upid = coalesce(f.culprit, f.upid) GROUP BY rule, w.upid"
-        " UNION ALL SELECT a.who || ' to ' || b.who || ' code ' || code || ': ' || delivered || ' of ' || sends"
-        " FROM traffic t JOIN who a USING (upid) JOIN who b ON b.upid = t.node_upid"
-        " UNION ALL SELECT verdict || ' ' || title || ': ' || n || ' of ' || coalesce(n_all, '-') || ' ' || path || ' '"
-        " || rules || ' (' || coalesce(note, '') || ')' FROM finding_group"
-        " UNION ALL SELECT 'groups that are ' || v.verdict || ': ' || count(g.grp) FROM (SELECT DISTINCT verdict"
-        " FROM rule) v LEFT JOIN finding_group g USING (verdict) GROUP BY v.verdict"
-        " UNION ALL SELECT 'finding_stack ' || n || ': ' || stack || ', ' || whose FROM finding_stack"
-        " UNION ALL SELECT 'finding_stack 2: -' WHERE NOT EXISTS (SELECT 1 FROM finding_stack WHERE n = 2)"
-        " UNION ALL SELECT 'defect: ' || kind || ' | ' || who || ' | ' || path || '; key ' || id || '; '"
-        " || coalesce(call, 'no call') FROM defect"
-        " UNION ALL SELECT '(' || count(*) || ' defects)' FROM defect"))
+    return "\n".join(text for text, in database.execute(" UNION ALL ".join(TEXTS)))
 
 
 # Deliveries at another node than the one that is certain of their sends.

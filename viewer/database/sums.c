@@ -337,7 +337,7 @@ static void set_keys_of_came(struct work *work, struct group *keys, const struct
 {
 	int is_reply = record->values[RECORD_KIND] == BR_REPLY;
 	set(keys, CAME_REPLY, is_reply);
-	set(keys, CAME_ONEWAY, !is_reply && record->values[RECORD_FLAGS] & ONE_WAY);
+	set(keys, CAME_ONEWAY, record->values[RECORD_FLAGS] & ONE_WAY);
 	set(keys, CAME_RECEIVER, process_of(work, delivery->values[DELIVERY_UTID]));
 	if (!is_reply) {
 		set_key(keys, CAME_CODE, record, RECORD_CODE);

@@ -42,7 +42,7 @@ SELECT s.code, coalesce(n.upid, -g.upid) AS upid, coalesce(n.ptr, g.handle) AS p
   s.oneway, sum(s.sends) AS n, sum(s.good) AS good, max(s.good_seq) AS longest_seq, max(s.good_time) AS longest
 FROM sent_sum s JOIN raw_generation g ON g.id = s.generation LEFT JOIN node_of n ON n.generation = s.generation
 WHERE s.code IN (SELECT code FROM finding
-    WHERE section IN ('calls', 'served', 'refused', 'strays', 'oneway', 'spam', 'objects', 'books'))
+    WHERE section IN ('calls', 'refused', 'strays', 'oneway', 'spam', 'objects', 'books'))
 GROUP BY 1, 2, 3, 4, 5;
 UPDATE finding SET n_all = p.n, n_good = p.good, longest_seq = p.longest_seq, longest = p.longest
 FROM send_path p, raw_record r

@@ -9,7 +9,7 @@
 
 -- How many records of each code and node name an interface; of a handle whose node is not known, its process with a
 -- minus in place of the node's, and the handle in place of its ptr. The driver knows a node of a process by its ptr.
--- A code of NULL: the reply to _NTF names the interface of the node that was asked.
+-- A code of NULL: the reply to _NTF names the interface of the node that was asked, or none.
 -- beside: nodes.sql
 CREATE TEMP TABLE naming AS
 SELECT code, upid, ptr, interface, sum(n) AS n
@@ -22,7 +22,7 @@ CREATE TEMP TABLE told_name AS
 SELECT r.place, b.interface
 FROM (SELECT 1 FROM raw_interface LIMIT 1) CROSS JOIN raw_record r JOIN raw_call c USING (place)
   JOIN raw_record b ON b.place = c.closer
-WHERE r.code = :_NTF AND b.interface NOTNULL;
+WHERE r.code = :_NTF;
 INSERT INTO naming
 SELECT NULL, a.upid, a.ptr, t.interface, count(*)
 FROM (SELECT place, upid, ptr FROM told_name JOIN came_to USING (place)

@@ -14,17 +14,17 @@ CREATE INDEX call_of_thread ON raw_call(utid, place);
 
 -- Oneway sends that the driver took and that were never seen to come; and those that it suspects as spam.
 -- beside: nodes.sql
-INSERT INTO finding(section, what, place, upid, handle, code)
-SELECT 'oneway', 'undelivered', s.place, t.upid, r.handle, r.code
+INSERT INTO finding(section, what, place, upid)
+SELECT 'oneway', 'undelivered', s.place, t.upid
 FROM raw_send s JOIN raw_record r USING (place) JOIN raw_thread t ON t.utid = s.utid
 WHERE s.delivery IS NULL AND s.refused IS NULL AND s.generation IN (SELECT generation FROM node_of)
   AND r.flags & :TF_ONE_WAY;
 
-INSERT INTO finding(section, what, place, upid, handle, code)
-SELECT 'spam', 'suspect', s.place, t.upid, r.handle, r.code
+INSERT INTO finding(section, what, place, upid)
+SELECT 'spam', 'suspect', s.place, t.upid
 FROM (SELECT 1 FROM report WHERE section = 'codes' AND text LIKE '% BR_ONEWAY_SPAM_SUSPECT %' LIMIT 1)
   CROSS JOIN raw_send s JOIN raw_record k ON k.place = s.confirmed AND k.kind = :BR_ONEWAY_SPAM_SUSPECT
-  JOIN raw_record r ON r.place = s.place JOIN raw_thread t ON t.utid = s.utid
+  JOIN raw_thread t ON t.utid = s.utid
 WHERE s.generation NOTNULL;
 -- Oneway sends to a process that was frozen, as the driver said when it took them.
 CREATE TEMP TABLE to_frozen AS
@@ -34,8 +34,8 @@ WHERE k.kind = :BR_TRANSACTION_PENDING_FROZEN;
 CREATE UNIQUE INDEX temp.to_frozen_place ON to_frozen(place);
 -- Calls that were answered with a status. libgbinder also sends 0, which is no error.
 -- beside: nodes.sql
-INSERT INTO finding(section, what, place, upid, handle, code)
-SELECT 'answers', 'status', r.place, t.upid, r.handle, r.code
+INSERT INTO finding(section, what, place, upid)
+SELECT 'answers', 'status', r.place, t.upid
 FROM status x JOIN raw_delivery d USING (place) JOIN raw_record r ON r.place = d.call
   JOIN raw_thread t ON t.utid = r.utid
 WHERE x.value IS NOT 0;

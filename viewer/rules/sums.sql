@@ -24,7 +24,7 @@ SELECT
   total(r.data_size) AS bytes,
   count(s.delivery) AS delivered,
   coalesce(sum(s.certain AND s.fits = 1), 0) AS one_fits,
-  coalesce(sum(s.delivery NOTNULL AND d.freed_by IS NULL), 0) AS buffers,
+  sum(s.delivery NOTNULL AND d.freed_by IS NULL) AS buffers,
   max(d.held) AS peak,
   max(c.dur_seq) AS longest_seq,
   max(z.ts - x.ts) AS longest,
@@ -38,7 +38,8 @@ FROM raw_send s CROSS JOIN raw_record r USING (place) LEFT JOIN raw_call c USING
   LEFT JOIN side_time y ON y.seq = e.seq
 WHERE s.generation NOTNULL GROUP BY 1, 2, 3;
 
--- What each process got: replies by the call that they answer, and all else by the object. `good` counts what was freed.
+-- What each process got: replies by the call that they answer, and all else by the object. A reply has no ptr and no
+-- cookie; all else opens its call, if any, so that this has no handle and was not sent. `good` counts what was freed.
 CREATE TEMP VIEW came_sum AS
 SELECT
   reply,
@@ -54,10 +55,8 @@ SELECT
   max(dur_seq) AS longest_seq,
   max(z.ts - x.ts) AS longest
 FROM (
-  SELECT r.kind = :BR_REPLY AS reply, r.kind <> :BR_REPLY AND r.flags & :TF_ONE_WAY AS oneway,
-    iif(r.kind = :BR_REPLY, c.code, r.code) AS code, iif(r.kind = :BR_REPLY, s.generation, NULL) AS generation,
-    iif(r.kind = :BR_REPLY, c.handle, NULL) AS handle, t.upid AS receiver, iif(r.kind = :BR_REPLY, NULL, r.ptr) AS ptr,
-    iif(r.kind = :BR_REPLY, NULL, r.cookie) AS cookie, d.freed_by, d.dur_seq, d.seq
+  SELECT r.kind = :BR_REPLY AS reply, r.flags & :TF_ONE_WAY AS oneway, iif(r.kind = :BR_REPLY, c.code, r.code) AS code,
+    s.generation, c.handle, t.upid AS receiver, r.ptr, r.cookie, d.freed_by, d.dur_seq, d.seq
   FROM raw_delivery d JOIN raw_record r USING (place) JOIN raw_thread t ON t.utid = d.utid
     LEFT JOIN raw_record c ON c.place = d.call LEFT JOIN raw_send s ON s.place = d.call) d
   LEFT JOIN side_time x ON x.seq = d.seq LEFT JOIN side_time z ON z.seq = d.seq + d.dur_seq

@@ -9,8 +9,8 @@ from typing import Callable, NamedTuple
 
 from checks.kit.captures import (BC_DEAD_BINDER_DONE, BC_EXIT_LOOPER, BC_RELEASE, BC_REPLY,
                                  BC_REQUEST_DEATH_NOTIFICATION, BC_TRANSACTION, BR_DEAD_BINDER, BR_DEAD_REPLY,
-                                 BR_FAILED_REPLY, BR_FROZEN_REPLY, BR_ONEWAY_SPAM_SUSPECT, BR_REPLY, ENTER, MAX_32,
-                                 SORTS, each, each_long, offsets, record, u32, watch)
+                                 BR_FAILED_REPLY, BR_FROZEN_REPLY, BR_NOOP, BR_ONEWAY_SPAM_SUSPECT, BR_REPLY, ENTER,
+                                 MAX_32, SORTS, each, each_long, offsets, record, u32, watch)
 from checks.viewer.sessions.session import ACCEPT_FDS, DONE, ONE_WAY, STATUS_CODE, Sent, Session
 
 
@@ -241,16 +241,17 @@ def embrace_through_a_pool(s):
 @case("C6:2 A1:4 C7:1", "its 2 loopers are in", free=False)
 @case("C4:2 A1:4 C5:1", "C5 by service 100: 1", free=True)
 @case("C6:2 A1:4 C7:1", free=True, exits=True)
-def pool_of_two(s, free, exits=False):
+@case("C4:2 A1:4 C5:1", free=False, rests=True)
+def pool_of_two(s, free, exits=False, rests=False):
     """Two loopers of a service are in calls, and a third call waits; or a third looper is free, and did not get it; or
-    that one is no looper any more."""
+    that one is no looper any more. `rests`: the one that is free is the main thread."""
     service, client = s.two()
-    second = service.looper(1)
+    first, second = service.looper(3) if rests else service.main, service.looper(1)
     if free:
         third = service.looper(2)
         if exits:
             third.writes(record(BC_EXIT_LOOPER))
-    service.main.gets(client.main.sends(0, 10))
+    first.gets(client.main.sends(0, 10))
     second.gets(s.process(300, "other").main.sends(0, 11))
     s.process(301, "third").main.sends(0, 1)
     s.wait(1100)
@@ -637,6 +638,43 @@ def oneway_after_another(s, freed, wait):
     s.wait(200)
 
 
+@case("U2:1", writes=4)
+@case("U4:1", writes=1, reads=4)
+@case("U4:1", writes=1, empty=4)
+def oneway_kept_by_a_thread_that_goes_on(s, writes, reads=0, empty=0):
+    """A oneway transaction is not freed, and its thread writes and reads so often after it, or writes nothing."""
+    service, client = s.two()
+    for _ in range(3):
+        service.main.frees(service.main.gets(client.main.sends(0, 7, ONE_WAY)))
+    service.main.gets(client.main.sends(0, 7, ONE_WAY))
+    for _ in range(writes):
+        service.main.writes(ENTER)
+    for _ in range(reads):
+        service.main.reads(record(BR_NOOP))
+    for _ in range(empty):
+        service.main.writes()
+    s.wait(300)
+
+
+@case("W2:1")
+def oneway_after_another_of_its_object(s):
+    """As the first of these; and later ones come, and are freed at once, by the same ptr in another process, and in the
+    same process by another ptr, by another cookie, and as a call. One more goes to a handle whose node is not known."""
+    service, client = s.two()
+    twin, main = s.process(300, "twin"), client.main
+    address = service.main.gets(main.sends(0, 7, ONE_WAY))
+    main.sends(0, 7, ONE_WAY)
+    for thread, handle, ptr, cookie in (twin.main, 5, 0, 0), (service.main, 6, 0x100, 0), (service.main, 8, 0, 7):
+        thread.frees(thread.gets(main.sends(handle, 7, ONE_WAY), ptr, cookie=cookie))
+    client.thread(1).asks(service.looper(1), 7)
+    main.sends(9, 7, ONE_WAY)
+    s.wait(300)
+    service.main.frees(address)
+    s.wait(50)
+    service.ends()
+    s.wait(200)
+
+
 @case("W2:1 W5:1", "(its handler has been at work for 502 ms; 1 waits for it)", "groups that are maybe: 0", wait=500)
 @case("W2:1 W5:1", wait=950)
 @case("W2:1 W6:1", "maybe oneway handlers at work: 1 of 1 oneway code 7 at client 200 node 0x9100 W6 (its handler has"
@@ -770,6 +808,23 @@ def kept_buffers(s, kept, good, then=4, wait=200, held=0, lost=False, ends=False
 @case("U4:2", kept=2, good=0, wait=110, ends=True)
 def buffers(s, **given):
     kept_buffers(s, **given)
+
+
+@case("M2:1")
+@case("U2:1", code=8)
+@case("U2:1", ptr=0x100)
+def buffer_of_a_path_with_a_lost_frame(s, code=7, ptr=0):
+    """A client keeps a reply, and a frame of another one is lost, which calls by the same code and object, or another
+    one of these."""
+    service, client = s.two()
+    other = s.process(300, "other")
+    for free in True, True, True, False:
+        client.main.asks(service.main, 7, free=free)
+    other.main.asks(service.main, code, 5 if ptr else 0, ptr)
+    s.loses(other)
+    for _ in range(4):
+        client.main.asks(service.main, 2)
+    s.wait(300)
 
 
 ERRORS = "all 3 that are kept have at most 12 bytes, all 3 that were freed at least 40: look at what follows an error)"
@@ -974,8 +1029,9 @@ def reply_with_a_descriptor(s, flags=0, sort=4):
     client.main.reads(DONE, record(BR_FAILED_REPLY))
 
 
-@case("S1:1", "the send at", known=True)
-@case("M3:1", known=True, lost=True)
+@case("S1:1", "the send at", "S1 at 752: 1 of 2, 2 frames, 2000000 ns", "real sends that were refused: 1 of 2 code 7",
+      "defect: sends that were refused | client", known=True)
+@case("M3:1", "maybe closers of no call: 1 of 2 code 7", "defect: closers of no call | client", known=True, lost=True)
 def refused_of_two(s, known, lost=False):
     """Of two oneway sends in one write the driver refuses the second."""
     service, client = s.two()
@@ -1020,3 +1076,33 @@ def answer_to_nothing(s, met, lost=False):
         s.loses(client)
     client.main.reads(Sent(None, 0, 0, b"", b"").record(BR_REPLY, 0, client.address()))
     client.main.writes(record(BC_EXIT_LOOPER))
+
+
+@case("C4:2 E6:2 U6:1 A1:4", n=3, wait=620)
+@case("C4:3 E6:2 A1:4", n=3, wait=660)
+@case("C4:2 E6:2 U6:1 A1:4", n=4, wait=640)
+@case("C4:3 E6:2 A1:4", n=4, wait=670)
+@case("C4:2 E6:2 U4:1 U6:1 A1:2", n=3, wait=590, of_buffers=True)
+@case("C4:2 E6:2 U4:1 U5:1 A1:2", n=3, wait=620, of_buffers=True)
+def older_than_usual(s, n, wait, of_buffers=False):
+    """Calls of a code take from 20 ms to 200 ms, and their answers are held as long; two of another code fail after
+    a second. Then a call of a third code is open for some ten times the median of these, or two answers are kept."""
+    service, client = s.two()
+    for took in (20, 60, 200, 65)[:n]:
+        address = service.main.gets(client.main.sends(0, 2))
+        s.wait(took)
+        answer = client.main.answered(service.main.replies(address), free=False)
+        s.wait(took)
+        client.main.frees(answer)
+    failing = client.thread(1), client.thread(2)
+    for number, thread in enumerate(failing, 1):
+        service.thread(number).gets(thread.sends(0, 3))
+    s.wait(1000)
+    for thread in failing:
+        thread.reads(DONE, record(BR_FAILED_REPLY))
+    if of_buffers:
+        for _ in range(2):
+            client.main.asks(service.main, 7, free=False)
+    else:
+        service.main.gets(client.main.sends(0, 7))
+    s.wait(wait)

@@ -38,7 +38,7 @@ def registers(s: Session, manager: Process, number: int = 300, handle: int = 3, 
 @case("N1:1", "explained services not found: 1 of - service foo N1 (10 requests within 1.08 s; it came at ",
       ", 1.3 s after the first)", comes="registered")
 @case("N1:1", "; it came at ", comes="registered", has_side=False)
-@case("N1:1", "; it came at ", comes="given")
+@case("N1:1", "; it came at ", "defect: services not found | client on binder | service foo; key", comes="given")
 @case("N1:1", "; it came at ", comes="to another")
 @case("N2:1", comes="as another")
 @case("N2:2", f"maybe {NOT_FOUND}: 2 of - service foo N2 (10 requests", "(1 defects)", askers=2)

@@ -20,8 +20,9 @@ class Sent:
     def __init__(self, sender, code, flags, body, listed):
         self.sender, self.code, self.flags, self.body, self.listed = sender, code, flags, body, listed
 
-    def record(self, kind, target=0, buffer=0, sender=0):
-        return transaction(kind, target, self.code, self.flags, sender, (len(self.body), len(self.listed)), buffer)
+    def record(self, kind, target=0, buffer=0, sender=0, cookie=0):
+        sizes = len(self.body), len(self.listed)
+        return transaction(kind, target, self.code, self.flags, sender, sizes, buffer, cookie)
 
 
 class Thread:
@@ -54,13 +55,14 @@ class Thread:
             self.reads(DONE)
         return sent
 
-    def gets(self, sent, ptr=0, body=None, listed=None, seen=True):
+    def gets(self, sent, ptr=0, body=None, listed=None, seen=True, cookie=0):
         """Reads a delivery of what was sent. Objects may have other handles here. Returns the address of its buffer."""
         body, listed = sent.body if body is None else body, sent.listed if listed is None else listed
         address = self.process.address()
         told = Sent(sent.sender, sent.code, sent.flags, body, listed)
         number = 0 if sent.flags & ONE_WAY else sent.sender.process.number
-        self.reads(told.record(BR_TRANSACTION, ptr, address, number), attached=(0, body, listed) if seen else None)
+        delivery = told.record(BR_TRANSACTION, ptr, address, number, cookie)
+        self.reads(delivery, attached=(0, body, listed) if seen else None)
         return address
 
     def replies(self, free=None, body=b"", listed=b"", flags=0):

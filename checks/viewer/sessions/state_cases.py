@@ -5,7 +5,7 @@ from checks.kit.captures import (BC_ACQUIRE, BC_ACQUIRE_DONE, BC_CLEAR_DEATH_NOT
                                  BR_CLEAR_DEATH_NOTIFICATION_DONE, BR_DEAD_BINDER, BR_FAILED_REPLY, BR_RELEASE, ENTER,
                                  each, each_long, node, of_handle, offsets, record, watch)
 from checks.viewer.sessions.cases import case
-from checks.viewer.sessions.session import DONE, ONE_WAY, UPDATE_TXN
+from checks.viewer.sessions.session import DONE, ONE_WAY, UPDATE_TXN, Sent
 
 
 # ---- handles and nodes
@@ -13,7 +13,7 @@ from checks.viewer.sessions.session import DONE, ONE_WAY, UPDATE_TXN
 
 @case("H1:1", met="from-start")
 @case("P1:1", met="in-mid-life")
-@case("M1:1", met="from-start", lost=True)
+@case("M1:1", "defect: references held | client", met="from-start", lost=True)
 @case("P1:1", met="from-start", unseen=True)
 def handle_from_nowhere(s, met, lost=False, unseen=False):
     """A process takes a handle that nobody gave it; or it got a delivery with objects that the recorder left out."""
@@ -24,6 +24,18 @@ def handle_from_nowhere(s, met, lost=False, unseen=False):
     if lost:
         s.loses(client)
     client.main.writes(*each(BC_ACQUIRE, 7))
+
+
+@case("H1:1 P1:1")
+def handle_of_an_unseen_object(s):
+    """Two deliveries with objects come that the recorder left out, the second one after the process took a handle that
+    nobody was seen to give. Another process, which got none, takes one too. None calls the manager."""
+    client, other = s.process(200, "client"), s.process(300, "other")
+    for handle in 7, 8:
+        sent = Sent(other.main, 3, ONE_WAY, of_handle(2, handle), offsets(0))
+        client.main.frees(client.main.gets(sent, 0x500, seen=False))
+        client.main.writes(*each(BC_ACQUIRE, 7) if handle == 7 else [])
+    other.main.writes(*each(BC_ACQUIRE, 7))
 
 
 @case("H2:1", "(1 time too often; given by replies to code 5 of service 100 node 0x0: 1 of 1 that came so)")
@@ -44,29 +56,59 @@ def let_go_too_often(s, again=1, well=0, weakly=False, met="from-start", lost=Fa
         client.main.writes(*each(BC_DECREFS if weakly else BC_RELEASE, *[1] * (2 if at < again else 1)))
 
 
-def told_dead(s, count, wait):
-    """The client holds handles of processes of whose death it is told."""
+def told_dead(s, count, wait, clients=1, ends=None):
+    """The client holds handles of processes of whose death it is told; or each of several clients those of others. It
+    may end so long before the end."""
     service, client = s.two()
-    others = [s.process(300 + at, "short-lived") for at in range(count)]
+    holders = [client.main, *(s.process(500 + at, "client").main for at in range(1, clients))]
+    others = [s.process(300 + at, "short-lived") for at in range(count * clients)]
     for at, other in enumerate(others, 1):
+        holder = holders[(at - 1) // count]
         other.main.gives(service.main, at + 20, code=20 + at)
-        client.main.is_given(service.main, at, server_handle=at + 20, code=40 + at)
-        client.main.writes(watch(BC_REQUEST_DEATH_NOTIFICATION, at, 0xD + at))
+        holder.is_given(service.main, at, server_handle=at + 20, code=40 + at)
+        holder.writes(watch(BC_REQUEST_DEATH_NOTIFICATION, at, 0xD + at))
     for at, other in enumerate(others, 1):
+        holder = holders[(at - 1) // count]
         other.ends()
-        client.main.reads(*each_long(BR_DEAD_BINDER, 0xD + at))
-        client.main.writes(*each_long(BC_DEAD_BINDER_DONE, 0xD + at))
+        holder.reads(*each_long(BR_DEAD_BINDER, 0xD + at))
+        holder.writes(*each_long(BC_DEAD_BINDER_DONE, 0xD + at))
         service.main.writes(*each(BC_RELEASE, at + 20))
     s.wait(wait)
+    if ends is not None:
+        client.ends()
+        s.wait(ends)
+        service.main.writes(ENTER)
 
 
 @case("H3:1", "; given by replies to code 41 of service 100 node 0x0: 1 of 1 that came so)", count=1, wait=1100)
 @case("", count=1, wait=900)
 @case("", count=2, wait=900)
+@case("", count=2, wait=900, clients=2)
 @case("H3:3", count=3, wait=200)
+@case("H3:3", count=3, wait=200, has_side=False)
 @case("", count=3, wait=50)
-def proxies_of_the_dead(s, count, wait):
-    told_dead(s, count, wait)
+@case("", count=1, wait=500, ends=600)
+def proxies_of_the_dead(s, count, wait, clients=1, ends=None):
+    told_dead(s, count, wait, clients, ends)
+
+
+@case("H3:1", "(told at 1464; ")
+def proxy_told_dead_twice(s):
+    """A process asks twice for the death of an object, and is told so first long, and then shortly before the end. The
+    service has two threads."""
+    service, client = s.two()
+    service.looper(1)
+    other = s.process(300, "short-lived")
+    other.main.gives(service.main, 21)
+    client.main.is_given(service.main, 1, server_handle=21)
+    for cookie in 0xD, 0xE:
+        client.main.writes(watch(BC_REQUEST_DEATH_NOTIFICATION, 1, cookie))
+    other.ends()
+    for cookie in 0xD, 0xE:
+        client.main.reads(*each_long(BR_DEAD_BINDER, cookie))
+        client.main.writes(*each_long(BC_DEAD_BINDER_DONE, cookie))
+        s.wait(600)
+    service.main.writes(*each(BC_RELEASE, 21))
 
 
 @case("H4:1", takes=2, releases=0, threads=1)
@@ -95,6 +137,22 @@ def taken_again(s, takes, releases, threads, weak=False, calls=0):
         both[-1].writes(*each(release, 1))
     for one in both[:calls]:
         one.sends(0, 1)
+    s.wait(300)
+
+
+@case("H4:2")
+def taken_again_beside(s):
+    """A thread takes each of two handles twice, and one that it holds weakly once at a time. Another thread calls by
+    the first one and takes a fourth, and another process takes a handle of the same number."""
+    service, client = s.two()
+    for handle in 1, 2, 3, 4:
+        client.main.is_given(service.main, handle, take=False)
+    client.main.writes(*each(BC_ACQUIRE, 1, 1, 2, 2), *each(BC_INCREFS, 3), *each(BC_ACQUIRE, 3), *each(BC_RELEASE, 3),
+                       *each(BC_ACQUIRE, 3))
+    beside = client.thread(1)
+    beside.asks(service.main, 1, 1, 0x100)
+    beside.writes(*each(BC_ACQUIRE, 4))
+    s.process(300, "other").main.is_given(service.main, 1)
     s.wait(300)
 
 
@@ -128,22 +186,25 @@ def more_references(s, gains, drops=(0, 0, 0, 0), weak=False, lost=False, rests=
 
 
 @case("", first=2, then=1)
-def taken_again_before(s, first, then):
-    """An earlier generation of a handle was taken twice; this one is taken once."""
+@case("", first=2, then=1, weak=True)
+def taken_again_before(s, first, then, weak=False):
+    """An earlier generation of a handle was taken twice; this one is taken once at a time, and held in another way."""
     service, client = s.two()
+    take, release, other = (BC_INCREFS, BC_DECREFS, BC_ACQUIRE) if weak else (BC_ACQUIRE, BC_RELEASE, BC_INCREFS)
     client.main.is_given(service.main, 1, take=False)
-    client.main.writes(*each(BC_ACQUIRE, *[1] * first))
-    client.main.writes(*each(BC_RELEASE, *[1] * first))
+    client.main.writes(*each(take, *[1] * first))
+    client.main.writes(*each(release, *[1] * first))
     client.main.is_given(service.main, 1, take=False, node=0x800)
-    client.main.writes(*each(BC_INCREFS, 1))
+    client.main.writes(*each(other, 1))
     for _ in range(then):
-        client.main.writes(*each(BC_ACQUIRE, 1))
-        client.main.writes(*each(BC_RELEASE, 1))
-    client.main.writes(*each(BC_ACQUIRE, 1))
+        client.main.writes(*each(take, 1))
+        client.main.writes(*each(release, 1))
+    client.main.writes(*each(take, 1))
     s.wait(300)
 
 
-@case("H6:2 H7:2")
+@case("H6:2 H7:2", "normal references held: 1 of 2", "normal references, balanced: 1 of -",
+      "normal own objects held by others: 1 of -", "normal own objects, balanced: 1 of -")
 def handles_and_nodes(s):
     """A handle that is held and one that is not, and the same of nodes."""
     service, client = s.two()
@@ -262,8 +323,10 @@ def death_not_acknowledged(s, wait, ends=False, clears=False):
 @case("D4:1", clears=1, confirmed=2)
 @case("M1:1", clears=1, confirmed=2, lost=True)
 @case("P1:1", clears=1, confirmed=2, met="in-mid-life")
-def cookie_again(s, clears, confirmed, lost=False, met="from-start"):
-    """Requests of several handles with one cookie are cleared, and then all are confirmed."""
+@case("D4:1", clears=1, confirmed=2, called=True)
+def cookie_again(s, clears, confirmed, lost=False, met="from-start", called=False):
+    """Requests of several handles with one cookie are cleared, and then all are confirmed. An object of the process may
+    have that cookie, too, and get something."""
     service, client = s.two(met)
     for handle in range(1, clears + 1):
         client.main.is_given(service.main, handle)
@@ -271,6 +334,8 @@ def cookie_again(s, clears, confirmed, lost=False, met="from-start"):
     if lost:
         s.loses(client)
     client.main.writes(*(watch(BC_CLEAR_DEATH_NOTIFICATION, handle, 0xD) for handle in range(1, clears + 1)))
+    if called:
+        client.main.frees(client.main.gets(service.main.sends(7, 3, ONE_WAY), 0x500, cookie=0xD))
     client.main.reads(*each_long(BR_CLEAR_DEATH_NOTIFICATION_DONE, *[0xD] * confirmed))
 
 
@@ -293,6 +358,12 @@ def death_acknowledged_again(s, deaths, done):
     _, client = watching(s)
     client.main.reads(*each_long(BR_DEAD_BINDER, *[0xD] * deaths))
     client.main.writes(*each_long(BC_DEAD_BINDER_DONE, *[0xD] * done))
+
+
+@case("U6:1", "cookie 0xd")
+def only_a_death(s):
+    """The capture has nothing but a death."""
+    s.process(200, "client").main.reads(*each_long(BR_DEAD_BINDER, 0xD))
 
 
 @case("D1:1", release=True)

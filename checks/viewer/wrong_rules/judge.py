@@ -1,8 +1,10 @@
 """A database that is judged again and again, with other rows each time. Its tables stay, so that SQLite compiles each
-statement once: for small rows that is nearly all that judging takes."""
+statement once: for small rows that is nearly all that judging takes. A view of raw tables alone is a table here, with
+the same rows: to put another view in its place, SQLite would compile all again."""
 
 import functools
 import pickle
+import re
 import sqlite3
 import zlib
 from typing import Callable
@@ -42,13 +44,26 @@ def changed_by(statement: str) -> str:
 
 
 @functools.cache
+def is_of_raw_tables(view: str) -> bool:
+    """Whether a view takes rows of raw tables and of the side list alone: these are there before the first rule."""
+    asked = set(re.findall(r"\b(?:FROM|JOIN)\s+(\w+)", view)) - set(re.findall(r"(\w+) AS MATERIALIZED \(", view))
+    return bool(asked) and all(name.startswith(("raw_", "side_")) for name in asked)
+
+
+@functools.cache
 def query_of(statement: str) -> int | None:
     """Where the query begins of which a statement makes a table; None if it makes none."""
     first, *tokens = tokens_of(statement)
-    if not first.says("CREATE") or not any(token.says("TABLE") for token in tokens[:2]):
+    makes = {token.text for token in tokens[:2]} & {"TABLE", "VIEW"} if first.says("CREATE") else set()
+    if not makes or makes == {"VIEW"} and not is_of_raw_tables(statement):
         return None
     return next((other.start for one, other in zip(tokens, tokens[1:])
                  if one.says("AS") and other.says("SELECT", "WITH")), None)
+
+
+def making(statement: str) -> str:
+    """A statement of the rules for a new database."""
+    return statement if query_of(statement) is None else statement.replace("CREATE TEMP VIEW", "CREATE TEMP TABLE", 1)
 
 
 @functools.cache
@@ -90,7 +105,7 @@ class Judged:
         elif not values and not self.is_made and not self.statements and not statement.startswith("BEGIN"):
             self.first.append(statement)
         if not self.is_made:
-            return self.database.execute(statement, *values)
+            return self.database.execute(making(statement) if values else statement, *values)
         if values:
             return self.again(statement, values)
         is_made = statement.startswith(("CREATE", "DROP", "ANALYZE")) or "sqlite_stat1" in statement

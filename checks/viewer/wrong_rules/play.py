@@ -77,7 +77,7 @@ def all_forms(statements: Sequence[str], thresholds: Mapping[str, float]) -> lis
 
 class Forms(NamedTuple):
     """The wrong forms of a statement, with their numbers; the table that it changes; where the query begins of which it
-    makes a table; whether it makes a view; and its guards."""
+    makes a table; whether it makes a view that is one here; and its guards."""
     forms: Sequence[tuple[int, Wrong]]
     table: str
     query: int | None
@@ -90,9 +90,12 @@ def by_statement(forms: Sequence[Wrong]) -> dict[str, Forms]:
     numbered: dict[str, list[tuple[int, Wrong]]] = {}
     for number, form in enumerate(forms):
         numbered.setdefault(form.right, []).append((number, form))
-    return {right: Forms(of, changed_by(right), query_of(right), "VIEW" in [it.text for it in tokens_of(right)][:3],
-                         guards_of(right))
+    return {right: Forms(of, changed_by(right), query_of(right), is_view(right), guards_of(right))
             for right, of in numbered.items()}
+
+
+def is_view(statement: str) -> bool:
+    return query_of(statement) is None and "VIEW" in [token.text for token in tokens_of(statement)][:3]
 
 
 # ---- what came of each
