@@ -8,11 +8,13 @@ mod FreshLaws
 mod InLaws
 mod LeakLaws
 mod NestLaws
+mod NextLaws
 mod NumberedRows
 mod PairLaws
 mod ReplyLaws
 mod RowLaws
 mod SeenLaws
+mod SettlingLaws
 mod StepLaws
 mod WaitingLaws
 mod WalkLaws

@@ -1,7 +1,7 @@
 -- The steps of pairing, by what each part of them does.
-use Rattle.std.proofs.Common.{◌≡◌, ◌≢◌, ◌⊎◌, ⊎_elim, inl, inr, ℕ, ◌+◌, zero, Bool, true, false, List, [], ◌∷◌, ◌++◌, take, Option, Some, None, slice_get, length, refl, sym, ap, subst, ◌∙◌}
+use Rattle.std.proofs.Common.{◌≡◌, ◌≢◌, ◌⊎◌, ⊎_elim, inl, inr, ℕ, ◌+◌, ◌-◌, zero, suc, Bool, true, false, List, [], ◌∷◌, ◌++◌, take, Option, Some, None, slice_get, length, refl, sym, ap, subst, ◌∙◌, arith}
 use Rattle.std.specs.Bool.{OnTrue}
-use Rattle.std.specs.Prelude.{Result, Ok, Err, OnOk}
+use Rattle.std.specs.Prelude.{Result, Ok, Err, OnOk, replicate}
 use Rattle.listing_tables.specs.Certainty.{AreOfOneGeneration, AreOfOneHandle, HasAll, IsFitOf, IsIn, IsOnlyOne, LooksAtAll}
 use Rattle.listing_tables.specs.Changes.{RatesPair}
 use Rattle.listing_tables.specs.Numbered.{IsAt, thing_at}
@@ -128,3 +128,19 @@ marks_more a b c [] fit by before also =
     (c, subst (λ (l : List Mark). MarksAlso l c fit.listed.index by) before also, refl)
 marks_more a b c (first ∷ fits) fit by before also =
     (before.0, before.1, marks_more before.0 b c fits fit by before.2 also)
+
+-- ---- the begin of a walk
+
+module _ {X : Type 0} where
+  none_of : (n : ℕ) → take {A = X} n [] ≡ []
+  none_of zero = refl
+  none_of (suc n) = refl
+
+  -- an empty list is filled
+  pub filled : (old : List X) (count len wanted : ℕ) (x : X) → old ≡ [] → len ≡ 0 → count ≡ wanted
+      → take count old ++ replicate (count - len) x ≡ replicate wanted x
+  filled old count len wanted x empty zero_len all =
+      let left : count - len ≡ wanted = omega (arith, zero_len, all) in
+      ap (λ (l : List X). take count l ++ replicate (count - len) x) empty
+      ∙ ap (λ (l : List X). l ++ replicate (count - len) x) (none_of count)
+      ∙ ap (λ (n : ℕ). replicate n x) left

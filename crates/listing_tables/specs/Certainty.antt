@@ -25,6 +25,7 @@ use Rattle.listing_tables.specs.declared.messages.Settled.TheVariants.{Confirmed
 use Rattle.listing_tables.specs.declared.seen.Seen.{Seen}
 use Rattle.listing_tables.specs.declared.waiting.Look.{Look}
 use Rattle.listing_tables.specs.declared.waiting.Waiting.{Waiting}
+use Rattle.listing_tables.specs.Gaps.{IsWholeCall, same_reference}
 use Rattle.listing_tables.specs.Numbered.{IsAt}
 use Rattle.listing_tables.specs.Waiting.{all_looks, waits}
 
@@ -33,10 +34,6 @@ abbrev pub IsIn : {X : Type 0} → List X → X → Type 0
 IsIn xs x = (at : ℕ) × (slice_get xs at ≡ Some x)
 
 -- ---- whether a send may be missing
-
--- whether two nodes, each with a number of gaps, are the same
-abbrev pub same_reference : ℕ × ℕ → ℕ × ℕ → Bool
-same_reference a b = (a.0 == b.0) && (a.1 == b.1)
 
 -- since so many gaps, and before this place, the driver told of references to the node, where none were before
 abbrev pub IsReferred : Seen → ℕ → ℕ → ℕ → Type 0
@@ -118,6 +115,12 @@ LieBadly messages call served =
     ⊎ ((reply closer : Closer) × IsRepliedBy served reply × (call.closer ≡ Some closer)
     × ((closer.place ≤ reply.place) ⊎ (AreAlike messages reply closer → ⊥)))
 
+-- so they lie, and no frame is missing in either: a call may have another closer in a missing frame
+pub record LieApart (evidence : Evidence) (call : Call) (message : Message) (served : Call) (delivery : Message) : Type 0 where
+  pub made : IsWholeCall evidence.seen.now call message.gaps
+  pub got : IsWholeCall evidence.seen.now served delivery.gaps
+  pub lie : LieBadly evidence.messages.now call served
+
 -- the sender_pid of a delivery is not that of the sender, whose number is that of its process
 pub record HasOtherSender (sought : Sought) (sent : Sent) : Type 0 where
   pub told : sought.sender ≢ pos 0
@@ -129,7 +132,7 @@ abbrev pub IsOtherCall : Evidence → Sought → Message → Sent → Type 0
 IsOtherCall evidence sought message sent =
     HasOtherSender sought sent
     ⊎ ((call served : Call) × HasCall evidence message call × HasCall evidence sought.message served
-    × LieBadly evidence.messages.now call served)
+    × LieApart evidence call message served sought.message)
 
 -- Whatever send is at this index, it is not that of the delivery. With a frame missing between the two, its handle may
 -- mean another node by now.
@@ -157,6 +160,7 @@ pub record IsFit (evidence : Evidence) (look : Look) (fit : Fit) : Type 0 where
   pub is : message.detail ≡ IsSent fit.sent
   pub listed : fit.listed ≡ look.listed
   pub place : fit.place ≡ message.place
+  pub gaps : fit.gaps ≡ message.gaps
   pub utid : fit.utid ≡ message.utid
   pub untaken : fit.fresh ≡ true → look.guessed ≡ false
   pub taken : fit.fresh ≡ true → IsRefused fit.sent → ⊥

@@ -1,13 +1,19 @@
 -- What is seen of threads and of processes by their frames, and where frames are missing (docs/DATABASE.md#send).
-use Rattle.std.specs.Prelude.{◌≡◌, ◌≢◌, ℕ, ◌+◌, ◌<◌, ◌≤◌, Bool, true, false, ◌⊎◌, List, [], ◌∷◌, ◌++◌, Option, Some, None, length, slice_get, slice_set}
+use Rattle.std.specs.Prelude.{◌≡◌, ◌≢◌, ◌==◌, ◌&&◌, ℕ, ◌+◌, ◌<◌, ◌≤◌, Bool, true, false, ◌⊎◌, List, [], ◌∷◌, ◌++◌, Option, Some, None, length, slice_get, slice_set}
 use Rattle.std.specs.List.Sorted.{IsNonDecreasing, IsPartitionPoint}
 use Rattle.capture_frame.specs.declared.direction.Direction.{Direction}
 use Rattle.capture_frame.specs.declared.direction.Direction.TheVariants.{Read, Write}
 use Rattle.listing_tables.specs.declared.calls.Call.{Call}
 use Rattle.listing_tables.specs.declared.calls.Closer.{Closer}
+use Rattle.indexmap.specs.IndexMap.{get}
+use Rattle.listing_tables.specs.declared.messages.Message.{Message}
 use Rattle.listing_tables.specs.declared.seen.Seen.{Seen}
 use Rattle.listing_tables.specs.declared.seen.Watched.{Watched}
 use Rattle.listing_tables.specs.declared.spans.Owner.{Owner}
+
+-- whether two nodes, each with a number of gaps, are the same
+abbrev pub same_reference : ℕ × ℕ → ℕ × ℕ → Bool
+same_reference a b = (a.0 == b.0) && (a.1 == b.1)
 
 -- ---- gaps before a place
 
@@ -66,6 +72,23 @@ pub record TakesFrame (old : Seen) (sequence place : ℕ) (direction : Direction
       × NotesAge direction known new.old.all.items owner.upid.index)
       ⊎ (GoesOn old.threads.all.items new.threads.all.items owner.utid.index (length new.gaps.items)
       × (new.old.all.items ≡ known))
+
+-- whether a delivery is a oneway transaction, or opens a call that comes within no other one
+abbrev pub is_outermost : Message → Option Call → Bool
+is_outermost delivery None = delivery.oneway
+is_outermost delivery (Some call) = (call.place == delivery.place) && (call.depth == 1)
+
+-- A thread is told at a place of references to a node. That counts for the gaps before the thread's last frame, if the
+-- frame before that comes after them too, and if nothing counts for them yet: the first place is kept.
+pub record NotesReferred (old : Seen) (utid node place : ℕ) (new : Seen) : Type 0 where
+  pub thread : Watched
+  pub there : slice_get old.threads.all.items utid ≡ Some thread
+  pub first : thread.earlier ≡ Some thread.last → get same_reference old.referred (node, thread.last) ≡ None
+      → get same_reference new.referred (node, thread.last) ≡ Some place
+  pub kept : (at : ℕ) → get same_reference old.referred (node, thread.last) ≡ Some at
+      → get same_reference new.referred (node, thread.last) ≡ Some at
+  pub others : (other : ℕ × ℕ) → same_reference (node, thread.last) other ≡ false
+      → get same_reference new.referred other ≡ get same_reference old.referred other
 
 -- a thread has said that it takes calls
 pub record SaysTakesCalls (old new : List Watched) (utid : ℕ) : Type 0 where

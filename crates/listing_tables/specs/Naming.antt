@@ -1,6 +1,7 @@
 -- Which generation of a handle a record names, and what it does to it (docs/DATABASE.md#generation).
 use Rattle.std.specs.Prelude.{◌≡◌, ◌≢◌, ◌⊎◌, ℕ, ◌+◌, ◌==◌, ◌&&◌, Bool, true, false, List, [], ◌∷◌, ◌++◌, Option, Some, None, length, slice_get, slice_set}
 use Rattle.event_core.specs.declared.handle.HandleChange.TheVariants.{Raise, Lower}
+use Rattle.event_core.specs.declared.strength.Strength.{Strength}
 use Rattle.indexmap.specs.IndexMap.{get}
 use Rattle.listing_tables.specs.declared.generations.Effect.{Effect}
 use Rattle.listing_tables.specs.declared.generations.Effect.TheVariants.{Names, Takes, Holds}
@@ -17,6 +18,16 @@ same_handle a b = (a.0.index == b.0.index) && (a.1 == b.1)
 -- the index of the latest generation of a handle
 abbrev pub latest_of : Generations → Upid → ℕ → Option ℕ
 latest_of generations upid handle = get same_handle generations.latest (upid, handle)
+
+-- no handle has a generation
+abbrev pub HasNone : Generations → Type 0
+HasNone generations = (upid : Upid) (handle : ℕ) → latest_of generations upid handle ≡ None
+
+-- the strength of the reference that a delivery holds, if the effect is that of an object in a delivery
+abbrev pub held_by : Effect → Option Strength
+held_by Names = None
+held_by (Takes strength change) = None
+held_by (Holds strength) = Some strength
 
 -- whether an effect gives the process a reference
 abbrev pub gives : Effect → Bool

@@ -6,7 +6,7 @@ use Rattle.listing_tables.specs.declared.certainty.Evidence.{Evidence}
 use Rattle.listing_tables.specs.declared.certainty.Sought.{Sought}
 use Rattle.listing_tables.specs.declared.fitting.Fit.{Fit}
 use Rattle.listing_tables.specs.declared.fitting.Fitting.{Fitting}
-use Rattle.listing_tables.specs.Certainty.{AreOfOneHandle, IsFitOf, IsIn}
+use Rattle.listing_tables.specs.Certainty.{AreOfOneHandle, ComesAfter, IsFitOf, IsIn}
 
 -- each fit that is left can have been meant, and is of the handle of all that can
 pub record LeavesOneHandle (evidence : Evidence) (sought : Sought) (fitting : Fitting) : Type 0 where
@@ -33,3 +33,12 @@ pub record IsFirstFresh (fits : List Fit) (found : Option Fit) : Type 0 where
   pub is : (it : Fit) → found ≡ Some it → IsIn fits it × (it.fresh ≡ true)
   pub first : (other : Fit) → IsIn fits other → other.fresh ≡ true
       → (it : Fit) × (found ≡ Some it) × (it.listed.index ≤ other.listed.index)
+
+-- of oneway sends of one generation those are left that do not come after the first one that has certainly not come before
+pub record KeepsNext (old new : List Fit) : Type 0 where
+  pub first : Option Fit
+  pub is : IsFirstFresh old first
+  pub kept : (fit : Fit) → IsIn new fit → IsIn old fit
+  pub left : (it : Fit) → first ≡ Some it → (fit : Fit) → IsIn new fit → ComesAfter it fit → ⊥
+  pub gone : (fit : Fit) → IsIn old fit
+      → IsIn new fit ⊎ ((it : Fit) × (first ≡ Some it) × ComesAfter it fit)

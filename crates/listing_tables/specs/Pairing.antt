@@ -1,5 +1,5 @@
 -- The steps in which deliveries are paired with sends, and what makes a pair certain in each (docs/DATABASE.md#send).
-use Rattle.std.specs.Prelude.{◌≡◌, ◌≢◌, ◌⊎◌, ◌&&◌, if◌then◌else◌, ℕ, ◌+◌, Bool, true, false, List, [], ◌∷◌, Some, None, IsTrue, nat_eq, slice_get, slice_set}
+use Rattle.std.specs.Prelude.{◌≡◌, ◌≢◌, ◌⊎◌, ◌&&◌, if◌then◌else◌, ℕ, ◌+◌, Bool, true, false, List, [], ◌∷◌, Some, None, IsTrue, nat_eq, length, replicate, slice_get, slice_set}
 use Rattle.std.specs.Bool.{OnTrue}
 use Rattle.call_stacks.specs.declared.verdict.Verdict.TheVariants.{Answered}
 use Rattle.indexmap.specs.IndexSet.{contains}
@@ -7,7 +7,7 @@ use Rattle.listing_tables.specs.declared.calls.Call.{Call}
 use Rattle.listing_tables.specs.declared.calls.Closer.{Closer}
 use Rattle.listing_tables.specs.declared.certainty.Evidence.{Evidence}
 use Rattle.listing_tables.specs.declared.certainty.Mark.{Mark}
-use Rattle.listing_tables.specs.declared.certainty.Marked.TheVariants.{By}
+use Rattle.listing_tables.specs.declared.certainty.Marked.TheVariants.{By, Unmarked}
 use Rattle.listing_tables.specs.declared.certainty.Sought.{Sought}
 use Rattle.listing_tables.specs.declared.fitting.Fit.{Fit}
 use Rattle.listing_tables.specs.declared.fitting.Fitting.{Fitting}
@@ -21,7 +21,7 @@ use Rattle.listing_tables.specs.Changes.{Couples, IsSendAt, Rates, RatesPair}
 use Rattle.listing_tables.specs.Gaps.{AreGapsBefore, IsWholeCall}
 use Rattle.listing_tables.specs.Learning.{IsFree, marked_also}
 use Rattle.listing_tables.specs.Numbered.{IsAt}
-use Rattle.listing_tables.specs.Waiting.{OthersWaitBut, waits}
+use Rattle.listing_tables.specs.Waiting.{HasNone, OthersWaitBut, waits}
 
 -- the messages that are paired
 abbrev pub messages_of : Pairing → List Message
@@ -30,6 +30,17 @@ messages_of pairing = pairing.messages.now.list.all.items
 -- the calls that are known
 abbrev pub calls_of : Pairing → List Call
 calls_of pairing = pairing.facts.calls.now.all.items
+
+-- ---- the begin of a walk
+
+-- What an earlier walk made of messages is not kept: no send waits, no message is marked, and of no key it is noted that
+-- more sends waited than were looked at. The pairs and the meanings that are known stay.
+pub record BeginsWalk (old new : Pairing) : Type 0 where
+  pub waits : HasNone new.waiting
+  pub crowded : (key : ℕ) → contains nat_eq new.crowded key ≡ false
+  pub marks : new.marks.all.items ≡ replicate (length (messages_of old)) (record { other = Unmarked; guess = None })
+  pub messages : new.messages ≡ old.messages
+  pub meanings : new.meanings ≡ old.meanings
 
 -- ---- the sends that wait
 
@@ -172,6 +183,13 @@ pub record KeepsGuess (pairing : Pairing) (index : ℕ) (new : List Message) : T
   pub delivers : slice_get (messages_of pairing) delivery ≡ Some other
   pub untaken : other.partner ≡ None
   pub couples : Couples (messages_of pairing) new index delivery
+
+-- ---- what is learnt
+
+-- the message at this index comes after so many gaps
+abbrev pub IsAfterGaps : List Message → ℕ → ℕ → Type 0
+IsAfterGaps list index gaps =
+    (message : Message) × (slice_get list index ≡ Some message) × (message.gaps ≡ gaps)
 
 -- ---- replies
 

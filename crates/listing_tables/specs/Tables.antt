@@ -1,5 +1,5 @@
 -- What is written of each table that is written after the walk (docs/DATABASE.md).
-use Rattle.std.specs.Prelude.{ℕ, List, Option, ⊤}
+use Rattle.std.specs.Prelude.{◌≡◌, ℕ, List, Option, ⊤}
 use Rattle.std.specs.Io.KnownBytes.{Keeps}
 use Rattle.listing_tables.specs.Columns.{WritesRows}
 use Rattle.listing_tables.specs.Generations.{generation_rows}
@@ -28,3 +28,11 @@ WritesTable tables Delivery old new = WritesRows old new (
     delivery_rows tables.traffic.messages.list.all.items tables.traffic.buffers.list.all.items tables.calls.all.items)
 WritesTable tables Slice old new = ⊤
 WritesTable tables Level old new = ⊤
+
+-- the walk's lists, from which the other tables are written, stay
+pub record KeepsLists (old new : Tables) : Type 0 where
+  pub spans : new.spans ≡ old.spans
+  pub generations : new.traffic.handles.generations ≡ old.traffic.handles.generations
+  pub messages : new.traffic.messages ≡ old.traffic.messages
+  pub buffers : new.traffic.buffers ≡ old.traffic.buffers
+  pub calls : new.calls ≡ old.calls

@@ -39,6 +39,12 @@ pub record MayHaveCome (waiting : Waiting) (send : Entry) : Type 0 where
   pub doubted : IsTrue (in_doubt waiting send)
   pub came : (doubt_of waiting send.0).sends ≤ (doubt_of waiting send.0).came + 1
 
+-- no send waits, and none is in doubt
+pub record HasNone (waiting : Waiting) : Type 0 where
+  pub waits : (send : Entry) → waits waiting send ≡ false
+  pub doubted : (send : Entry) → in_doubt waiting send ≡ false
+  pub counts : (key : ℕ) → doubt_of waiting key ≡ record { sends = 0; came = 0 }
+
 -- what waited still waits
 abbrev pub AllWait : Waiting → Waiting → Type 0
 AllWait old new = (send : Entry) → IsTrue (waits old send) → IsTrue (waits new send)

@@ -1,5 +1,5 @@
 -- The frames and the records of a capture that the raw tables have, and the rows that are written of them.
-use Rattle.std.specs.Prelude.{ℕ, ◌≡◌, List, [], ◌∷◌, drop, length, map, take, Option, Some, None}
+use Rattle.std.specs.Prelude.{ℕ, ◌≡◌, ◌≢◌, bit_and, List, [], ◌∷◌, drop, length, map, take, Option, Some, None}
 use Rattle.capture_frame.specs.Cut.{cut_of}
 use Rattle.capture_frame.specs.declared.fault.Fault.{Fault}
 use Rattle.capture_frame.specs.Envelope.{PlacedFrame, direction_number}
@@ -7,6 +7,11 @@ use Rattle.capture_frame.specs.Parts.{joined_frames}
 use Rattle.capture_frame.specs.Units.{Placed}
 use Rattle.record_view.specs.Records.{RecordText, records_of}
 use Rattle.transaction_view.specs.Grammar.{content_fault}
+use Rattle.transaction_view.specs.Transaction.{data_size, flags}
+use Rattle.binder_code.specs.declared.record_kind.Kind.TheVariants.{BrReply}
+use Rattle.listing_fields.specs.declared.content.Item.{Item}
+use Rattle.listing_fields.specs.declared.named.Named.{Named}
+use Rattle.listing_tables.specs.Columns.{column_of}
 use Rattle.listing_tables.specs.declared.rows.Column.{Column}
 use Rattle.listing_tables.specs.declared.rows.Column.TheVariants.{Number}
 use Rattle.listing_tables.specs.declared.tables.Tables.{Tables}
@@ -45,6 +50,17 @@ record_begins frame = map (record_begin frame) (records_of frame).units
 -- the row begins with these columns
 abbrev pub BeginsWith : List Column → List Column → Type 0
 BeginsWith begin row = take 2 row ≡ begin
+
+-- the row of a record has what the record names, each in its column
+abbrev pub HasNames : Named → List Column → Type 0
+HasNames named row =
+    take 4 (drop 4 row) ≡ column_of named.handle ∷ column_of named.ptr ∷ column_of named.cookie ∷ column_of named.address ∷ []
+
+-- a record is a reply that a thread gets, with TF_STATUS_CODE and four bytes of data
+pub record HasStatus (item : Item) : Type 0 where
+  pub reply : item.record.kind ≡ BrReply
+  pub flag : bit_and (flags item.record.payload.now) 8 ≢ 0
+  pub size : data_size item.record.payload.now ≡ 4
 
 -- no record has left a mark yet
 abbrev pub HasNoSteps : Tables → Type 0

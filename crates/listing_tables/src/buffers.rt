@@ -1,6 +1,6 @@
 //! The buffers that processes get by deliveries, each with the record that frees it.
 
-ghost use Rattle.std.specs.Prelude.{◌≡◌, map, [], OnOk, IfOk};
+ghost use Rattle.std.specs.Prelude.{◌≡◌, map, [], length, OnOk, IfOk};
 ghost use Rattle.listing_tables.specs.Buffers.{BuffersSum, Frees, SumsOneMore};
 ghost use Rattle.listing_tables.specs.Buffers.{delivery_at, free_at, row_of_buffer};
 
@@ -70,7 +70,8 @@ impl Buffers {
 
     /// Takes a buffer that is delivered at an address of a process, and returns its index.
     pub(crate) fn deliver(&mut self, key: (u32, u64), buffer: Buffer) -> Result<u32, ListingError>
-        ensures { OnOk result (SumsOneMore self.old (delivery_at key buffer.place) self.new) }
+        ensures sums { OnOk result (SumsOneMore self.old (delivery_at key buffer.place) self.new) }
+        ensures index { IfOk result (λ index. index ≡ length self.old.list.all.items) }
     {
         let index = self.list.next()?;
         let earlier = self.latest.insert(key, index)?;

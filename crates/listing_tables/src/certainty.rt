@@ -1,11 +1,12 @@
 //! Which sends a delivery may have come from, and what is certain of it. viewer/database/schema.sql
 //! says how.
 
-ghost use Rattle.std.specs.Prelude.{◌≡◌, ◌⊎◌, None, IfOk, IfSome, OnOk};
+ghost use Rattle.std.specs.Prelude.{◌≡◌, ◌⊎◌, true, None, IfOk, IfSome, OnOk};
 ghost use Rattle.std.specs.Bool.{OnTrue, OnFalse};
 ghost use Rattle.listing_tables.specs.Certainty.{IsElsewhere, IsFit, IsJustified};
 ghost use Rattle.listing_tables.specs.Certainty.{IsOtherCall, IsRefused, IsRepliedBy, IsUnmarked};
-ghost use Rattle.listing_tables.specs.Certainty.{LieBadly, LooksAtAll, LooksAtOne, SpeaksAgainst};
+ghost use Rattle.listing_tables.specs.Certainty.{LieApart, LieBadly, LooksAtAll, LooksAtOne};
+ghost use Rattle.listing_tables.specs.Certainty.{SpeaksAgainst};
 ghost use Rattle.listing_tables.specs.OneHandle.{LeavesFits};
 ghost use Rattle.listing_tables.specs.declared.calls.Closer.{Closer};
 
@@ -167,6 +168,8 @@ impl Evidence<'_> {
             IsFit self.now look ranked.fit)) }
         ensures rank { IfOk result (λ found. IfSome found (λ ranked.
             (ranked.rank ≡ 0) ⊎ SpeaksAgainst self.now sought.now look.listed.index)) }
+        ensures gaps { IfOk result (λ found. IfSome found (λ ranked.
+            has_all ≡ true → ranked.fit.gaps ≡ sought.now.message.gaps)) }
     {
         let listed = look.listed;
         let send = self.messages.list.at(listed.index)?;
@@ -254,14 +257,33 @@ impl Evidence<'_> {
         let told = sought.sender == 0
             || i64::from(sought.sender) == i64::from(sent.process)
             || sent.process >= MADE_UP;
-        let is_whole = self.seen.has_whole_call(call, send)?
-            && self.seen.has_whole_call(served, &sought.message)?;
-        let lie = if !is_whole || self.lie_well(call, served)? {
-            0
-        } else {
+        let lie = if self.lie_apart(call, send, served, &sought.message)? {
             1
+        } else {
+            0
         };
         Ok(if told { lie } else { lie + 2 })
+    }
+
+    /// Whether the made call of a send and the served call of a delivery do not lie as the two ends
+    /// of one call should, and no frame is missing in them.
+    fn lie_apart(
+        &self,
+        call: Call,
+        send: &Message,
+        served: Call,
+        delivery: &Message,
+    ) -> Result<bool, ListingError>
+        ensures { IfOk result (λ apart. OnTrue apart (
+            LieApart self.now call send.now served delivery.now)) }
+    {
+        if !self.seen.has_whole_call(call, send)? {
+            return Ok(false);
+        }
+        if !self.seen.has_whole_call(served, delivery)? {
+            return Ok(false);
+        }
+        Ok(!self.lie_well(call, served)?)
     }
 
     /// Whether the made call and the served call lie as the two ends of one call should.

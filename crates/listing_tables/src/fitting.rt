@@ -1,10 +1,11 @@
 //! The sends that a delivery may have come from, and which of them it may be.
 
 ghost use Rattle.std.specs.Prelude.{◌≡◌, ◌<◌, ◌≤◌, [], IfSome, OnOk};
-ghost use Rattle.std.specs.Bool.{OnTrue};
+ghost use Rattle.std.specs.Bool.{OnFalse, OnTrue};
 ghost use Rattle.listing_tables.specs.Certainty.{Adds, AreOfOneGeneration, ComesAfter, IsIn};
 ghost use Rattle.listing_tables.specs.Certainty.{IsOnlyFit, IsOutOfQuestion};
 ghost use Rattle.listing_tables.specs.Learning.{IsFree};
+ghost use Rattle.listing_tables.specs.OneHandle.{KeepsNext};
 ghost use Rattle.listing_tables.specs.OneHandle.{IsFirstFresh, IsFirstOf};
 ghost use Rattle.listing_tables.specs.declared.fitting.Fit.{Fit};
 
@@ -140,7 +141,7 @@ impl Fitting {
 
     /// Of oneway sends of one generation leaves those that may be the next of them to come.
     pub(crate) fn keep_next(&mut self)
-        ensures kept { (fit : Fit) → IsIn self.new.list.items fit → IsIn self.old.list.items fit }
+        ensures next { KeepsNext self.old.list.items self.new.list.items }
         ensures same { self.new ≡ record self.old { list = self.new.list } }
     {
         let Some(first) = self.first_fresh() else {
@@ -231,7 +232,8 @@ fn is_out_of_question(fit: &Fit, only: &Fit, oneway: bool) -> bool
 /// Whether the driver certainly took a send after another one, which is fresh, and so comes before
 /// it.
 fn is_after(fit: &Fit, first: &Fit) -> bool
-    ensures { OnTrue result (ComesAfter first.now fit.now) }
+    ensures after { OnTrue result (ComesAfter first.now fit.now) }
+    ensures other { OnFalse result (ComesAfter first.now fit.now → ⊥) }
 {
     if !first.fresh
         || fit.sent.generation != first.sent.generation

@@ -1,5 +1,8 @@
 //! What follows from the calls, once they are found.
 
+ghost use Rattle.std.specs.Prelude.{◌≡◌};
+ghost use Rattle.listing_tables.specs.Gaps.{is_outermost};
+
 use crate::calls::Call;
 use crate::held::HeldCounts;
 use crate::levels::Resource;
@@ -101,7 +104,9 @@ impl Traffic {
 }
 
 /// Whether a delivery is a oneway transaction, or a call that comes within no other one.
-fn is_outermost(delivery: &Message, call: Option<Call>) -> bool {
+fn is_outermost(delivery: &Message, call: Option<Call>) -> bool
+    ensures { result ≡ is_outermost delivery.now call }
+{
     match call {
         Some(call) => call.place == delivery.place && call.depth == 1,
         None => delivery.oneway,

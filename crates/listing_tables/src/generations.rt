@@ -1,6 +1,6 @@
 //! The generations of handles: the spans in which a handle of a process means one object.
 
-ghost use Rattle.std.specs.Prelude.{◌≡◌, ◌↔◌, [], IsTrue, IfOk, OnOk};
+ghost use Rattle.std.specs.Prelude.{◌≡◌, ◌↔◌, [], None, IsTrue, IfOk, OnOk};
 ghost use Rattle.event_core.specs.Handles.{handle_effect};
 ghost use Rattle.handle_ledger.specs.Handles.{handle_count_change};
 ghost use Rattle.listing_tables.specs.Generations.{CountsEffect, EndsByEffect, EndsIfEmpty};
@@ -33,11 +33,12 @@ pub(crate) enum Effect {
 }
 
 impl Effect {
-    ghost use Rattle.listing_tables.specs.Naming.{gives};
+    ghost use Rattle.listing_tables.specs.Naming.{gives, held_by};
 
     /// What a record of this kind does.
     pub(crate) fn of(kind: Kind) -> Effect
-        ensures { taken_by result ≡ handle_effect kind }
+        ensures takes { taken_by result ≡ handle_effect kind }
+        ensures holds { held_by result ≡ None }
     {
         match kind {
             Kind::BcAcquire => Effect::Takes(Strength::Strong, HandleChange::Raise),
@@ -274,10 +275,11 @@ pub(crate) struct Generations {
 }
 
 impl Generations {
-    ghost use Rattle.listing_tables.specs.Naming.{Begins, FindsNamed, LetsGo, NamesOne};
+    ghost use Rattle.listing_tables.specs.Naming.{Begins, FindsNamed, HasNone, LetsGo, NamesOne};
 
     pub(crate) fn new(alloc: Global) -> Generations
-        ensures { result.list.all.items ≡ [] }
+        ensures list { result.list.all.items ≡ [] }
+        ensures latest { HasNone result }
     {
         Generations {
             list: Numbered::new(alloc),

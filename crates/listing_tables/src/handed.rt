@@ -1,5 +1,8 @@
 //! The objects that transactions and replies hand over, and the nodes that messages name.
 
+ghost use Rattle.std.specs.Prelude.{◌≡◌, IfSome};
+ghost use Rattle.listing_tables.specs.Certainty.{IsIn};
+
 use crate::generations::Reference;
 use crate::numbered::narrow;
 use crate::spans::Upid;
@@ -73,7 +76,10 @@ impl HandedOver {
 }
 
 /// The object with this number among these objects of a message.
-pub(crate) fn numbered(objects: &[Handed], number: u32) -> Option<Handed> {
+pub(crate) fn numbered(objects: &[Handed], number: u32) -> Option<Handed>
+    ensures is { IfSome result (IsIn objects.now) }
+    ensures numbered { IfSome result (λ found. found.number ≡ number) }
+{
     let at = objects.partition_point(|it| it.number < number);
     let object = objects.get(at)?;
     if object.number == number {

@@ -32,7 +32,8 @@ impl<T: Drop> Numbered<T> {
 
     /// Takes a thing, and returns its index.
     pub(crate) fn push(&mut self, thing: T) -> Result<u32, ListingError>
-        ensures { OnOk result (self.new.all.items ≡ self.old.all.items ++ thing ∷ []) }
+        ensures last { OnOk result (self.new.all.items ≡ self.old.all.items ++ thing ∷ []) }
+        ensures index { IfOk result (λ index. index ≡ length self.old.all.items) }
     {
         let index = self.next()?;
         self.all.push(thing)?;

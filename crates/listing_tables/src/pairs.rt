@@ -3,7 +3,7 @@
 ghost use Rattle.std.specs.Prelude.{◌≡◌, ◌≢◌, ◌⊎◌, ◌&&◌, ℕ, ◌+◌, if◌then◌else◌, true, false, nat_eq, IfOk, IfSome, OnOk};
 ghost use Rattle.std.specs.Bool.{OnTrue};
 ghost use Rattle.listing_tables.specs.Certainty.{IsListOf};
-ghost use Rattle.listing_tables.specs.Pairing.{MarksAlso, MarksEach};
+ghost use Rattle.listing_tables.specs.Pairing.{IsAfterGaps, MarksAlso, MarksEach};
 ghost use Rattle.listing_tables.specs.Waiting.{AllWait, OthersWait};
 ghost use Rattle.listing_tables.specs.declared.waiting.Waiting.{Waiting};
 
@@ -93,7 +93,7 @@ pub(crate) fn pair_all(alloc: Global, traffic: &mut Traffic, calls: &Numbered<Ca
 impl Pairing<'_, '_> {
     ghost use Rattle.indexmap.specs.IndexSet.{contains};
     ghost use Rattle.listing_tables.specs.Changes.{RatesPair};
-    ghost use Rattle.listing_tables.specs.Pairing.{AddsSend, Claims, ClosesNothing, ClosesSend};
+    ghost use Rattle.listing_tables.specs.Pairing.{AddsSend, BeginsWalk, Claims, ClosesNothing, ClosesSend};
     ghost use Rattle.listing_tables.specs.Pairing.{GuessesFit, HasEnds, HasNoGap, KeepsGuess};
     ghost use Rattle.listing_tables.specs.Pairing.{MarksClaimed, MustHaveCome};
     ghost use Rattle.listing_tables.specs.Pairing.{PairsDelivery, PairsReply, messages_of};
@@ -119,12 +119,7 @@ impl Pairing<'_, '_> {
 
     /// Goes through all messages, or only through those of calls.
     fn walk(&mut self, calls: bool) -> Outcome {
-        self.news = false;
-        self.waiting.clear();
-        self.crowded.clear();
-        let count = self.messages.list.all.len();
-        self.marks.all.clear();
-        self.marks.all.resize(count, UNMARKED)?;
+        self.begin_walk()?;
         for index in 0..self.messages.list.next()? {
             let message = self.messages.list.at(index)?;
             if !(calls && message.oneway) {
@@ -135,6 +130,19 @@ impl Pairing<'_, '_> {
         if self.meanings.settle(self.facts.generations)? {
             self.news = true;
         }
+        Ok(())
+    }
+
+    /// Begins a walk: nothing waits or is marked.
+    fn begin_walk(&mut self) -> Outcome
+        ensures { OnOk result (BeginsWalk self.old self.new) }
+    {
+        self.news = false;
+        self.waiting.clear();
+        self.crowded.clear();
+        let count = self.messages.list.all.len();
+        self.marks.all.clear();
+        self.marks.all.resize(count, UNMARKED)?;
         Ok(())
     }
 
@@ -359,11 +367,9 @@ impl Pairing<'_, '_> {
     fn learn_objects(&mut self, sent: u32, came: u32) -> Outcome
         ensures { self.new ≡ record self.old { meanings = self.new.meanings } }
     {
-        let before = self.messages.list.at(sent)?.gaps;
-        let after = self.messages.list.at(came)?.gaps;
-        let objects = self.handed.objects_of(sent);
-        let others = self.handed.objects_of(came);
-        learn_each(&mut self.meanings, (objects, before), (others, after))
+        let objects = objects_at(self.messages, self.handed, sent)?;
+        let others = objects_at(self.messages, self.handed, came)?;
+        learn_each(&mut self.meanings, objects, others)
     }
 
     /// Takes each call that was answered, and that only one delivery can be of: so that is its own.
@@ -583,6 +589,18 @@ fn listed(
         list,
         index,
     })
+}
+
+/// The objects that a message hands over or delivers, and after how many gaps.
+fn objects_at<'h>(
+    messages: &Messages,
+    handed: &'h HandedOver,
+    message: u32,
+) -> Result<(&'h [Handed], u32), ListingError>
+    ensures { IfOk result (λ found. IsAfterGaps messages.now.list.all.items message found.1) }
+{
+    let gaps = messages.list.at(message)?.gaps;
+    Ok((handed.objects_of(message), gaps))
 }
 
 /// Notes what is known of the objects that a message hands over and another one delivers, each after

@@ -1,10 +1,11 @@
 //! The tables frame, record and object, which are written while the walk goes on.
 
-ghost use Rattle.std.specs.Prelude.{◌≡◌, length};
+ghost use Rattle.std.specs.Prelude.{◌≡◌, length, IfSome};
 ghost use Rattle.capture_frame.specs.Envelope.{placed_frame};
 ghost use Rattle.record_view.specs.Records.{records_of};
 ghost use Rattle.listing_fields.specs.Content.{record_of_item};
-ghost use Rattle.listing_tables.specs.Walk.{BeginsWith, IsFrameRow, record_begin};
+ghost use Rattle.listing_tables.specs.Walk.{BeginsWith, HasNames, HasStatus, IsFrameRow};
+ghost use Rattle.listing_tables.specs.Walk.{record_begin};
 
 use crate::rows::{Column, RowWriter, columns, signed};
 use crate::spans::Utid;
@@ -46,7 +47,9 @@ pub(crate) fn record_columns(
     interface: Option<u64>,
     service: Option<u64>,
 ) -> [Column<'static>; 21]
-    ensures { BeginsWith (record_begin (placed_frame frame.entry) (record_of_item item.entry)) result }
+    ensures begins { BeginsWith
+        (record_begin (placed_frame frame.entry) (record_of_item item.entry)) result }
+    ensures names { HasNames named result }
 {
     let record = item.record;
     let sent = Transaction::of(record);
@@ -76,10 +79,14 @@ pub(crate) fn record_columns(
 }
 
 /// The number that a BR_REPLY with TF_STATUS_CODE has in place of data.
-fn status_of(item: Item<'_>) -> Option<u64> {
+fn status_of(item: Item<'_>) -> Option<u64>
+    ensures { IfSome result (λ status. HasStatus item.entry) }
+{
+    if !matches!(item.record.kind, Kind::BrReply) {
+        return None;
+    }
     let reply = Transaction::of(item.record)?;
-    let is_status = reply.flags() & STATUS_CODE != 0 && reply.data_size() == 4;
-    if item.record.kind != Kind::BrReply || !is_status {
+    if reply.flags() & STATUS_CODE == 0 || reply.data_size() != 4 {
         return None;
     }
     let data = item.entry?.body;

@@ -5,7 +5,8 @@ ghost use Rattle.std.specs.Prelude.{◌≡◌, slice_set, true, length, IfOk, On
 ghost use Rattle.std.specs.Bool.{OnFalse, OnTrue};
 ghost use Rattle.listing_tables.specs.Certainty.{HasAll, IsReferred, IsWhole};
 ghost use Rattle.listing_tables.specs.Gaps.{AreGapsBefore, BeginsThread, ComesAfterGap, GoesOn};
-ghost use Rattle.listing_tables.specs.Gaps.{IsWholeCall, NotesGap, NotesProcess, SaysTakesCalls};
+ghost use Rattle.listing_tables.specs.Gaps.{IsWholeCall, NotesGap, NotesProcess, NotesReferred};
+ghost use Rattle.listing_tables.specs.Gaps.{SaysTakesCalls};
 ghost use Rattle.listing_tables.specs.Gaps.{TakesFrame};
 ghost use Rattle.listing_tables.specs.Learning.{HasNoFrameBefore, TakesCalls};
 
@@ -174,13 +175,20 @@ impl Seen {
     /// were before. It counts if the thread has a frame before that since the last gap: so what
     /// made the first one is in the capture, and comes after the gap.
     pub(crate) fn refer(&mut self, utid: Utid, node: u32, place: u32) -> Outcome
-        ensures { HasNoFrameBefore self.entry.now utid.index → self.exit.now ≡ self.entry.now }
+        ensures none { HasNoFrameBefore self.entry.now utid.index →
+            self.exit.now ≡ self.entry.now }
+        ensures noted { OnOk result (
+            NotesReferred self.entry.now utid.index node place self.exit.now) }
     {
         let thread = self.threads.at(utid.index)?;
-        let key = (node, thread.last);
-        if thread.earlier == Some(thread.last) && self.referred.get(&key).is_none() {
-            self.referred.insert(key, place)?;
+        if thread.earlier != Some(thread.last) {
+            return Ok(());
         }
+        let key = (node, thread.last);
+        if self.referred.get(&key).is_some() {
+            return Ok(());
+        }
+        self.referred.insert(key, place)?;
         Ok(())
     }
 

@@ -1,5 +1,8 @@
 //! The sends of each thread that wait to be confirmed.
 
+ghost use Rattle.std.specs.Prelude.{IfOk, OnOk};
+ghost use Rattle.listing_tables.specs.Settling.{AddsLast, TakesFirst, queues_of};
+
 use crate::numbered::Numbered;
 use crate::spans::Utid;
 use listing_fields::{ListingError, Outcome};
@@ -30,13 +33,26 @@ impl Sends {
     }
 
     /// Takes a send.
-    pub(crate) fn add(&mut self, utid: Utid, send: u32) -> Outcome {
-        self.queues.at_mut(utid.index)?.push_back(send)?;
+    pub(crate) fn add(&mut self, utid: Utid, send: u32) -> Outcome
+        ensures { OnOk result (
+            AddsLast (queues_of self.old) utid.index send (queues_of self.new)) }
+    {
+        let at = utid.index as usize;
+        if at >= self.queues.all.len() {
+            return Err(ListingError::TooLarge);
+        }
+        self.queues.all[at].push_back(send)?;
         Ok(())
     }
 
     /// The first send of a thread that waits. Then it does not wait any more.
-    pub(crate) fn take_first(&mut self, utid: Utid) -> Result<Option<u32>, ListingError> {
-        Ok(self.queues.at_mut(utid.index)?.pop_front())
+    pub(crate) fn take_first(&mut self, utid: Utid) -> Result<Option<u32>, ListingError>
+        ensures { IfOk result (TakesFirst (queues_of self.old) utid.index (queues_of self.new)) }
+    {
+        let at = utid.index as usize;
+        if at >= self.queues.all.len() {
+            return Err(ListingError::TooLarge);
+        }
+        Ok(self.queues.all[at].pop_front())
     }
 }

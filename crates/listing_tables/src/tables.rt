@@ -5,7 +5,7 @@ ghost use Rattle.capture_frame.specs.Envelope.{placed_frame};
 ghost use Rattle.record_view.specs.State.{placed_record};
 ghost use Rattle.listing_tables.specs.Steps.{AddsMarked, IsKept, KeepsAll, Marked, WritesCalls};
 ghost use Rattle.listing_tables.specs.Steps.{marked_of};
-ghost use Rattle.listing_tables.specs.Tables.{WritesTable};
+ghost use Rattle.listing_tables.specs.Tables.{KeepsLists, WritesTable};
 ghost use Rattle.listing_tables.specs.Walk.{HasNoSteps};
 
 use crate::calls::{Call, all_calls};
@@ -179,7 +179,8 @@ impl Tables {
         ending: Ending,
         rows: &mut RowWriter<W>,
     ) -> Outcome
-        ensures { OnOk result (WritesTable self.old name rows.old rows.new) }
+        ensures written { OnOk result (WritesTable self.old name rows.old rows.new) }
+        ensures kept { KeepsLists self.old self.new }
     {
         let traffic = &mut self.traffic;
         match name {

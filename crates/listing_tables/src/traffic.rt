@@ -1,5 +1,9 @@
 //! What the walk makes of the records, of which the tables from call on are written.
 
+ghost use Rattle.std.specs.Prelude.{◌≡◌, ◌++◌, ◌∷◌, [], length, OnOk};
+ghost use Rattle.listing_tables.specs.Settling.{SettlesFirst, message_at, messages_in, queues_of};
+ghost use Rattle.listing_tables.specs.Settling.{said_by};
+
 use crate::buffers::{Buffer, Buffers};
 use crate::handed::Node;
 use crate::handles::Handles;
@@ -9,7 +13,7 @@ use crate::messages::{Detail, Message, Messages, Path, Sent, Settled, unknown_pa
 use crate::origin::Origin;
 use crate::seen::Seen;
 use crate::sends::Sends;
-use crate::spans::Owner;
+use crate::spans::{Owner, Utid};
 use crate::steps::is_oneway;
 use binder_code::Kind;
 use capture_frame::Frame;
@@ -79,7 +83,11 @@ impl Traffic {
         oneway: bool,
         key: u64,
         detail: Detail,
-    ) -> Outcome {
+    ) -> Outcome
+        ensures added { OnOk result (messages_in self.new ≡ messages_in self.old
+            ++ message_at origin (length self.old.seen.gaps.items) kind oneway key detail ∷ []) }
+        ensures sends { self.new.sends ≡ self.old.sends }
+    {
         self.messages.list.push(Message {
             sequence: origin.sequence,
             key,
@@ -164,16 +172,19 @@ impl Traffic {
     /// Takes a record that confirms a send, refuses one, or frees a buffer, or that shows whether
     /// sends may be missing.
     fn settle(&mut self, origin: Origin, kind: Kind, named: Named) -> Outcome {
+        let Some(settled) = said_by(kind, origin.place) else {
+            return self.take_other(origin, kind, named);
+        };
+        self.settle_first(origin.utid, settled)?;
+        match settled {
+            Settled::Refused(_) => self.add_message(origin, kind, false, 0, Detail::Failed),
+            Settled::Waiting | Settled::Confirmed(_) => Ok(()),
+        }
+    }
+
+    /// Takes a record that frees a buffer, or that shows whether sends may be missing.
+    fn take_other(&mut self, origin: Origin, kind: Kind, named: Named) -> Outcome {
         match kind {
-            Kind::BrDeadReply | Kind::BrFailedReply | Kind::BrFrozenReply => {
-                self.settle_first(origin, Settled::Refused(origin.place))?;
-                self.add_message(origin, kind, false, 0, Detail::Failed)
-            }
-            Kind::BrTransactionComplete
-            | Kind::BrOnewaySpamSuspect
-            | Kind::BrTransactionPendingFrozen => {
-                self.settle_first(origin, Settled::Confirmed(origin.place))
-            }
             Kind::BcFreeBuffer => match named.address {
                 Some(address) => self.free(origin, address),
                 None => Ok(()),
@@ -195,8 +206,11 @@ impl Traffic {
     }
 
     /// Settles the first send of a thread that waits for it, if one does.
-    fn settle_first(&mut self, origin: Origin, settled: Settled) -> Outcome {
-        match self.sends.take_first(origin.utid)? {
+    fn settle_first(&mut self, utid: Utid, settled: Settled) -> Outcome
+        ensures { OnOk result (SettlesFirst self.old utid.index settled
+            (queues_of self.new.sends) (messages_in self.new)) }
+    {
+        match self.sends.take_first(utid)? {
             Some(send) => self.messages.settle(send, settled),
             None => Ok(()),
         }
@@ -215,5 +229,20 @@ impl Traffic {
                 .lower(origin.upid, Resource::Bytes, buffer.size)?;
         }
         Ok(())
+    }
+}
+
+/// What a record of this kind, at this place, says to the first send of its thread that waits.
+fn said_by(kind: Kind, place: u32) -> Option<Settled>
+    ensures { result ≡ said_by kind place }
+{
+    match kind {
+        Kind::BrDeadReply | Kind::BrFailedReply | Kind::BrFrozenReply => {
+            Some(Settled::Refused(place))
+        }
+        Kind::BrTransactionComplete
+        | Kind::BrOnewaySpamSuspect
+        | Kind::BrTransactionPendingFrozen => Some(Settled::Confirmed(place)),
+        _ => None,
     }
 }

@@ -4,7 +4,7 @@ ghost use Rattle.std.specs.Prelude.{◌≡◌, ◌≤◌, ◌⊎◌, ◌++◌, �
 ghost use Rattle.std.specs.Bool.{OnTrue};
 ghost use Rattle.std.specs.BTreeSet.{contains};
 ghost use Rattle.listing_tables.specs.Doubts.{CountsCame, CountsDoubt, CountsLeaving, CountsLeft};
-ghost use Rattle.listing_tables.specs.Waiting.{AllWait, Entry, OthersWait, OthersWaitBut};
+ghost use Rattle.listing_tables.specs.Waiting.{AllWait, Entry, HasNone, OthersWait, OthersWaitBut};
 ghost use Rattle.listing_tables.specs.Waiting.{all_looks, doubt_of, entry_cmp, entry_of, in_doubt};
 ghost use Rattle.listing_tables.specs.Waiting.{look_at, sends_in, waits};
 
@@ -66,7 +66,9 @@ impl Waiting {
     }
 
     /// Begins with none.
-    pub(crate) fn clear(&mut self) {
+    pub(crate) fn clear(&mut self)
+        ensures { HasNone self.new }
+    {
         self.untaken.clear();
         self.guessed.clear();
         self.doubted.clear();

@@ -69,7 +69,7 @@ loop-opener-preserved c =
     c.loop-opener.invariant.stack later in
     record {
       rows = row_more (map row_of_call c.args.calls.now.all.items) calls c.push.new.self.all.items c.args.openers.now i _ call
-          c.loop-opener-test.true c.loop-opener.invariant.rows c.in_ok-push.ensures is;
+          c.loop-opener-test.true c.loop-opener.invariant.rows c.in_ok-push.ensures.last is;
       stack = λ at after. stack_more at c.nested.new.stack.items c.push-in-loop-opener.new.self.items c.args.openers.now i _ call
           c.loop-opener-test.true
           (c.in_ok-call.ensures.kept at (omega (arith, same, after))

@@ -10,5 +10,5 @@ returns-clause-records g c =
     on_ok_weaker c.add_item.result
     (λ added.
     one_row BeginsWith c.args.streams.now.records c.push.new.self (record_begin (placed_frame c.args.frame) (record_of_item c.args.item))
-    c.record_columns-columns.result c.record_columns-columns.ensures c.in_ok-push.ensures)
+    c.record_columns-columns.result c.record_columns-columns.ensures.begins c.in_ok-push.ensures)
     c.add_item.ensures

@@ -16,7 +16,7 @@ pub returns-then-message-clause-left : goal.returns-then-message-clause-left
 returns-then-message-clause-left c =
     leaves c.args.self.now c.args.sought.now c.look_at_all.new.fitting
     (holds_if c.in_ok-all_there.all_there c.in_ok-all_there.ensures (cc)) c.in_ok-look_at_all.ensures (cc) c.if-not-are_alike.ensures
-    c.keep_next.new.self c.keep_next.ensures.kept
+    c.keep_next.new.self c.keep_next.ensures.next.kept
 
 pub returns-else-message-clause-justified : goal.returns-else-message-clause-justified
 returns-else-message-clause-justified c =

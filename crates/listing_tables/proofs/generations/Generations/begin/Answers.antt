@@ -8,7 +8,7 @@ returns c = record {
   counts = c.new-generation.ensures.counts;
   unknown = c.new-generation.ensures.unknown;
   last = c.in_ok-index.ensures;
-  list = c.in_ok-push.ensures;
+  list = c.in_ok-push.ensures.last;
   latest = c.in_ok-insert.ensures.updates.1;
   others = λ u h other. c.in_ok-insert.ensures.updates.2 (u, h) other;
 }
