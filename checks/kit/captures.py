@@ -49,9 +49,9 @@ def record(code: int, *numbers: bytes) -> bytes:
 
 
 def transaction(kind: int, target: int = 0, code: int = 0, flags: int = 0, sender: int = 0,
-                sizes: Sequence[int] = (0, 0), buffer: int = 0) -> bytes:
+                sizes: Sequence[int] = (0, 0), buffer: int = 0, cookie: int = 0) -> bytes:
     """A transaction or reply record. The sizes are data_size and offsets_size."""
-    return record(kind, u64(target), u64(0), u32(code), u32(flags), u32(sender), u32(0),
+    return record(kind, u64(target), u64(cookie), u32(code), u32(flags), u32(sender), u32(0),
                   u64(sizes[0]), u64(sizes[1]), u64(buffer))
 
 

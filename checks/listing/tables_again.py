@@ -1,7 +1,8 @@
 """Compares the raw tables that `./listing --tables` writes with a second reading in Python.
 
     checks/run tables_again                  all stored captures, and a share of those that are made
-    checks/run tables_again -- --all         all that are made too: 2,000 changed ones and 200 of made-up traffic
+    checks/run tables_again -- --all         all that are made too: 2,000 changed ones, 200 of made-up traffic, and 800
+                                             small ones
     checks/run tables_again -- CASE..        these alone, as `stored/driver/leaks`, `changed/17`, `made`
     checks/run tables_again -- --show CASE   tells each row that differs, in place of the first one of a table
 
@@ -9,7 +10,8 @@ kit/tables/ has the reading. All its rules are in docs/DATABASE.md, viewer/datab
 Each row of each of the fourteen tables must be the same, column by column, and the status must be 2 exactly if the
 capture is malformed. A changed capture is a stored one of which bytes or frames are changed, cut, lost or joined with
 those of another one, in one file or in several. A made one is of kit/simulated.py, of kit/traffic.py, or of many
-transactions that are alike. A case is always the same capture.
+transactions that are alike, a small one of kit/small_traffic.py, and one of a pair of kit/pair_cases.py. A case is
+always the same capture.
 """
 
 import argparse
@@ -28,14 +30,16 @@ from checks.kit.captures import (BC_REPLY, BC_TRANSACTION, BR_FAILED_REPLY, BR_R
                                  BR_TRANSACTION_COMPLETE, ENTER, HEADER_2, frame, record, transaction)
 from checks.kit.checking import FLAG, Fail, check
 from checks.kit.frames import frames_of
+from checks.kit.pair_cases import PAIR_CASES
 from checks.kit.programs import LISTING, ROOT
 from checks.kit.rows import columns_of_tables, encoded, rows_of
+from checks.kit.small_traffic import small_capture
 from checks.kit.tables.reading import Row, tables_of
 from checks.kit.traffic import frames
 from checks.viewer.pairs import SCENES, WAYS, Kind, played
 from viewer.database.programs import build_programs
 
-CHANGED, MADE = 2000, 200
+CHANGED, MADE, SMALL = 2000, 200, 800
 # Of those that are made `.ci/run` takes each so many-th.
 SHARE = 4
 # A made capture of kit/traffic.py has so many frames, and one of a crowd so many calls.
@@ -48,7 +52,8 @@ STORED = {f"stored/{'/'.join(path.relative_to(ROOT).parts[1:])}": path for folde
 def names(all_of_them: bool) -> list[str]:
     step = 1 if all_of_them else SHARE
     return [*STORED, *(f"changed/{number}" for number in range(0, CHANGED, step)),
-            *(f"made/{number}" for number in range(0, MADE, step))]
+            *(f"made/{number}" for number in range(0, MADE, step)),
+            *(f"small/{number}" for number in range(0, SMALL, step)), *(f"pair/{name}" for name in PAIR_CASES)]
 
 
 # ---- captures
@@ -144,6 +149,10 @@ def files_of(name: str) -> list[bytes]:
     kind, _, number = name.partition("/")
     if kind == "stored":
         return [STORED[name].read_bytes()]
+    if kind == "small":
+        return [small_capture(random.Random(name))]
+    if kind == "pair":
+        return [PAIR_CASES[number]()]
     return changed(int(number)) if kind == "changed" else made(int(number))
 
 
