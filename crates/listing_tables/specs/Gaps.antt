@@ -1,6 +1,7 @@
 -- What is seen of threads and of processes by their frames, and where frames are missing (docs/DATABASE.md#send).
 use Rattle.std.specs.Prelude.{◌≡◌, ◌≢◌, ◌==◌, ◌&&◌, ℕ, ◌+◌, ◌<◌, ◌≤◌, Bool, true, false, ◌⊎◌, List, [], ◌∷◌, ◌++◌, Option, Some, None, length, slice_get, slice_set}
 use Rattle.std.specs.List.Sorted.{IsNonDecreasing, IsPartitionPoint}
+use Rattle.std.specs.Option.{option_or}
 use Rattle.capture_frame.specs.declared.direction.Direction.{Direction}
 use Rattle.capture_frame.specs.declared.direction.Direction.TheVariants.{Read, Write}
 use Rattle.listing_tables.specs.declared.calls.Call.{Call}
@@ -49,7 +50,7 @@ pub record NotesProcess (old new : List Bool) (upid : ℕ) : Type 0 where
 -- a thread has its first frame, after so many gaps
 pub record BeginsThread (old new : List Watched) (utid gaps : ℕ) : Type 0 where
   pub first : length old ≤ utid
-  pub are : new ≡ old ++ record { last = gaps; earlier = None; takes_calls = false } ∷ []
+  pub are : new ≡ old ++ record { last = gaps; earlier = None; takes_calls = None } ∷ []
 
 -- a thread has one frame more, after so many gaps
 pub record GoesOn (old new : List Watched) (utid gaps : ℕ) : Type 0 where
@@ -90,8 +91,8 @@ pub record NotesReferred (old : Seen) (utid node place : ℕ) (new : Seen) : Typ
   pub others : (other : ℕ × ℕ) → same_reference (node, thread.last) other ≡ false
       → get same_reference new.referred other ≡ get same_reference old.referred other
 
--- a thread has said that it takes calls
-pub record SaysTakesCalls (old new : List Watched) (utid : ℕ) : Type 0 where
+-- a thread has said that it takes calls, at this place unless it did so before
+pub record SaysTakesCalls (old new : List Watched) (utid place : ℕ) : Type 0 where
   pub thread : Watched
   pub there : slice_get old utid ≡ Some thread
-  pub are : new ≡ slice_set old utid (record thread { takes_calls = true })
+  pub are : new ≡ slice_set old utid (record thread { takes_calls = option_or thread.takes_calls (Some place) })

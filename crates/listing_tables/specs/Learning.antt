@@ -1,5 +1,5 @@
 -- What the walks of pairing learn, and what they leave as it is (docs/DATABASE.md#send).
-use Rattle.std.specs.Prelude.{◌≡◌, ◌≢◌, ◌⊎◌, ◌==◌, if◌then◌else◌, ℕ, false, List, Option, Some, slice_get}
+use Rattle.std.specs.Prelude.{◌≡◌, ◌≢◌, ◌⊎◌, ◌==◌, if◌then◌else◌, ℕ, nat_lt, Bool, false, List, Option, Some, None, slice_get}
 use Rattle.listing_tables.specs.declared.certainty.Marked.{Marked}
 use Rattle.listing_tables.specs.declared.certainty.Marked.TheVariants.{Unmarked, By, Several as ByOthers}
 use Rattle.listing_tables.specs.declared.fitting.Fit.{Fit}
@@ -48,7 +48,13 @@ abbrev pub HasNoFrameBefore : Seen → ℕ → Type 0
 HasNoFrameBefore seen utid =
     (thread : Watched) × (slice_get seen.threads.all.items utid ≡ Some thread) × (thread.earlier ≢ Some thread.last)
 
--- a thread has said that it takes calls
-abbrev pub TakesCalls : Seen → ℕ → Type 0
-TakesCalls seen utid =
-    (thread : Watched) × (slice_get seen.threads.all.items utid ≡ Some thread) × (thread.takes_calls ≢ false)
+-- something was said, and before a place
+abbrev pub is_said_before : Option ℕ → ℕ → Bool
+is_said_before None place = false
+is_said_before (Some said) place = nat_lt said place
+
+-- a thread has said before a place that it takes calls
+abbrev pub TakesCalls : Seen → ℕ → ℕ → Type 0
+TakesCalls seen utid place =
+    (thread : Watched) × (slice_get seen.threads.all.items utid ≡ Some thread)
+    × (is_said_before thread.takes_calls place ≢ false)

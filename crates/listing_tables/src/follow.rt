@@ -76,7 +76,7 @@ impl Traffic {
         held: &mut HeldCounts,
     ) -> Outcome {
         if is_outermost(message, call) {
-            self.seen.take_delivery(message.utid, upid)?;
+            self.seen.take_delivery(message.utid, upid, message.place)?;
         }
         let found = self.buffers.list.at(index)?.path;
         let path = match call {

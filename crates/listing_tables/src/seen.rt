@@ -8,7 +8,7 @@ ghost use Rattle.listing_tables.specs.Gaps.{AreGapsBefore, BeginsThread, ComesAf
 ghost use Rattle.listing_tables.specs.Gaps.{IsWholeCall, NotesGap, NotesProcess, NotesReferred};
 ghost use Rattle.listing_tables.specs.Gaps.{SaysTakesCalls};
 ghost use Rattle.listing_tables.specs.Gaps.{TakesFrame};
-ghost use Rattle.listing_tables.specs.Learning.{HasNoFrameBefore, TakesCalls};
+ghost use Rattle.listing_tables.specs.Learning.{HasNoFrameBefore, TakesCalls, is_said_before};
 
 use crate::calls::Call;
 use crate::messages::Message;
@@ -25,8 +25,8 @@ struct Watched {
     /// How many gaps come before its last frame, and before the one before that.
     last: u32,
     earlier: Option<u32>,
-    /// Whether it has said that it takes calls.
-    takes_calls: bool,
+    /// The place at which it first said that it takes calls.
+    takes_calls: Option<u32>,
 }
 
 /// What is seen of threads, processes and nodes so far.
@@ -118,7 +118,7 @@ impl Seen {
             self.threads.push(Watched {
                 last,
                 earlier: None,
-                takes_calls: false,
+                takes_calls: None,
             })?;
             return Ok(true);
         }
@@ -144,14 +144,14 @@ impl Seen {
         self.old.set(upid.index, true)
     }
 
-    /// Takes a record by which a thread says that it takes calls.
-    pub(crate) fn take_calls(&mut self, utid: Utid) -> Outcome
+    /// Takes a record at this place by which a thread says that it takes calls.
+    pub(crate) fn take_calls(&mut self, utid: Utid, place: u32) -> Outcome
         ensures said { OnOk result (SaysTakesCalls self.entry.now.threads.all.items
-            self.exit.now.threads.all.items utid.index) }
+            self.exit.now.threads.all.items utid.index place) }
         ensures rest { self.exit.now ≡ record self.entry.now { threads = self.exit.now.threads } }
     {
         let thread = self.threads.at(utid.index)?;
-        let takes_calls = true;
+        let takes_calls = thread.takes_calls.or(Some(place));
         self.threads.set(
             utid.index,
             Watched {
@@ -161,11 +161,12 @@ impl Seen {
         )
     }
 
-    /// Takes a delivery that only a thread that takes calls gets.
-    pub(crate) fn take_delivery(&mut self, utid: Utid, upid: Upid) -> Outcome
-        ensures { TakesCalls self.entry.now utid.index → self.exit.now ≡ self.entry.now }
+    /// Takes a delivery at this place that only a thread that takes calls gets. One that says so
+    /// later took calls before the capture too.
+    pub(crate) fn take_delivery(&mut self, utid: Utid, upid: Upid, place: u32) -> Outcome
+        ensures { TakesCalls self.entry.now utid.index place → self.exit.now ≡ self.entry.now }
     {
-        if self.threads.at(utid.index)?.takes_calls {
+        if is_said_before(self.threads.at(utid.index)?.takes_calls, place) {
             return Ok(());
         }
         self.is_old(upid)
@@ -255,6 +256,16 @@ impl Seen {
         ensures { IfOk result (λ whole. OnTrue whole (IsWhole self.now upid.index)) }
     {
         Ok(!self.old.at(upid.index)?)
+    }
+}
+
+/// Whether something was said, and before a place.
+fn is_said_before(said: Option<u32>, place: u32) -> bool
+    ensures { result ≡ is_said_before said place }
+{
+    match said {
+        Some(said) => said < place,
+        None => false,
     }
 }
 

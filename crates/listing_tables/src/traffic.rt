@@ -190,7 +190,9 @@ impl Traffic {
                 None => Ok(()),
             },
             Kind::BrIncrefs | Kind::BrAcquire => self.refer(origin, named),
-            Kind::BcEnterLooper | Kind::BcRegisterLooper => self.seen.take_calls(origin.utid),
+            Kind::BcEnterLooper | Kind::BcRegisterLooper => {
+                self.seen.take_calls(origin.utid, origin.place)
+            }
             _ => Ok(()),
         }
     }
