@@ -2,8 +2,8 @@
 
 from typing import Callable
 
-from checks.kit.captures import (BC_REPLY, BC_TRANSACTION, BR_REPLY, BR_TRANSACTION, BR_TRANSACTION_COMPLETE, ENTER,
-                                 HEADER_2, frame, record, transaction)
+from checks.kit.captures import (BC_FREE_BUFFER, BC_REPLY, BC_TRANSACTION, BR_REPLY, BR_TRANSACTION,
+                                 BR_TRANSACTION_COMPLETE, ENTER, HEADER_2, frame, record, transaction, u64)
 
 NODE = 0x10
 
@@ -44,7 +44,17 @@ def one_more_on_each_walk() -> bytes:
     return of_frames(*frames)
 
 
+def said_after_a_delivery() -> bytes:
+    """A thread gets a oneway transaction, and only then says that it takes calls. So it has said so before the capture
+    too, and its process is older: the transaction may also come from a send before the capture."""
+    return of_frames(
+        (1, 200, 201, record(BC_FREE_BUFFER, u64(0x1000))),
+        (1, 100, 101, transaction(BC_TRANSACTION, 1, 1, 1)), (2, 100, 101, record(BR_TRANSACTION_COMPLETE)),
+        (2, 200, 201, transaction(BR_TRANSACTION, NODE, 1, 1, buffer=0x7000)), (1, 200, 201, ENTER))
+
+
 PAIR_CASES: dict[str, Callable[[], bytes]] = {
     "guess-of-a-sure-send": guess_of_a_sure_send,
     "one-more-on-each-walk": one_more_on_each_walk,
+    "said-after-a-delivery": said_after_a_delivery,
 }
