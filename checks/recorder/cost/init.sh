@@ -12,6 +12,7 @@
 # shellcheck shell=dash disable=SC2013,SC2086
 /bin/busybox --install -s /bin
 export PATH=/bin
+echo	# the firmware of x86-64 leaves its last line open
 mount -t proc proc /proc
 mount -t sysfs sys /sys
 mount -t devtmpfs dev /dev
