@@ -4,7 +4,7 @@ from checks.kit.captures import (BC_ACQUIRE, BC_DEAD_BINDER_DONE, BC_RELEASE, BC
                                  BR_CLEAR_DEATH_NOTIFICATION_DONE, BR_DEAD_BINDER, BR_RELEASE, BR_REPLY,
                                  BR_SPAWN_LOOPER, ENTER, each, each_long, node, record, watch)
 from checks.viewer.sessions.cases import case
-from checks.viewer.sessions.session import DONE, Sent
+from checks.viewer.sessions.session import DONE, ONE_WAY, Sent
 
 
 # ---- lines of the book `state`, as the kernel 6.1 writes them
@@ -319,6 +319,15 @@ def throughout_in_a_pool(s, wait, to=7, server=(100, 101)):
         client.main.sends(to, 1)
         client.thread(2).sends(to, 1)
     through(s, [(9569, (200, 201), server)], wait, does=calls, enters=False)
+
+
+@case("C7:1 W5:1", "a looper is in oneway code 1 since 300 ms; 1 send waits")
+def throughout_before_a_pool(s):
+    """The looper of a service is in a oneway transaction, and a call from before waits for it."""
+    def calls(service, client):
+        looper = service.looper(1)
+        looper.gets(client.main.sends(7, 1, ONE_WAY), 0x700)
+    through(s, [(9569, (200, 201), (100, 0))], does=calls, enters=False)
 
 
 @case("U1:1", took=700, wait=200)

@@ -293,3 +293,31 @@ def waits_to_the_end(s):
     service, client = s.two()
     waits_for_one(s, service, client, s.process(300, "victim"))
     s.wait(50)
+
+
+def after_another(s):
+    """A service whose only looper has served no call yet, and a client. Another thread has served one, and has ended."""
+    service, client = s.two()
+    other = service.thread(1)
+    client.main.asks(other)
+    other.ends()
+    return service, client
+
+
+@case("C7:1 U6:1", "its only looper is in a call of its own, code 4")
+def kept_by_a_call_that_nobody_got(s):
+    """The only looper of a service is in a call of its own, and a call to the service waits. Calls alone are found."""
+    service, client = after_another(s)
+    service.main.sends(9, 4)
+    client.main.sends(0, 1)
+    s.wait(50)
+
+
+@case("W2:2 W5:1", "; 2 wait for it")
+def kept_from_oneway_transactions(s):
+    """The only looper of a service is in a oneway transaction, and two others wait. Of calls nothing is found."""
+    service, client = after_another(s)
+    service.main.gets(client.main.sends(0, 7, ONE_WAY))
+    for _ in range(2):
+        client.main.sends(0, 7, ONE_WAY)
+    s.wait(50)
