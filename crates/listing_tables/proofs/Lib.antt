@@ -5,6 +5,7 @@ mod ChangeLaws
 mod CountLaws
 mod DoubtLaws
 mod FreshLaws
+mod GuessLaws
 mod InLaws
 mod LeakLaws
 mod NestLaws

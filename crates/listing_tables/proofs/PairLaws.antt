@@ -85,30 +85,30 @@ module _ (evidence : Evidence) (sought : Sought) (fitting : Fitting)
 -- ---- a delivery
 
 -- what is guessed of the same messages and fits
-pub guess_from : (old mid : Pairing) (new : List Message) (fitting : Fitting) (count : ℕ) (sure : Bool)
-    → messages_of mid ≡ messages_of old → mid.fitting ≡ fitting → GuessesFit (messages_of mid) new mid.fitting count sure
-    → GuessesFit (messages_of old) new fitting count sure
-guess_from old mid new fitting count sure messages fits h =
-    subst (λ (f : Fitting). GuessesFit (messages_of old) new f count sure) fits
-    (subst (λ (l : List Message). GuessesFit l new mid.fitting count sure) messages h)
+pub guess_from : (oneway : Bool) (old mid : Pairing) (new : List Message) (fitting : Fitting) (count : ℕ) (sure : Bool)
+    → messages_of mid ≡ messages_of old → mid.fitting ≡ fitting
+    → GuessesFit oneway (messages_of mid) new mid.fitting count sure → GuessesFit oneway (messages_of old) new fitting count sure
+guess_from oneway old mid new fitting count sure messages fits h =
+    subst (λ (f : Fitting). GuessesFit oneway (messages_of old) new f count sure) fits
+    (subst (λ (l : List Message). GuessesFit oneway l new mid.fitting count sure) messages h)
 
 module _ (pairing : Pairing) (sought : Sought) (new : List Message) where
-  pub pairs_guess : (fitting : Fitting) (count : ℕ) → GuessesFit (messages_of pairing) new fitting count false
+  pub pairs_guess : (oneway : Bool) (fitting : Fitting) (count : ℕ) → GuessesFit oneway (messages_of pairing) new fitting count false
       → PairsDelivery pairing sought new
-  pairs_guess fitting count h = ⊎_elim inl
+  pairs_guess oneway fitting count h = ⊎_elim (λ same. inl same.0)
       (λ found. inr (inl (record { index = found.0.listed.index; count = count; rates = found.2 }))) h
 
-  pub pairs_one : (evidence : Evidence) (fitting : Fitting) (count : ℕ) → IsEvidenceOf pairing evidence
-      → LeavesOneHandle evidence sought fitting → GuessesFit (messages_of pairing) new fitting count true
+  pub pairs_one : (oneway : Bool) (evidence : Evidence) (fitting : Fitting) (count : ℕ) → IsEvidenceOf pairing evidence
+      → LeavesOneHandle evidence sought fitting → GuessesFit oneway (messages_of pairing) new fitting count true
       → PairsDelivery pairing sought new
-  pairs_one evidence fitting count known left h = ⊎_elim inl
+  pairs_one oneway evidence fitting count known left h = ⊎_elim (λ same. inl same.0)
       (λ found. inr (inr (inl (record {
         evidence = evidence;
         known = known;
         handle = left.handle;
         fit = found.0;
-        is = (left.fits found.0 found.1.is).0;
-        same = (left.fits found.0 found.1.is).1;
+        is = (left.fits found.0 (found.1.is found.0 refl).0).0;
+        same = (left.fits found.0 (found.1.is found.0 refl).0).1;
         count = count;
         rates = found.2;
       }))))

@@ -2,28 +2,18 @@
 use Rattle.std.specs.Prelude.{◌≡◌, ◌≢◌, ◌⊎◌, ◌==◌, if◌then◌else◌, ℕ, nat_lt, Bool, false, List, Option, Some, None, slice_get}
 use Rattle.listing_tables.specs.declared.certainty.Marked.{Marked}
 use Rattle.listing_tables.specs.declared.certainty.Marked.TheVariants.{Unmarked, By, Several as ByOthers}
-use Rattle.listing_tables.specs.declared.fitting.Fit.{Fit}
-use Rattle.listing_tables.specs.declared.fitting.Fitting.{Fitting}
-use Rattle.listing_tables.specs.declared.fitting.Meant.TheVariants.{Other}
 use Rattle.listing_tables.specs.declared.meanings.Known.{Known}
 use Rattle.listing_tables.specs.declared.meanings.Known.TheVariants.{Nothing, One, Several}
 use Rattle.listing_tables.specs.declared.meanings.Meaning.{Meaning}
 use Rattle.listing_tables.specs.declared.meanings.Meanings.{Meanings}
 use Rattle.listing_tables.specs.declared.seen.Seen.{Seen}
 use Rattle.listing_tables.specs.declared.seen.Watched.{Watched}
-use Rattle.listing_tables.specs.Certainty.{IsIn}
 
 -- marked by one message more: by this one if by none before, else by several
 abbrev pub marked_also : Marked → ℕ → Marked
 marked_also Unmarked index = By index
 marked_also (By other) index = ByOthers
 marked_also ByOthers index = ByOthers
-
--- a send that may be taken by guess: it is among the fits, no guess took it, and it is not known to go elsewhere
-pub record IsFree (fitting : Fitting) (fit : Fit) : Type 0 where
-  pub is : IsIn fitting.list.items fit
-  pub free : fit.guessed ≡ false
-  pub may : fit.meant ≢ Other
 
 -- what is known of a generation of which two things are known
 abbrev pub known_of_two : Known → Known → Known

@@ -19,7 +19,8 @@ use Rattle.listing_tables.specs.declared.pairs.Pairing.{Pairing}
 use Rattle.listing_tables.specs.Certainty.{AreAlike, AreOfOneHandle, IsFitOf, IsIn, IsListOf, IsOnlyOne, IsRefused, IsRepliedBy}
 use Rattle.listing_tables.specs.Changes.{Couples, IsSendAt, Rates, RatesPair}
 use Rattle.listing_tables.specs.Gaps.{AreGapsBefore, IsWholeCall}
-use Rattle.listing_tables.specs.Learning.{IsFree, marked_also}
+use Rattle.listing_tables.specs.Guesses.{IsGuess}
+use Rattle.listing_tables.specs.Learning.{marked_also}
 use Rattle.listing_tables.specs.Numbered.{IsAt}
 use Rattle.listing_tables.specs.Waiting.{HasNone, OthersWaitBut, waits}
 
@@ -115,10 +116,11 @@ PairsDelivery pairing sought new =
     (new ≡ messages_of pairing) ⊎ Guesses (messages_of pairing) new ⊎ TakesOneOf pairing sought new
     ⊎ TakesOnly pairing sought new
 
--- one of the fits that may be taken by guess is rated so, or none
-abbrev pub GuessesFit : List Message → List Message → Fitting → ℕ → Bool → Type 0
-GuessesFit old new fitting count sure =
-    (new ≡ old) ⊎ ((fit : Fit) × IsFree fitting fit × Rates old new fit.listed.index count sure)
+-- of the fits of a delivery, which may be oneway, that one is rated so which is guessed; without one no message changes
+abbrev pub GuessesFit : Bool → List Message → List Message → Fitting → ℕ → Bool → Type 0
+GuessesFit oneway old new fitting count sure =
+    ((new ≡ old) × IsGuess oneway fitting.list.items None)
+    ⊎ ((fit : Fit) × IsGuess oneway fitting.list.items (Some fit) × Rates old new fit.listed.index count sure)
 
 -- ---- the rule for calls that must have come
 

@@ -1,10 +1,11 @@
 //! The sends that a delivery may have come from, and which of them it may be.
 
-ghost use Rattle.std.specs.Prelude.{◌≡◌, ◌<◌, ◌≤◌, [], IfSome, OnOk};
+ghost use Rattle.std.specs.Prelude.{◌≡◌, ◌<◌, ◌≤◌, [], length, IfOk, IfSome, OnOk};
 ghost use Rattle.std.specs.Bool.{OnFalse, OnTrue};
 ghost use Rattle.listing_tables.specs.Certainty.{Adds, AreOfOneGeneration, ComesAfter, IsIn};
 ghost use Rattle.listing_tables.specs.Certainty.{IsOnlyFit, IsOutOfQuestion};
-ghost use Rattle.listing_tables.specs.Learning.{IsFree};
+ghost use Rattle.listing_tables.specs.Guesses.{IsGuess, IsGuessOf, IsNoLater, MayBeGuessed};
+ghost use Rattle.listing_tables.specs.Guesses.{call_order};
 ghost use Rattle.listing_tables.specs.OneHandle.{KeepsNext};
 ghost use Rattle.listing_tables.specs.OneHandle.{IsFirstFresh, IsFirstOf};
 ghost use Rattle.listing_tables.specs.declared.fitting.Fit.{Fit};
@@ -22,6 +23,21 @@ pub(crate) enum Meant {
     This,
     Unknown,
     Other,
+}
+
+impl Meant {
+    ghost use Rattle.listing_tables.specs.Guesses.{meant_order};
+
+    /// In which order sends are guessed: those first that go to the node of the delivery.
+    fn order(self) -> u8
+        ensures { result ≡ meant_order self }
+    {
+        match self {
+            Meant::This => 0,
+            Meant::Unknown => 1,
+            Meant::Other => 2,
+        }
+    }
 }
 
 /// A send that a delivery may have come from.
@@ -164,22 +180,19 @@ impl Fitting {
     /// The one that is taken by guess, if there is one. Those come first that are known to go to
     /// the node; then the first of oneway sends, and of calls the one that is closed first.
     pub(crate) fn best(&self, oneway: bool) -> Option<Fit>
-        ensures { IfSome result (IsFree self.now) }
+        ensures { IsGuess oneway self.now.list.items result }
     {
         let mut best: Option<Fit> = None;
         for fit in &self.list {
-            if !fit.guessed
-                && fit.meant != Meant::Other
-                && best.is_none_or(|it| is_better(fit, &it, oneway))
-            {
-                best = Some(*fit);
-            }
+            best = best_of(best, *fit, oneway);
         }
         best
     }
 
     /// How many they are: no more than were looked at.
-    pub(crate) fn count(&self) -> Result<u32, ListingError> {
+    pub(crate) fn count(&self) -> Result<u32, ListingError>
+        ensures { IfOk result (λ count. count ≡ length self.now.list.items) }
+    {
         narrow(self.list.len() as u64)
     }
 }
@@ -248,21 +261,57 @@ fn is_after(fit: &Fit, first: &Fit) -> bool
     }
 }
 
-fn is_better(fit: &Fit, other: &Fit, oneway: bool) -> bool {
-    if fit.meant != other.meant {
-        return fit.meant == Meant::This;
+/// The send that is guessed: the one so far, or this one.
+fn best_of(best: Option<Fit>, fit: Fit, oneway: bool) -> Option<Fit>
+    ensures { IsGuessOf oneway best fit result }
+{
+    if !may_be_guessed(&fit) {
+        return best;
     }
-    if !oneway && fit.closer != other.closer {
-        return is_before(fit.closer, other.closer);
+    let Some(it) = best else {
+        return Some(fit);
+    };
+    if is_better(&fit, &it, oneway) {
+        return Some(fit);
+    }
+    best
+}
+
+/// Whether a send may be guessed: no guess took it, and it is not known to go elsewhere.
+fn may_be_guessed(fit: &Fit) -> bool
+    ensures may { OnTrue result (MayBeGuessed fit.now) }
+    ensures not { OnFalse result (MayBeGuessed fit.now → ⊥) }
+{
+    !fit.guessed && fit.meant != Meant::Other
+}
+
+/// Whether a send is guessed rather than another one.
+fn is_better(fit: &Fit, other: &Fit, oneway: bool) -> bool
+    ensures better { OnTrue result (IsNoLater oneway fit.now other.now) }
+    ensures worse { OnFalse result (IsNoLater oneway other.now fit.now) }
+{
+    let (first, second) = (fit.meant.order(), other.meant.order());
+    if first != second {
+        return first < second;
+    }
+    let (one, two) = (
+        call_order(oneway, fit.closer),
+        call_order(oneway, other.closer),
+    );
+    if one != two {
+        return one < two;
     }
     fit.listed.index < other.listed.index
 }
 
-/// Whether a call with this closer is closed before one with the other. An open call comes last.
-fn is_before(closer: Option<u32>, other: Option<u32>) -> bool {
-    match (closer, other) {
-        (Some(place), Some(later)) => place < later,
-        (Some(_), None) => true,
-        (None, _) => false,
+/// In which order calls are guessed that have these closers: an open call comes last. Of oneway
+/// sends the closer says nothing.
+fn call_order(oneway: bool, closer: Option<u32>) -> u64
+    ensures { result ≡ call_order oneway closer }
+{
+    match closer {
+        _ if oneway => 0,
+        Some(place) => u64::from(place),
+        None => 1 << 32,
     }
 }

@@ -269,8 +269,8 @@ impl Pairing<'_, '_> {
 
     /// Takes one of several sends of one generation.
     fn take_one(&mut self, sought: &Sought) -> Outcome
-        ensures { OnOk result ((count : ℕ) × GuessesFit (messages_of self.old)
-            (messages_of self.new) self.old.fitting count true) }
+        ensures { OnOk result ((count : ℕ) × GuessesFit sought.now.message.oneway
+            (messages_of self.old) (messages_of self.new) self.old.fitting count true) }
     {
         let Some(fit) = self.fitting.first() else {
             return Err(ListingError::TooLarge);
@@ -284,8 +284,8 @@ impl Pairing<'_, '_> {
     /// Takes the best send by guess, if there is one that no other delivery has taken. So many
     /// sends fit, and it may be certain that it is one of this generation.
     fn guess(&mut self, sought: &Sought, fits: u32, certain: bool) -> Outcome
-        ensures { OnOk result (GuessesFit (messages_of self.old) (messages_of self.new)
-            self.old.fitting fits certain) }
+        ensures { OnOk result (GuessesFit sought.now.message.oneway (messages_of self.old)
+            (messages_of self.new) self.old.fitting fits certain) }
     {
         self.mark_all(sought.index)?;
         let Some(fit) = self.fitting.best(sought.message.oneway) else {

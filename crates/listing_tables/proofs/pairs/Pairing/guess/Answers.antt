@@ -1,7 +1,7 @@
-use Rattle.std.proofs.Common.{List, inr, ap, subst}
+use Rattle.std.proofs.Common.{List, Some, None, inl, inr, ap, subst}
 use Rattle.std.proofs.lemmas.Result.{on_ok_weaker}
 use Rattle.listing_tables.specs.Changes.{Rates}
-use Rattle.listing_tables.specs.Learning.{IsFree}
+use Rattle.listing_tables.specs.Guesses.{IsGuess}
 use Rattle.listing_tables.specs.Pairing.{messages_of}
 use Rattle.listing_tables.specs.declared.fitting.Fitting.{Fitting}
 use Rattle.listing_tables.specs.declared.messages.Message.{Message}
@@ -12,12 +12,23 @@ pub returns : goal.returns
 returns c =
     let fit = c.in-Some.fit in
     let new = c.rate.new.self.list.all.items in
+    let oneway = c.args.sought.now.message.oneway in
     let marked = c.in_ok-mark_all.ensures.same in
-    let free = rw c.in-Some.is at c.best.ensures in
+    let best = rw c.in-Some.is at c.best.ensures in
     on_ok_weaker c.rate.result
     (λ rates. inr (
       fit,
-      subst (λ (f : Fitting). IsFree f fit) (ap (λ (p : Pairing). p.fitting) marked) free,
+      subst (λ (f : Fitting). IsGuess oneway f.list.items (Some fit)) (ap (λ (p : Pairing). p.fitting) marked) best,
       subst (λ (l : List Message). Rates l new fit.listed.index c.args.fits c.args.certain) (ap messages_of marked) rates,
     ))
     c.rate.ensures
+
+pub returns-in_default : goal.returns-in_default
+returns-in_default c =
+    let oneway = c.args.sought.now.message.oneway in
+    let marked = c.in_ok-mark_all.ensures.same in
+    let best = rw c.in_default.is at c.best.ensures in
+    inl (
+      ap messages_of marked,
+      subst (λ (f : Fitting). IsGuess oneway f.list.items None) (ap (λ (p : Pairing). p.fitting) marked) best,
+    )

@@ -28,9 +28,9 @@ returns-in-OneHandle c =
     let fitting = c.certainty_of.new.fitting in
     let left = rw c.in-OneHandle.is at c.in_ok-certainty.ensures.left in
     on_ok_weaker c.take_one.result
-    (λ found. pairs_one c.args.self.now c.args.sought.now new _ fitting found.0
+    (λ found. pairs_one c.args.self.now c.args.sought.now new c.args.sought.now.message.oneway _ fitting found.0
     (record { messages = refl; calls = refl; generations = refl; seen = refl; meanings = refl; waiting = refl; marks = refl })
-    left (guess_from c.args.self.now mid new fitting found.0 true (ap messages_of same) (ap (λ (p : Pairing). p.fitting) same) found.1))
+    left (guess_from c.args.sought.now.message.oneway c.args.self.now mid new fitting found.0 true (ap messages_of same) (ap (λ (p : Pairing). p.fitting) same) found.1))
     c.take_one.ensures
 
 pub returns-in_ok-guess-in-Several : goal.returns-in_ok-guess-in-Several
@@ -40,8 +40,8 @@ returns-in_ok-guess-in-Several c =
     let guessed = messages_of c.guess.new.self in
     on_ok_always c.doubt_all.result
     (subst (λ (l : List Message). PairsDelivery c.args.self.now c.args.sought.now l) (sym (ap messages_of c.doubt_all.ensures.same))
-    (pairs_guess c.args.self.now c.args.sought.now guessed mid.fitting c.in_ok-fits.fits
-    (guess_from c.args.self.now mid guessed mid.fitting c.in_ok-fits.fits false (ap messages_of same) refl c.in_ok-guess-in-Several.ensures)))
+    (pairs_guess c.args.self.now c.args.sought.now guessed c.args.sought.now.message.oneway mid.fitting c.in_ok-fits.fits
+    (guess_from c.args.sought.now.message.oneway c.args.self.now mid guessed mid.fitting c.in_ok-fits.fits false (ap messages_of same) refl c.in_ok-guess-in-Several.ensures)))
 
 pub returns-in_ok-one_more-in-Unknown : goal.returns-in_ok-one_more-in-Unknown
 returns-in_ok-one_more-in-Unknown c =
@@ -49,6 +49,6 @@ returns-in_ok-one_more-in-Unknown c =
     let same = c.in_ok-note_crowded.ensures.same in
     let guessed = messages_of c.guess-in-Unknown.new.self in
     on_ok_weaker c.guess-in-Unknown.result
-    (λ found. pairs_guess c.args.self.now c.args.sought.now guessed mid.fitting c.in_ok-one_more-in-Unknown.field-0
-    (guess_from c.args.self.now mid guessed mid.fitting c.in_ok-one_more-in-Unknown.field-0 false (ap messages_of same) refl found))
+    (λ found. pairs_guess c.args.self.now c.args.sought.now guessed c.args.sought.now.message.oneway mid.fitting c.in_ok-one_more-in-Unknown.field-0
+    (guess_from c.args.sought.now.message.oneway c.args.self.now mid guessed mid.fitting c.in_ok-one_more-in-Unknown.field-0 false (ap messages_of same) refl found))
     c.guess-in-Unknown.ensures

@@ -14,6 +14,6 @@ returns c =
     let fits = c.in_ok-fits.fits in
     on_ok_always c.doubt_all.result (
       fits,
-      subst (λ (l : List Message). GuessesFit (messages_of old) l old.fitting fits true) (sym (ap messages_of c.doubt_all.ensures.same))
-          (guess_from old mid guessed old.fitting fits true (ap messages_of same) (ap (λ (p : Pairing). p.fitting) same) c.in_ok-guess.ensures),
+      subst (λ (l : List Message). GuessesFit c.args.sought.now.message.oneway (messages_of old) l old.fitting fits true) (sym (ap messages_of c.doubt_all.ensures.same))
+          (guess_from c.args.sought.now.message.oneway old mid guessed old.fitting fits true (ap messages_of same) (ap (λ (p : Pairing). p.fitting) same) c.in_ok-guess.ensures),
     )
