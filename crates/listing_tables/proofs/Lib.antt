@@ -8,6 +8,7 @@ mod FreshLaws
 mod GuessLaws
 mod InLaws
 mod LeakLaws
+mod MeaningLaws
 mod NestLaws
 mod NextLaws
 mod NumberedRows

@@ -1,11 +1,12 @@
 //! Which node each generation means.
 
-ghost use Rattle.std.specs.Prelude.{◌≡◌, ◌⊎◌, IfOk, IfSome, OnOk};
+ghost use Rattle.std.specs.Prelude.{◌≡◌, IfOk, IfSome, OnOk};
 ghost use Rattle.std.specs.Bool.{OnTrue};
 ghost use Rattle.listing_tables.specs.Certainty.{BeginsBefore, HasOtherHandle, MeansNode};
 ghost use Rattle.listing_tables.specs.Learning.{IsPastGap, MeansFirst, known_of_two};
-ghost use Rattle.listing_tables.specs.Meanings.{LearnsKnown, MakesKnown};
-ghost use Rattle.listing_tables.specs.declared.meanings.Known.TheVariants.{One};
+ghost use Rattle.listing_tables.specs.Meanings.{BeginsEach, LearnsKnown, LearnsNode, LearnsSame};
+ghost use Rattle.listing_tables.specs.Meanings.{MakesAllKnown, MakesKnown};
+ghost use Rattle.listing_tables.specs.Meanings.{SpreadsEach, SpreadsOne};
 
 use crate::generations::Generations;
 use crate::numbered::Numbered;
@@ -56,7 +57,10 @@ impl Meanings {
     }
 
     /// Nothing is known yet of these generations.
-    pub(crate) fn begin(&mut self, generations: &Generations, seen: &Seen) -> Outcome {
+    pub(crate) fn begin(&mut self, generations: &Generations, seen: &Seen) -> Outcome
+        ensures { OnOk result (BeginsEach seen.now self.old.list.all.items
+            self.new.list.all.items generations.now.list.all.items) }
+    {
         for generation in &generations.list.all {
             self.list.push(Meaning {
                 gaps: seen.gaps_before(generation.begin)?,
@@ -92,8 +96,7 @@ impl Meanings {
     /// Notes that a generation means a node after so many gaps, for the next walk.
     pub(crate) fn learn(&mut self, generation: u32, gaps: u32, node: u32) -> Outcome
         ensures past { IsPastGap self.old generation gaps → self.new ≡ self.old }
-        ensures learnt { OnOk result (IsPastGap self.old generation gaps
-            ⊎ LearnsKnown self.old.list.all.items self.new.list.all.items generation (One node)) }
+        ensures learnt { OnOk result (LearnsNode self.old self.new generation gaps node) }
     {
         if self.list.at(generation)?.gaps != gaps {
             return Ok(());
@@ -105,6 +108,8 @@ impl Meanings {
     pub(crate) fn learn_same(&mut self, one: (u32, u32), other: (u32, u32)) -> Outcome
         ensures first { IsPastGap self.old one.0 one.1 → self.new ≡ self.old }
         ensures second { IsPastGap self.old other.0 other.1 → self.new ≡ self.old }
+        ensures list { self.new.list ≡ self.old.list }
+        ensures noted { OnOk result (LearnsSame self.old self.new one other) }
     {
         if self.list.at(one.0)?.gaps == one.1 && self.list.at(other.0)?.gaps == other.1 {
             self.same.push((one.0, other.0))?;
@@ -113,7 +118,8 @@ impl Meanings {
     }
 
     fn join(&mut self, generation: u32, other: Known) -> Outcome
-        ensures { OnOk result (LearnsKnown self.old.list.all.items self.new.list.all.items
+        ensures same { self.new.same ≡ self.old.same }
+        ensures learnt { OnOk result (LearnsKnown self.old.list.all.items self.new.list.all.items
             generation other) }
     {
         let meaning = self.list.at(generation)?;
@@ -122,7 +128,10 @@ impl Meanings {
     }
 
     /// Makes known what was learnt. Returns whether that is more than before.
-    pub(crate) fn settle(&mut self, generations: &Generations) -> Result<bool, ListingError> {
+    pub(crate) fn settle(&mut self, generations: &Generations) -> Result<bool, ListingError>
+        ensures { OnOk result (MakesAllKnown self.old.list.all.items self.new.list.all.items
+            self.old.same.all.items) }
+    {
         self.spread()?;
         let mut is_more = false;
         for index in 0..self.list.next()? {
@@ -135,15 +144,27 @@ impl Meanings {
 
     /// What one of two generations means that mean the same, the other means too. Most objects are
     /// handed on in the order in which this was noted.
-    fn spread(&mut self) -> Outcome {
+    fn spread(&mut self) -> Outcome
+        ensures { OnOk result (SpreadsEach self.old.list.all.items self.new.list.all.items
+            self.old.same.all.items) }
+    {
         for at in 0..self.same.next()? {
             let (one, other) = self.same.at(at)?;
-            let learnt = self.list.at(one)?.learnt;
-            self.join(other, learnt)?;
-            let learnt = self.list.at(other)?.learnt;
-            self.join(one, learnt)?;
+            self.spread_one(one, other)?;
         }
         Ok(())
+    }
+
+    /// What one of these two generations means, the other means too.
+    fn spread_one(&mut self, one: u32, other: u32) -> Outcome
+        ensures spread { OnOk result (SpreadsOne self.old.list.all.items self.new.list.all.items
+            one other) }
+        ensures same { self.new.same ≡ self.old.same }
+    {
+        let learnt = self.list.at(one)?.learnt;
+        self.join(other, learnt)?;
+        let learnt = self.list.at(other)?.learnt;
+        self.join(one, learnt)
     }
 
     /// Makes known what was learnt of a generation. Returns whether that is something else.

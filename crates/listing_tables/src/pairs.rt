@@ -3,6 +3,7 @@
 ghost use Rattle.std.specs.Prelude.{◌≡◌, ◌≢◌, ◌⊎◌, ◌&&◌, ℕ, ◌+◌, if◌then◌else◌, true, false, nat_eq, IfOk, IfSome, OnOk};
 ghost use Rattle.std.specs.Bool.{OnTrue};
 ghost use Rattle.listing_tables.specs.Certainty.{IsListOf};
+ghost use Rattle.listing_tables.specs.Meanings.{LearnsEach, LearnsObject, LearnsOne};
 ghost use Rattle.listing_tables.specs.Pairing.{IsAfterGaps, MarksAlso, MarksEach};
 ghost use Rattle.listing_tables.specs.Waiting.{AllWait, OthersWait};
 ghost use Rattle.listing_tables.specs.declared.waiting.Waiting.{Waiting};
@@ -367,9 +368,9 @@ impl Pairing<'_, '_> {
     fn learn_objects(&mut self, sent: u32, came: u32) -> Outcome
         ensures { self.new ≡ record self.old { meanings = self.new.meanings } }
     {
-        let objects = objects_at(self.messages, self.handed, sent)?;
-        let others = objects_at(self.messages, self.handed, came)?;
-        learn_each(&mut self.meanings, objects, others)
+        let (objects, before) = objects_at(self.messages, self.handed, sent)?;
+        let (others, after) = objects_at(self.messages, self.handed, came)?;
+        learn_each(&mut self.meanings, objects, before, others, after)
     }
 
     /// Takes each call that was answered, and that only one delivery can be of: so that is its own.
@@ -607,20 +608,44 @@ fn objects_at<'h>(
 /// so many gaps.
 fn learn_each(
     meanings: &mut Meanings,
-    (objects, before): (&[Handed], u32),
-    (others, after): (&[Handed], u32),
-) -> Outcome {
+    objects: &[Handed],
+    before: u32,
+    others: &[Handed],
+    after: u32,
+) -> Outcome
+    ensures { OnOk result (
+        LearnsEach meanings.old meanings.new objects.now before others.now after) }
+{
     for one in objects {
-        if let Some(other) = numbered(others, one.number) {
-            learn_object(meanings, (one.object, before), (other.object, after))?;
-        }
+        learn_one(meanings, *one, before, others, after)?;
     }
     Ok(())
 }
 
+/// Notes what is known of an object that a message hands over after so many gaps, by the one with
+/// its number among these that come after so many.
+fn learn_one(
+    meanings: &mut Meanings,
+    one: Handed,
+    before: u32,
+    others: &[Handed],
+    after: u32,
+) -> Outcome
+    ensures { OnOk result (
+        LearnsOne meanings.old meanings.new one before others.now after) }
+{
+    let Some(other) = numbered(others, one.number) else {
+        return Ok(());
+    };
+    learn_object(meanings, (one.object, before), (other.object, after))
+}
+
 /// Notes what is known of an object, by what it is to the process that hands it over and to the one
 /// that gets it, each after so many gaps.
-fn learn_object(meanings: &mut Meanings, sent: (Object, u32), came: (Object, u32)) -> Outcome {
+fn learn_object(meanings: &mut Meanings, sent: (Object, u32), came: (Object, u32)) -> Outcome
+    ensures { OnOk result (
+        LearnsObject meanings.old meanings.new sent.0 sent.1 came.0 came.1) }
+{
     match (sent, came) {
         ((Object::Own(node), _), (Object::Of(reference), gaps))
         | ((Object::Of(reference), gaps), (Object::Own(node), _)) => {

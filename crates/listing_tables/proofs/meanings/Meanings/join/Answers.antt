@@ -4,8 +4,8 @@ use Rattle.std.proofs.lemmas.Result.{on_ok_weaker}
 use Rattle.listing_tables.specs.declared.meanings.Known.{Known}
 use Rattle.listing_tables.proofs.meanings.Meanings.join.Goals as goal
 
-pub returns : goal.returns
-returns c =
+pub returns-clause-learnt : goal.returns-clause-learnt
+returns-clause-learnt c =
     let meaning = c.in_ok-meaning.meaning in
     on_ok_weaker c.set.result
     (λ put. record {
