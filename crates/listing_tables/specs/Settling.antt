@@ -1,12 +1,13 @@
 -- What the driver says to the sends of a thread: which records confirm a send or refuse one, and which send that is
 -- (docs/DATABASE.md#send).
-use Rattle.std.specs.Prelude.{◌≡◌, ℕ, Bool, List, [], ◌∷◌, ◌++◌, map, Option, None, Some, slice_get, slice_set}
+use Rattle.std.specs.Prelude.{◌≡◌, ℕ, Bool, false, List, [], ◌∷◌, ◌++◌, length, map, Option, None, Some, slice_get, slice_set}
 use Rattle.std.specs.Option.{option_to_list}
 use Rattle.std.specs.VecDeque.{deque_items}
 use Rattle.binder_code.specs.declared.record_kind.Kind.{Kind}
 use Rattle.binder_code.specs.declared.record_kind.Kind.TheVariants.{BrDeadReply, BrTransactionComplete, BrFailedReply, BrFrozenReply, BrOnewaySpamSuspect, BrTransactionPendingFrozen}
 use Rattle.listing_tables.specs.Changes.{Changes, settled_as, with_detail}
 use Rattle.listing_tables.specs.declared.messages.Detail.{Detail}
+use Rattle.listing_tables.specs.declared.messages.Detail.TheVariants.{Failed}
 use Rattle.listing_tables.specs.declared.messages.Message.{Message}
 use Rattle.listing_tables.specs.declared.messages.Settled.{Settled}
 use Rattle.listing_tables.specs.declared.messages.Settled.TheVariants.{Confirmed, Refused}
@@ -67,3 +68,16 @@ message_at origin gaps kind oneway key detail = record {
   partner = None;
   detail = detail;
 }
+
+-- what is said by an error reply is a message besides, which is no send and no delivery
+abbrev pub said_as_message : Origin → ℕ → Kind → Settled → List Message
+said_as_message origin gaps kind (Refused place) = message_at origin gaps kind false 0 Failed ∷ []
+said_as_message origin gaps kind _ = []
+
+-- What is said settles the first send of the thread that waits, and what an error reply says is a message besides. Where
+-- nothing is said to a send, all messages stay, and all that wait.
+abbrev pub TakesSaid : Traffic → Origin → Kind → Traffic → Option Settled → Type 0
+TakesSaid old origin kind new None = (new.messages ≡ old.messages) × (new.sends ≡ old.sends)
+TakesSaid old origin kind new (Some said) =
+    (settled : List Message) × SettlesFirst old origin.utid.index said (queues_of new.sends) settled
+    × (messages_in new ≡ settled ++ said_as_message origin (length old.seen.gaps.items) kind said)

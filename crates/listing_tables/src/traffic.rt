@@ -2,7 +2,7 @@
 
 ghost use Rattle.std.specs.Prelude.{◌≡◌, ◌++◌, ◌∷◌, [], length, OnOk};
 ghost use Rattle.listing_tables.specs.Settling.{SettlesFirst, message_at, messages_in, queues_of};
-ghost use Rattle.listing_tables.specs.Settling.{said_by};
+ghost use Rattle.listing_tables.specs.Settling.{TakesSaid, said_by};
 
 use crate::buffers::{Buffer, Buffers};
 use crate::handed::Node;
@@ -171,7 +171,10 @@ impl Traffic {
 
     /// Takes a record that confirms a send, refuses one, or frees a buffer, or that shows whether
     /// sends may be missing.
-    fn settle(&mut self, origin: Origin, kind: Kind, named: Named) -> Outcome {
+    fn settle(&mut self, origin: Origin, kind: Kind, named: Named) -> Outcome
+        ensures { OnOk result (
+            TakesSaid self.old origin kind self.new (said_by kind origin.place)) }
+    {
         let Some(settled) = said_by(kind, origin.place) else {
             return self.take_other(origin, kind, named);
         };
@@ -183,7 +186,10 @@ impl Traffic {
     }
 
     /// Takes a record that frees a buffer, or that shows whether sends may be missing.
-    fn take_other(&mut self, origin: Origin, kind: Kind, named: Named) -> Outcome {
+    fn take_other(&mut self, origin: Origin, kind: Kind, named: Named) -> Outcome
+        ensures messages { self.new.messages ≡ self.old.messages }
+        ensures sends { self.new.sends ≡ self.old.sends }
+    {
         match kind {
             Kind::BcFreeBuffer => match named.address {
                 Some(address) => self.free(origin, address),
@@ -198,7 +204,10 @@ impl Traffic {
     }
 
     /// Takes a record by which the driver tells of references to a node.
-    fn refer(&mut self, origin: Origin, named: Named) -> Outcome {
+    fn refer(&mut self, origin: Origin, named: Named) -> Outcome
+        ensures messages { self.new.messages ≡ self.old.messages }
+        ensures sends { self.new.sends ≡ self.old.sends }
+    {
         let (Some(ptr), Some(cookie)) = (named.ptr, named.cookie) else {
             return Ok(());
         };
@@ -209,8 +218,9 @@ impl Traffic {
 
     /// Settles the first send of a thread that waits for it, if one does.
     fn settle_first(&mut self, utid: Utid, settled: Settled) -> Outcome
-        ensures { OnOk result (SettlesFirst self.old utid.index settled
+        ensures settled { OnOk result (SettlesFirst self.old utid.index settled
             (queues_of self.new.sends) (messages_in self.new)) }
+        ensures seen { self.new.seen ≡ self.old.seen }
     {
         match self.sends.take_first(utid)? {
             Some(send) => self.messages.settle(send, settled),
@@ -219,7 +229,10 @@ impl Traffic {
     }
 
     /// Frees all buffers at an address of a process that are not freed.
-    fn free(&mut self, origin: Origin, address: u64) -> Outcome {
+    fn free(&mut self, origin: Origin, address: u64) -> Outcome
+        ensures messages { self.new.messages ≡ self.old.messages }
+        ensures sends { self.new.sends ≡ self.old.sends }
+    {
         let key = (origin.upid.index, address);
         let first = self.buffers.freed.next()?;
         self.buffers.free(key, origin.place, origin.sequence)?;
