@@ -98,6 +98,7 @@ impl Pairing<'_, '_> {
     ghost use Rattle.listing_tables.specs.Pairing.{GuessesFit, HasEnds, HasNoGap, KeepsGuess};
     ghost use Rattle.listing_tables.specs.Pairing.{MarksClaimed, MustHaveCome};
     ghost use Rattle.listing_tables.specs.Pairing.{PairsDelivery, PairsReply, messages_of};
+    ghost use Rattle.listing_tables.specs.Turns.{TakesTurn};
     ghost use Rattle.listing_tables.specs.Waiting.{entry_of, waits};
 
     fn pair(&mut self) -> Outcome {
@@ -147,7 +148,9 @@ impl Pairing<'_, '_> {
         Ok(())
     }
 
-    fn pair_message(&mut self, index: u32, message: &Message) -> Outcome {
+    fn pair_message(&mut self, index: u32, message: &Message) -> Outcome
+        ensures { OnOk result (TakesTurn self.old index message.now (messages_of self.new)) }
+    {
         self.close_send(message)?;
         if is_reply(message.kind) || message.partner.is_some() {
             return Ok(());
