@@ -18,5 +18,6 @@ mod RowLaws
 mod SeenLaws
 mod SettlingLaws
 mod StepLaws
+mod TurnLaws
 mod WaitingLaws
 mod WalkLaws

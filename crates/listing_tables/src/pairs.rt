@@ -98,40 +98,42 @@ impl Pairing<'_, '_> {
     ghost use Rattle.listing_tables.specs.Pairing.{GuessesFit, HasEnds, HasNoGap, KeepsGuess};
     ghost use Rattle.listing_tables.specs.Pairing.{MarksClaimed, MustHaveCome};
     ghost use Rattle.listing_tables.specs.Pairing.{PairsDelivery, PairsReply, messages_of};
-    ghost use Rattle.listing_tables.specs.Turns.{TakesTurn};
+    ghost use Rattle.listing_tables.specs.Turns.{ClaimsAll, HasTurn, KeepsIfGuessed, MakesEach};
+    ghost use Rattle.listing_tables.specs.Turns.{PairsAll, PairsIfReplied, TakesTurn, Walks, WalksOn};
+    ghost use Rattle.listing_tables.specs.Turns.{count_of};
     ghost use Rattle.listing_tables.specs.Waiting.{entry_of, waits};
 
-    fn pair(&mut self) -> Outcome {
+    fn pair(&mut self) -> Outcome
+        ensures { OnOk result (PairsAll self.old self.new) }
+    {
         self.meanings
             .begin(self.facts.generations, self.facts.seen)?;
+        self.walk_on()?;
+        self.keep_guesses()?;
+        self.pair_replies()
+    }
+
+    /// Makes walks for as long as another one may find more.
+    fn walk_on(&mut self) -> Outcome
+        ensures { OnOk result (WalksOn self.old self.new) }
+    {
         for walk in 0..WALKS {
             self.walk(walk == 0)?;
             if !self.news && walk > 0 {
-                break;
+                return Ok(());
             }
-        }
-        for index in 0..self.messages.list.next()? {
-            self.keep_guess(index)?;
-        }
-        for index in 0..self.messages.list.next()? {
-            self.pair_reply(index)?;
         }
         Ok(())
     }
 
     /// Goes through all messages, or only through those of calls.
-    fn walk(&mut self, calls: bool) -> Outcome {
+    fn walk(&mut self, calls: bool) -> Outcome
+        ensures { OnOk result (Walks calls self.old self.new) }
+    {
         self.begin_walk()?;
-        for index in 0..self.messages.list.next()? {
-            let message = self.messages.list.at(index)?;
-            if !(calls && message.oneway) {
-                self.pair_message(index, &message)?;
-            }
-        }
+        self.take_turns(calls)?;
         self.claim_all()?;
-        if self.meanings.settle(self.facts.generations)? {
-            self.news = true;
-        }
+        self.news |= self.meanings.settle(self.facts.generations)?;
         Ok(())
     }
 
@@ -146,6 +148,27 @@ impl Pairing<'_, '_> {
         self.marks.all.clear();
         self.marks.all.resize(count, UNMARKED)?;
         Ok(())
+    }
+
+    /// Gives each message its turn, in order.
+    fn take_turns(&mut self, calls: bool) -> Outcome
+        ensures { OnOk result (MakesEach (HasTurn calls) self.old self.new (count_of self.old)) }
+    {
+        for index in 0..self.messages.list.next()? {
+            self.take_turn(calls, index)?;
+        }
+        Ok(())
+    }
+
+    /// Gives a message its turn, unless it is a oneway one in a walk through those of calls.
+    fn take_turn(&mut self, calls: bool, index: u32) -> Outcome
+        ensures { OnOk result (HasTurn calls self.old index self.new) }
+    {
+        let message = self.messages.list.at(index)?;
+        if calls && message.oneway {
+            return Ok(());
+        }
+        self.pair_message(index, &message)
     }
 
     fn pair_message(&mut self, index: u32, message: &Message) -> Outcome
@@ -377,12 +400,14 @@ impl Pairing<'_, '_> {
     }
 
     /// Takes each call that was answered, and that only one delivery can be of: so that is its own.
-    fn claim_all(&mut self) -> Outcome {
+    fn claim_all(&mut self) -> Outcome
+        ensures { OnOk result (ClaimsAll self.old self.new) }
+    {
         for index in 0..self.messages.list.next()? {
             self.mark_claimed(index)?;
         }
-        for index in 0..self.messages.list.next()? {
-            self.claim(index)?;
+        for delivery in 0..self.messages.list.next()? {
+            self.claim(delivery)?;
         }
         Ok(())
     }
@@ -442,6 +467,16 @@ impl Pairing<'_, '_> {
         self.keep_pair(send, &sought)
     }
 
+    /// Keeps all that the last walk guessed.
+    fn keep_guesses(&mut self) -> Outcome
+        ensures { OnOk result (MakesEach KeepsIfGuessed self.old self.new (count_of self.old)) }
+    {
+        for index in 0..self.messages.list.next()? {
+            self.keep_guess(index)?;
+        }
+        Ok(())
+    }
+
     /// Keeps what the last walk guessed.
     fn keep_guess(&mut self, index: u32) -> Outcome
         ensures { OnOk result ((messages_of self.new ≡ messages_of self.old)
@@ -457,6 +492,16 @@ impl Pairing<'_, '_> {
             return Ok(());
         }
         self.messages.couple(index, delivery)
+    }
+
+    /// Finds the deliveries of all replies to calls whose own delivery is found.
+    fn pair_replies(&mut self) -> Outcome
+        ensures { OnOk result (MakesEach PairsIfReplied self.old self.new (count_of self.old)) }
+    {
+        for index in 0..self.messages.list.next()? {
+            self.pair_reply(index)?;
+        }
+        Ok(())
     }
 
     /// Finds the delivery of the reply to a call whose own delivery is found.
