@@ -1,8 +1,8 @@
 -- The steps of pairing, by what each part of them does.
-use Rattle.std.proofs.Common.{◌≡◌, ◌≢◌, ◌⊎◌, ⊎_elim, inl, inr, ℕ, ◌+◌, ◌-◌, zero, suc, Bool, true, false, List, [], ◌∷◌, ◌++◌, take, Option, Some, None, slice_get, length, refl, sym, ap, subst, ◌∙◌, arith}
+use Rattle.std.proofs.Common.{◌≡◌, ◌≢◌, ⊎_elim, inl, inr, ℕ, ◌-◌, zero, suc, Bool, true, false, List, [], ◌∷◌, ◌++◌, take, Option, Some, None, slice_get, refl, sym, ap, subst, ◌∙◌, arith}
 use Rattle.std.specs.Bool.{OnTrue}
 use Rattle.std.specs.Prelude.{Result, Ok, Err, OnOk, replicate}
-use Rattle.listing_tables.specs.Certainty.{AreOfOneGeneration, AreOfOneHandle, HasAll, IsFitOf, IsIn, IsOnlyOne, LooksAtAll}
+use Rattle.listing_tables.specs.Certainty.{AreOfOneGeneration, HasAll, IsIn, IsOnlyOne, LooksAtAll}
 use Rattle.listing_tables.specs.Changes.{RatesPair}
 use Rattle.listing_tables.specs.Numbered.{IsAt, thing_at}
 use Rattle.listing_tables.specs.OneHandle.{LeavesOneHandle}

@@ -1,7 +1,7 @@
 use Rattle.std.proofs.Common.{List, true, false, refl, sym, ap, subst}
 use Rattle.std.proofs.lemmas.Result.{on_ok_weaker}
 use Rattle.listing_tables.specs.Changes.{RatesPair}
-use Rattle.listing_tables.specs.Pairing.{GuessesFit, PairsDelivery, messages_of}
+use Rattle.listing_tables.specs.Pairing.{PairsDelivery, messages_of}
 use Rattle.listing_tables.specs.declared.messages.Message.{Message}
 use Rattle.listing_tables.specs.declared.pairs.Pairing.{Pairing}
 use Rattle.listing_tables.proofs.PairLaws.{guess_from, on_ok_always, pairs_guess, pairs_one, pairs_only}
