@@ -1,7 +1,7 @@
 //! Whether all that was sent to a node is in the capture: frames may be missing, and a process may
 //! be older than the capture.
 
-ghost use Rattle.std.specs.Prelude.{◌≡◌, slice_set, true, length, IfOk, OnOk};
+ghost use Rattle.std.specs.Prelude.{◌≡◌, [], None, slice_set, true, length, IfOk, OnOk};
 ghost use Rattle.std.specs.Bool.{OnFalse, OnTrue};
 ghost use Rattle.listing_tables.specs.Certainty.{HasAll, IsReferred, IsWhole};
 ghost use Rattle.listing_tables.specs.Gaps.{AreGapsBefore, BeginsThread, ComesAfterGap, GoesOn};
@@ -45,7 +45,12 @@ pub(crate) struct Seen {
 }
 
 impl Seen {
-    pub(crate) fn new(alloc: Global) -> Seen {
+    pub(crate) fn new(alloc: Global) -> Seen
+        ensures frames { result.sequence ≡ None }
+        ensures gaps { result.gaps.items ≡ [] }
+        ensures threads { result.threads.all.items ≡ [] }
+        ensures processes { result.old.all.items ≡ [] }
+    {
         Seen {
             sequence: None,
             gaps: Vec::new(alloc),
