@@ -296,7 +296,7 @@ def waits_to_the_end(s):
 
 
 def after_another(s):
-    """A service whose only looper has served no call yet, and a client. Another thread has served one, and has ended."""
+    """A service whose only looper has served no call yet, and a client. Another thread served one, and has ended."""
     service, client = s.two()
     other = service.thread(1)
     client.main.asks(other)
