@@ -1,5 +1,5 @@
 -- What follows of a change of one message.
-use Rattle.std.proofs.Common.{◌≡◌, ℕ, List, Some, slice_get, sym, ap, ◌∙◌}
+use Rattle.std.proofs.Common.{◌≡◌, ℕ, List, Some, sym, ap, ◌∙◌}
 use Rattle.std.specs.Prelude.{slice_set}
 use Rattle.listing_tables.specs.Changes.{Changes, IsSendAt, sent_as, with_detail}
 use Rattle.listing_tables.specs.declared.messages.Detail.{Detail}

@@ -1,9 +1,8 @@
 -- What is seen after one more frame.
-use Rattle.std.proofs.Common.{◌≡◌, ◌≤◌, ◌<◌, ◌⊎◌, inl, inr, ℕ, Bool, true, false, List, Some, None, length, leb, leb-true, leb-false, arith, refl, sym, ap, subst, ◌∙◌}
+use Rattle.std.proofs.Common.{◌≡◌, ◌≤◌, ◌<◌, inl, inr, ℕ, Bool, true, false, List, length, leb, leb-true, leb-false, sym, ap, subst, ◌∙◌}
 use Rattle.std.specs.Bool.{OnFalse}
 use Rattle.std.specs.List.Sorted.{IsPartitionPoint}
 use Rattle.capture_frame.specs.declared.direction.Direction.{Direction}
-use Rattle.capture_frame.specs.declared.direction.Direction.TheVariants.{Read, Write}
 use Rattle.listing_tables.specs.Gaps.{BeginsThread, ComesAfterGap, GoesOn, NotesAge, NotesGap, NotesProcess, TakesFrame}
 use Rattle.listing_tables.specs.declared.seen.Seen.{Seen}
 use Rattle.listing_tables.specs.declared.seen.Watched.{Watched}

@@ -1,7 +1,6 @@
 -- How the sends in doubt are counted, of which some came, but not which (docs/DATABASE.md#send).
 use Rattle.std.specs.Prelude.{◌≡◌, ◌≤◌, ◌<◌, ℕ, ◌+◌, ◌-◌, false, true, None, nat_eq}
 use Rattle.indexmap.specs.IndexMap.{get}
-use Rattle.listing_tables.specs.declared.waiting.Doubt.{Doubt}
 use Rattle.listing_tables.specs.declared.waiting.Listed.{Listed}
 use Rattle.listing_tables.specs.declared.waiting.Waiting.{Waiting}
 use Rattle.listing_tables.specs.Waiting.{doubt_of, entry_of, in_doubt}

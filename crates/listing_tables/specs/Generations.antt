@@ -8,7 +8,7 @@ use Rattle.event_core.specs.declared.strength.Strength.TheVariants.{Strong, Weak
 use Rattle.handle_ledger.specs.Handles.{handle_change}
 use Rattle.summary_law.specs.Count.{Change, IsCount, is_lower, is_raise}
 use Rattle.summary_law.specs.declared.count.Count.{Count}
-use Rattle.listing_tables.specs.Columns.{column_of, number_at, numbered_rows}
+use Rattle.listing_tables.specs.Columns.{column_of, numbered_rows}
 use Rattle.listing_tables.specs.declared.generations.Effect.{Effect}
 use Rattle.listing_tables.specs.declared.generations.Effect.TheVariants.{Names, Takes, Holds}
 use Rattle.listing_tables.specs.declared.generations.Generation.{Generation}

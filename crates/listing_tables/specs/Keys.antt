@@ -1,5 +1,5 @@
 -- Sums by which the delivery of a send is recognised (docs/DATABASE.md#send).
-use Rattle.std.specs.Prelude.{◌≡◌, ℕ, ◌*◌, ◌%◌, ◌^◌, bit_xor, List, [], ◌∷◌, Option, None, fold}
+use Rattle.std.specs.Prelude.{◌≡◌, ℕ, ◌*◌, ◌%◌, ◌^◌, bit_xor, List, [], ◌∷◌, fold}
 use Rattle.std.specs.Int.{to_le_bytes, w64}
 use Rattle.std.specs.List.{flat_map}
 use Rattle.transaction_view.specs.Transaction.{code, data_size, flags, offsets_size}

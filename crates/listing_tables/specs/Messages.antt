@@ -1,5 +1,5 @@
 -- The rows of the raw tables call, send and delivery (docs/DATABASE.md).
-use Rattle.std.specs.Prelude.{◌≡◌, ℕ, ◌-◌, ◌+◌, ◌||◌, if◌then◌else◌, not, Bool, true, false, Option, Some, None, option_map}
+use Rattle.std.specs.Prelude.{◌≡◌, ℕ, ◌-◌, ◌||◌, if◌then◌else◌, not, Bool, true, false, Option, Some, None, option_map}
 use Rattle.std.specs.Prelude.{List, [], ◌∷◌, slice_get}
 use Rattle.std.specs.List.{flat_map}
 use Rattle.binder_code.specs.declared.record_kind.Kind.{Kind}
@@ -11,7 +11,6 @@ use Rattle.listing_tables.specs.Columns.{bit, column_of, number_at}
 use Rattle.listing_tables.specs.Numbered.{thing_at}
 use Rattle.listing_tables.specs.declared.buffers.Buffer.{Buffer}
 use Rattle.listing_tables.specs.declared.calls.Call.{Call}
-use Rattle.listing_tables.specs.declared.calls.Closer.{Closer}
 use Rattle.listing_tables.specs.declared.messages.Detail.{Detail}
 use Rattle.listing_tables.specs.declared.messages.Detail.TheVariants.{Sent as IsSent, Delivered, Failed}
 use Rattle.listing_tables.specs.declared.messages.Message.{Message}

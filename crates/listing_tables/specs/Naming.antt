@@ -1,5 +1,5 @@
 -- Which generation of a handle a record names, and what it does to it (docs/DATABASE.md#generation).
-use Rattle.std.specs.Prelude.{◌≡◌, ◌≢◌, ◌⊎◌, ℕ, ◌+◌, ◌==◌, ◌&&◌, Bool, true, false, List, [], ◌∷◌, ◌++◌, Option, Some, None, length, slice_get, slice_set}
+use Rattle.std.specs.Prelude.{◌≡◌, ◌≢◌, ◌⊎◌, ℕ, ◌+◌, ◌==◌, ◌&&◌, Bool, true, false, [], ◌∷◌, ◌++◌, Option, Some, None, length, slice_get, slice_set}
 use Rattle.event_core.specs.declared.handle.HandleChange.TheVariants.{Raise, Lower}
 use Rattle.event_core.specs.declared.strength.Strength.{Strength}
 use Rattle.indexmap.specs.IndexMap.{get}

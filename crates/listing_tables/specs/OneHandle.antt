@@ -1,5 +1,5 @@
 -- What is left of the sends that fit a delivery (docs/DATABASE.md#send).
-use Rattle.std.specs.Prelude.{◌≡◌, ◌≤◌, ◌<◌, ◌⊎◌, ℕ, true, false, List, Option, Some}
+use Rattle.std.specs.Prelude.{◌≡◌, ◌≤◌, ◌⊎◌, true, List, Option, Some}
 use Rattle.listing_tables.specs.declared.certainty.Certainty.{Certainty}
 use Rattle.listing_tables.specs.declared.certainty.Certainty.TheVariants.{Sure, OneHandle, Several, Unknown}
 use Rattle.listing_tables.specs.declared.certainty.Evidence.{Evidence}

@@ -1,4 +1,3 @@
-use Rattle.std.proofs.Common.{refl}
 use Rattle.listing_tables.proofs.generations.Generations.begin.Goals as goal
 
 pub returns : goal.returns

@@ -1,4 +1,4 @@
-use Rattle.std.proofs.Common.{ℕ, ◌+◌, inl, inr, refl, subst, rules}
+use Rattle.std.proofs.Common.{ℕ, inl, inr, refl, subst, rules}
 use Rattle.std.proofs.lemmas.Result.{IfOk-weaker}
 use Rattle.listing_tables.specs.Naming.{Begins}
 use Rattle.listing_tables.proofs.generations.Generations.named.Goals as goal

@@ -1,6 +1,5 @@
-use Rattle.std.proofs.Common.{Bool, true, false, rules}
+use Rattle.std.proofs.Common.{rules}
 use Rattle.std.proofs.lemmas.Result.{IfOk-weaker}
-use Rattle.listing_tables.specs.Pairing.{MustHaveCome}
 use Rattle.listing_tables.proofs.PairLaws.{on_true_weaker}
 use Rattle.listing_tables.proofs.pairs.Pairing.must_have_come.Goals as goal
 

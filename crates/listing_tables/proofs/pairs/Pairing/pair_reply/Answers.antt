@@ -1,4 +1,4 @@
-use Rattle.std.proofs.Common.{ℕ, ◌+◌, ◌&&◌, Bool, List, inr, sym, subst}
+use Rattle.std.proofs.Common.{ℕ, ◌+◌, Bool, inr, subst}
 use Rattle.std.specs.Prelude.{if◌then◌else◌}
 use Rattle.std.proofs.lemmas.Result.{on_ok_weaker}
 use Rattle.listing_tables.specs.Changes.{Rates}

@@ -1,4 +1,3 @@
-use Rattle.std.proofs.lemmas.Result.{on_ok_weaker}
 use Rattle.std.proofs.Common.{false, ◌≡◌, sym, subst}
 use Rattle.listing_tables.specs.Waiting.{entry_of, waits}
 use Rattle.listing_tables.specs.declared.waiting.Waiting.{Waiting}

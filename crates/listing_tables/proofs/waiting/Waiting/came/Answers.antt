@@ -1,4 +1,4 @@
-use Rattle.std.proofs.Common.{◌≡◌, ◌+◌, ℕ, Option, ap, subst, ◌∙◌}
+use Rattle.std.proofs.Common.{◌≡◌, ◌+◌, ℕ, Option, ap, subst}
 use Rattle.std.specs.Option.{unwrap_or}
 use Rattle.listing_tables.specs.Doubts.{CountsLeft}
 use Rattle.listing_tables.specs.Waiting.{doubt_of}
