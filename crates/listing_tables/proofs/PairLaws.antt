@@ -9,7 +9,7 @@ use Rattle.listing_tables.specs.OneHandle.{LeavesOneHandle}
 use Rattle.listing_tables.specs.Pairing.{ClosesNothing, GuessesFit, IsEvidenceOf, MarksAlso, MarksEach, PairsDelivery, calls_of, messages_of}
 use Rattle.listing_tables.specs.declared.calls.Call.{Call}
 use Rattle.listing_tables.specs.declared.certainty.Evidence.{Evidence}
-use Rattle.listing_tables.specs.declared.certainty.Mark.{Mark}
+use Rattle.listing_tables.specs.declared.marks.Mark.{Mark}
 use Rattle.listing_tables.specs.declared.certainty.Sought.{Sought}
 use Rattle.listing_tables.specs.declared.fitting.Fit.{Fit}
 use Rattle.listing_tables.specs.declared.fitting.Fitting.{Fitting}

@@ -1,5 +1,5 @@
 -- When it is certain which send a delivery came from (docs/DATABASE.md#send).
-use Rattle.std.specs.Prelude.{◌≡◌, ◌≢◌, ◌<◌, ◌≤◌, ◌^◌, ◌+◌, ◌⊎◌, ◌==◌, ◌&&◌, ℕ, pos, Bool, true, false, List, Option, Some, IsTrue, length, slice_get}
+use Rattle.std.specs.Prelude.{◌≡◌, ◌≢◌, ◌<◌, ◌≤◌, ◌^◌, ◌+◌, ◌⊎◌, ℕ, pos, Bool, true, false, List, Option, Some, IsTrue, length, slice_get}
 use Rattle.call_stacks.specs.declared.verdict.Verdict.TheVariants.{Answered, Replied}
 use Rattle.indexmap.specs.IndexMap.{get}
 use Rattle.listing_tables.specs.declared.calls.Call.{Call}
@@ -7,8 +7,8 @@ use Rattle.listing_tables.specs.declared.calls.Closer.{Closer}
 use Rattle.listing_tables.specs.declared.certainty.Certainty.TheVariants.{Sure, OneHandle, Several, Unknown}
 use Rattle.listing_tables.specs.declared.certainty.Certainty.{Certainty}
 use Rattle.listing_tables.specs.declared.certainty.Evidence.{Evidence}
-use Rattle.listing_tables.specs.declared.certainty.Mark.{Mark}
-use Rattle.listing_tables.specs.declared.certainty.Marked.TheVariants.{Unmarked}
+use Rattle.listing_tables.specs.declared.marks.Mark.{Mark}
+use Rattle.listing_tables.specs.declared.marks.Marked.TheVariants.{Unmarked}
 use Rattle.listing_tables.specs.declared.certainty.Sought.{Sought}
 use Rattle.listing_tables.specs.declared.fitting.Fit.{Fit}
 use Rattle.listing_tables.specs.declared.fitting.Fitting.{Fitting}

@@ -1,7 +1,7 @@
 -- What the walks of pairing learn, and what they leave as it is (docs/DATABASE.md#send).
-use Rattle.std.specs.Prelude.{◌≡◌, ◌≢◌, ◌⊎◌, ◌==◌, if◌then◌else◌, ℕ, nat_lt, Bool, false, List, Option, Some, None, slice_get}
-use Rattle.listing_tables.specs.declared.certainty.Marked.{Marked}
-use Rattle.listing_tables.specs.declared.certainty.Marked.TheVariants.{Unmarked, By, Several as ByOthers}
+use Rattle.std.specs.Prelude.{◌≡◌, ◌≢◌, ◌==◌, if◌then◌else◌, ℕ, nat_lt, Bool, false, Option, Some, None, slice_get}
+use Rattle.listing_tables.specs.declared.marks.Marked.{Marked}
+use Rattle.listing_tables.specs.declared.marks.Marked.TheVariants.{Unmarked, By, Several as ByOthers}
 use Rattle.listing_tables.specs.declared.meanings.Known.{Known}
 use Rattle.listing_tables.specs.declared.meanings.Known.TheVariants.{Nothing, One, Several}
 use Rattle.listing_tables.specs.declared.meanings.Meaning.{Meaning}

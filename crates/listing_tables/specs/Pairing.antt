@@ -6,8 +6,8 @@ use Rattle.indexmap.specs.IndexSet.{contains}
 use Rattle.listing_tables.specs.declared.calls.Call.{Call}
 use Rattle.listing_tables.specs.declared.calls.Closer.{Closer}
 use Rattle.listing_tables.specs.declared.certainty.Evidence.{Evidence}
-use Rattle.listing_tables.specs.declared.certainty.Mark.{Mark}
-use Rattle.listing_tables.specs.declared.certainty.Marked.TheVariants.{By, Unmarked}
+use Rattle.listing_tables.specs.declared.marks.Mark.{Mark}
+use Rattle.listing_tables.specs.declared.marks.Marked.TheVariants.{By, Unmarked}
 use Rattle.listing_tables.specs.declared.certainty.Sought.{Sought}
 use Rattle.listing_tables.specs.declared.fitting.Fit.{Fit}
 use Rattle.listing_tables.specs.declared.fitting.Fitting.{Fitting}
@@ -16,7 +16,7 @@ use Rattle.listing_tables.specs.declared.messages.Message.{Message}
 use Rattle.listing_tables.specs.declared.messages.Sent.{Sent}
 use Rattle.listing_tables.specs.declared.pairs.Ends.{Ends}
 use Rattle.listing_tables.specs.declared.pairs.Pairing.{Pairing}
-use Rattle.listing_tables.specs.Certainty.{AreAlike, AreOfOneHandle, IsFitOf, IsIn, IsListOf, IsOnlyOne, IsRefused, IsRepliedBy}
+use Rattle.listing_tables.specs.Certainty.{AreAlike, AreOfOneHandle, IsFitOf, IsListOf, IsOnlyOne, IsRefused, IsRepliedBy}
 use Rattle.listing_tables.specs.Changes.{Couples, IsSendAt, Rates, RatesPair}
 use Rattle.listing_tables.specs.Gaps.{AreGapsBefore, IsWholeCall}
 use Rattle.listing_tables.specs.Guesses.{IsGuess}
@@ -26,7 +26,7 @@ use Rattle.listing_tables.specs.Waiting.{HasNone, OthersWaitBut, waits}
 
 -- the messages that are paired
 abbrev pub messages_of : Pairing → List Message
-messages_of pairing = pairing.messages.now.list.all.items
+messages_of pairing = pairing.messages.list.all.items
 
 -- the calls that are known
 abbrev pub calls_of : Pairing → List Call
@@ -77,7 +77,7 @@ pub record ClosesSend (old : Pairing) (message : Message) (new : Pairing) : Type
 
 -- the evidence is what is known on the walk
 pub record IsEvidenceOf (pairing : Pairing) (evidence : Evidence) : Type 0 where
-  pub messages : evidence.messages.now ≡ pairing.messages.now
+  pub messages : evidence.messages.now ≡ pairing.messages
   pub calls : evidence.calls.now ≡ pairing.facts.calls.now
   pub generations : evidence.generations.now ≡ pairing.facts.generations.now
   pub seen : evidence.seen.now ≡ pairing.facts.seen.now
@@ -212,7 +212,7 @@ pub record HasEnds (pairing : Pairing) (index : ℕ) (ends : Ends) : Type 0 wher
   pub makes : IsAt (calls_of pairing) send.call made
   pub answered : made.verdict ≡ Answered
   pub answer : made.closer ≡ Some ends.answered
-  pub alike : AreAlike pairing.messages.now reply ends.answered
+  pub alike : AreAlike pairing.messages reply ends.answered
 
 -- no frame is missing from the send of a call to its answer
 abbrev pub HasNoGap : Pairing → Ends → Type 0

@@ -1,9 +1,12 @@
 -- What a walk does at the turn of each message, and what is done of all messages in order (docs/DATABASE.md#send).
-use Rattle.std.specs.Prelude.{◌≡◌, ◌≤◌, ◌⊎◌, ◌==◌, ℕ, zero, suc, Bool, true, List, None, Some, length, slice_get}
+use Rattle.std.specs.Prelude.{◌≡◌, ◌≤◌, ◌⊎◌, ◌==◌, ℕ, zero, suc, Bool, true, List, [], None, Some, length, slice_get}
+use Rattle.listing_tables.specs.declared.calls.Call.{Call}
 use Rattle.listing_tables.specs.declared.certainty.Sought.{Sought}
 use Rattle.listing_tables.specs.declared.messages.Detail.TheVariants.{Delivered}
 use Rattle.listing_tables.specs.declared.messages.Message.{Message}
+use Rattle.listing_tables.specs.declared.numbered.Numbered.{Numbered}
 use Rattle.listing_tables.specs.declared.pairs.Pairing.{Pairing}
+use Rattle.listing_tables.specs.declared.traffic.Traffic.{Traffic}
 use Rattle.listing_tables.specs.Meanings.{BeginsEach, MakesAllKnown}
 use Rattle.listing_tables.specs.Pairing.{BeginsWalk, Claims, KeepsGuess, MarksClaimed, PairsDelivery, PairsReply, messages_of}
 
@@ -93,3 +96,26 @@ pub record PairsAll (old new : Pairing) : Type 0 where
   pub kept : Pairing
   pub keeps : MakesEach KeepsIfGuessed walked kept (count_of walked)
   pub replies : MakesEach PairsIfReplied kept new (count_of kept)
+
+-- Pairing begins with all that has come of the records, and with the calls. Nothing is known yet of what generations mean.
+pub record BeginsWith (traffic : Traffic) (calls : Numbered Call) (begun : Pairing) : Type 0 where
+  pub messages : begun.messages ≡ traffic.messages
+  pub handed : begun.handed ≡ traffic.handles.handed
+  pub buffers : begun.facts.buffers.now ≡ traffic.buffers
+  pub generations : begun.facts.generations.now ≡ traffic.handles.generations
+  pub seen : begun.facts.seen.now ≡ traffic.seen
+  pub made : begun.facts.calls.now ≡ calls
+  pub meanings : begun.meanings.list.all.items ≡ []
+  pub same : begun.meanings.same.all.items ≡ []
+
+-- The messages of a traffic are paired. Of all else only the objects that are handed over may change.
+pub record PairsTraffic (old : Traffic) (calls : Numbered Call) (new : Traffic) : Type 0 where
+  pub begun : Pairing
+  pub paired : Pairing
+  pub pairs : PairsAll begun paired
+  pub begins : BeginsWith old calls begun
+  pub messages : new.messages ≡ paired.messages
+  pub others : new ≡ record old {
+    messages = new.messages;
+    handles = record old.handles { handed = new.handles.handed };
+  }

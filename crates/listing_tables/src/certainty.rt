@@ -1,10 +1,10 @@
 //! Which sends a delivery may have come from, and what is certain of it. viewer/database/schema.sql
 //! says how.
 
-ghost use Rattle.std.specs.Prelude.{◌≡◌, ◌⊎◌, true, None, IfOk, IfSome, OnOk};
+ghost use Rattle.std.specs.Prelude.{◌≡◌, ◌⊎◌, ◌&&◌, ◌+◌, if◌then◌else◌, true, None, IfOk, IfSome, OnOk};
 ghost use Rattle.std.specs.Bool.{OnTrue, OnFalse};
 ghost use Rattle.listing_tables.specs.Certainty.{IsElsewhere, IsFit, IsJustified};
-ghost use Rattle.listing_tables.specs.Certainty.{IsOtherCall, IsRefused, IsRepliedBy, IsUnmarked};
+ghost use Rattle.listing_tables.specs.Certainty.{IsOtherCall, IsRefused, IsRepliedBy};
 ghost use Rattle.listing_tables.specs.Certainty.{LieApart, LieBadly, LooksAtAll, LooksAtOne};
 ghost use Rattle.listing_tables.specs.Certainty.{SpeaksAgainst};
 ghost use Rattle.listing_tables.specs.OneHandle.{LeavesFits};
@@ -13,6 +13,7 @@ ghost use Rattle.listing_tables.specs.declared.calls.Closer.{Closer};
 use crate::calls::{Call, Closer};
 use crate::fitting::{Fit, Fitting, Meant};
 use crate::generations::Generations;
+use crate::marks::{Mark, is_unmarked};
 use crate::meanings::Meanings;
 use crate::messages::{Detail, Message, Messages, Sent, Settled};
 use crate::numbered::Numbered;
@@ -35,36 +36,6 @@ pub(crate) struct Sought {
     /// The node to which it came, and the process of that.
     pub node: u32,
     pub upid: Upid,
-}
-
-/// Of a send: the delivery that may be its own, and the one that took it by guess. Of a delivery:
-/// the send that must have come by it.
-#[derive(Clone, Copy)]
-pub(crate) struct Mark {
-    pub other: Marked,
-    pub guess: Option<u32>,
-}
-
-/// The messages by which one is marked: none, the one at this index, or several.
-#[derive(Clone, Copy)]
-pub(crate) enum Marked {
-    Unmarked,
-    By(u32),
-    Several,
-}
-
-impl Marked {
-    ghost use Rattle.listing_tables.specs.Learning.{marked_also};
-
-    /// Marked by this message too.
-    pub(crate) fn and(self, index: u32) -> Marked
-        ensures { result ≡ marked_also self index }
-    {
-        match self {
-            Marked::Unmarked => Marked::By(index),
-            Marked::By(_) | Marked::Several => Marked::Several,
-        }
-    }
 }
 
 /// What is certain of the send that a delivery came from.
@@ -314,11 +285,17 @@ pub(crate) fn replied_by(served: Call) -> Option<Closer>
     None
 }
 
-/// Whether no delivery so far may be that of the send at this index.
-fn is_unmarked(marks: &Numbered<Mark>, index: u32) -> Result<bool, ListingError>
-    ensures { IfOk result (λ unmarked. OnTrue unmarked (IsUnmarked marks.now.all.items index)) }
+/// How many sends fit a reply to a call of this send, and whether that pair is certain. With a frame
+/// missing, the answer may be that of another call.
+pub(crate) fn rate_of_reply(sent: &Sent, is_whole: bool) -> (u32, bool)
+    ensures fits { result.0 ≡ (if is_whole then sent.now.fits else sent.now.fits + 1) }
+    ensures certain { result.1 ≡ (is_whole && sent.now.certain) }
 {
-    Ok(matches!(marks.at(index)?.other, Marked::Unmarked))
+    let fits = u32::from(sent.fits);
+    if is_whole {
+        return (fits, sent.certain);
+    }
+    (fits + 1, false)
 }
 
 pub(crate) fn is_refused(sent: &Sent) -> bool

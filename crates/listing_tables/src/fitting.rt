@@ -1,6 +1,6 @@
 //! The sends that a delivery may have come from, and which of them it may be.
 
-ghost use Rattle.std.specs.Prelude.{◌≡◌, ◌<◌, ◌≤◌, [], length, IfOk, IfSome, OnOk};
+ghost use Rattle.std.specs.Prelude.{◌≡◌, ◌<◌, ◌≤◌, true, [], length, IfOk, IfSome, OnOk};
 ghost use Rattle.std.specs.Bool.{OnFalse, OnTrue};
 ghost use Rattle.listing_tables.specs.Certainty.{Adds, AreOfOneGeneration, ComesAfter, IsIn};
 ghost use Rattle.listing_tables.specs.Certainty.{IsOnlyFit, IsOutOfQuestion};
@@ -71,7 +71,12 @@ pub(crate) struct Fitting {
 }
 
 impl Fitting {
-    pub(crate) fn new(alloc: Global) -> Fitting {
+    pub(crate) fn new(alloc: Global) -> Fitting
+        ensures looked { result.looked.items ≡ [] }
+        ensures list { result.list.items ≡ [] }
+        ensures rank { result.rank ≡ 255 }
+        ensures whole { result.is_whole ≡ true }
+    {
         Fitting {
             looked: Vec::new(alloc),
             list: Vec::new(alloc),

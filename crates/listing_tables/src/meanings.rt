@@ -1,7 +1,8 @@
 //! Which node each generation means.
 
-ghost use Rattle.std.specs.Prelude.{◌≡◌, IfOk, IfSome, OnOk};
+ghost use Rattle.std.specs.Prelude.{◌≡◌, [], IfOk, IfSome, OnOk};
 ghost use Rattle.std.specs.Bool.{OnTrue};
+ghost use Rattle.std.specs.BTreeSet.{IsEmpty};
 ghost use Rattle.listing_tables.specs.Certainty.{BeginsBefore, HasOtherHandle, MeansNode};
 ghost use Rattle.listing_tables.specs.Learning.{IsPastGap, MeansFirst, known_of_two};
 ghost use Rattle.listing_tables.specs.Meanings.{BeginsEach, LearnsKnown, LearnsNode, LearnsSame};
@@ -48,7 +49,11 @@ pub(crate) struct Meanings {
 }
 
 impl Meanings {
-    pub(crate) fn new(alloc: Global) -> Meanings {
+    pub(crate) fn new(alloc: Global) -> Meanings
+        ensures list { result.list.all.items ≡ [] }
+        ensures same { result.same.all.items ≡ [] }
+        ensures held { IsEmpty result.held }
+    {
         Meanings {
             list: Numbered::new(alloc),
             same: Numbered::new(alloc),

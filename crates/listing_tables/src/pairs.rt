@@ -1,37 +1,34 @@
 //! Pairs each delivery with the send that it came from. viewer/database/schema.sql says how.
 
-ghost use Rattle.std.specs.Prelude.{◌≡◌, ◌≢◌, ◌⊎◌, ◌&&◌, ℕ, ◌+◌, if◌then◌else◌, true, false, nat_eq, IfOk, IfSome, OnOk};
+ghost use Rattle.std.specs.Prelude.{◌≡◌, ◌≢◌, ◌⊎◌, ℕ, true, false, nat_eq, IfOk, IfSome, OnOk};
 ghost use Rattle.std.specs.Bool.{OnTrue};
-ghost use Rattle.listing_tables.specs.Certainty.{IsListOf};
-ghost use Rattle.listing_tables.specs.Meanings.{LearnsEach, LearnsObject, LearnsOne};
-ghost use Rattle.listing_tables.specs.Pairing.{IsAfterGaps, MarksAlso, MarksEach};
+ghost use Rattle.listing_tables.specs.Pairing.{MarksEach};
+ghost use Rattle.listing_tables.specs.Turns.{PairsTraffic};
 ghost use Rattle.listing_tables.specs.Waiting.{AllWait, OthersWait};
 ghost use Rattle.listing_tables.specs.declared.waiting.Waiting.{Waiting};
 
 use crate::buffers::Buffers;
 use crate::calls::{Call, Closer};
-use crate::certainty::{Certainty, Evidence, Mark, Marked, Sought, is_refused, replied_by};
+use crate::certainty::{Certainty, Evidence, Sought, is_refused, rate_of_reply, replied_by};
 use crate::fitting::{Fit, Fitting};
 use crate::generations::Generations;
-use crate::handed::{Handed, HandedOver, Object, numbered};
+use crate::handed::HandedOver;
+use crate::learning::{learn_each, objects_at};
+use crate::marks::{Mark, Marked, UNMARKED, mark_also, mark_each};
 use crate::meanings::Meanings;
 use crate::messages::{Detail, Message, Messages, Sent};
 use crate::numbered::{Numbered, one_more};
 use crate::seen::Seen;
 use crate::traffic::Traffic;
-use crate::waiting::{Listed, Waiting, list_of};
+use crate::waiting::{Waiting, as_it_waits};
 use binder_code::Kind;
 use indexmap::IndexSet;
 use listing_fields::{ListingError, Outcome, is_reply};
 use std::alloc::Global;
+use std::mem;
 
 /// How often all messages are gone through at most.
 const WALKS: u32 = 5;
-
-const UNMARKED: Mark = Mark {
-    other: Marked::Unmarked,
-    guess: None,
-};
 
 /// What stays as it is while messages are paired.
 #[derive(Clone, Copy)]
@@ -45,9 +42,9 @@ struct Facts<'f> {
 /// Pairs the messages. Of what is found on a walk only what generations mean is kept for the next
 /// one, and the pairs of which no other send can have been meant.
 #[derive(Drop)]
-struct Pairing<'p, 'f> {
-    messages: &'p mut Messages,
-    handed: &'p mut HandedOver,
+struct Pairing<'f> {
+    messages: Messages,
+    handed: HandedOver,
     facts: Facts<'f>,
     meanings: Meanings,
     waiting: Waiting,
@@ -69,8 +66,13 @@ struct Ends {
     send: u32,
 }
 
-/// Finds the delivery of each send, and the send of each delivery.
-pub(crate) fn pair_all(alloc: Global, traffic: &mut Traffic, calls: &Numbered<Call>) -> Outcome {
+/// Finds the delivery of each send, and the send of each delivery. Where that ends with an error, the
+/// traffic has no messages any more.
+pub(crate) fn pair_all(alloc: Global, traffic: &mut Traffic, calls: &Numbered<Call>) -> Outcome
+    ensures { OnOk result (PairsTraffic traffic.old calls.now traffic.new) }
+{
+    let messages = mem::replace(&mut traffic.messages, Messages::new(alloc));
+    let handed = mem::replace(&mut traffic.handles.handed, HandedOver::new(alloc));
     let facts = Facts {
         buffers: &traffic.buffers,
         generations: &traffic.handles.generations,
@@ -78,8 +80,8 @@ pub(crate) fn pair_all(alloc: Global, traffic: &mut Traffic, calls: &Numbered<Ca
         calls,
     };
     let mut pairing = Pairing {
-        messages: &mut traffic.messages,
-        handed: &mut traffic.handles.handed,
+        messages,
+        handed,
         facts,
         meanings: Meanings::new(alloc),
         waiting: Waiting::new(alloc),
@@ -88,10 +90,18 @@ pub(crate) fn pair_all(alloc: Global, traffic: &mut Traffic, calls: &Numbered<Ca
         crowded: IndexSet::new(alloc),
         news: false,
     };
-    pairing.pair()
+    pairing.pair()?;
+    let Pairing {
+        messages,
+        handed,
+        ..
+    } = pairing;
+    traffic.messages = messages;
+    traffic.handles.handed = handed;
+    Ok(())
 }
 
-impl Pairing<'_, '_> {
+impl Pairing<'_> {
     ghost use Rattle.indexmap.specs.IndexSet.{contains};
     ghost use Rattle.listing_tables.specs.Changes.{RatesPair};
     ghost use Rattle.listing_tables.specs.Pairing.{AddsSend, BeginsWalk, Claims, ClosesNothing, ClosesSend};
@@ -198,7 +208,7 @@ impl Pairing<'_, '_> {
         if is_refused(sent) && send.gaps == 0 {
             return Ok(());
         }
-        let listed = listed(&self.meanings, index, send, sent)?;
+        let listed = as_it_waits(&self.meanings, index, send, sent)?;
         self.waiting.add(listed)
     }
 
@@ -224,7 +234,7 @@ impl Pairing<'_, '_> {
             return Ok(());
         }
         let sent = self.messages.sent(call.opener)?;
-        let listed = listed(&self.meanings, call.opener, &send, &sent)?;
+        let listed = as_it_waits(&self.meanings, call.opener, &send, &sent)?;
         self.waiting.close(listed)
     }
 
@@ -248,7 +258,7 @@ impl Pairing<'_, '_> {
         ensures { OnOk result (PairsDelivery self.old sought.now (messages_of self.new)) }
     {
         let evidence = Evidence {
-            messages: self.messages,
+            messages: &self.messages,
             calls: self.facts.calls,
             generations: self.facts.generations,
             seen: self.facts.seen,
@@ -394,8 +404,8 @@ impl Pairing<'_, '_> {
     fn learn_objects(&mut self, sent: u32, came: u32) -> Outcome
         ensures { self.new ≡ record self.old { meanings = self.new.meanings } }
     {
-        let (objects, before) = objects_at(self.messages, self.handed, sent)?;
-        let (others, after) = objects_at(self.messages, self.handed, came)?;
+        let (objects, before) = objects_at(&self.messages, &self.handed, sent)?;
+        let (others, after) = objects_at(&self.messages, &self.handed, came)?;
         learn_each(&mut self.meanings, objects, before, others, after)
     }
 
@@ -580,128 +590,4 @@ fn doubt_each(waiting: &mut Waiting, fits: &[Fit]) -> Outcome
         waiting.doubt(fit.listed)?;
     }
     Ok(())
-}
-
-/// Marks each of these sends by a delivery.
-fn mark_each(marks: &mut Numbered<Mark>, fits: &[Fit], delivery: u32) -> Outcome
-    ensures { OnOk result (MarksEach marks.old.all.items marks.new.all.items fits.now delivery) }
-{
-    for fit in fits {
-        mark_also(marks, fit.listed.index, delivery)?;
-    }
-    Ok(())
-}
-
-/// Marks the message at an index by another one.
-fn mark_also(marks: &mut Numbered<Mark>, index: u32, by: u32) -> Outcome
-    ensures { OnOk result (MarksAlso marks.old.all.items marks.new.all.items index by) }
-{
-    let mark = marks.at(index)?;
-    let other = mark.other.and(by);
-    marks.set(index, Mark { other, ..mark })
-}
-
-/// How many sends fit a reply to a call of this send, and whether that pair is certain. With a frame
-/// missing, the answer may be that of another call.
-fn rate_of_reply(sent: &Sent, is_whole: bool) -> (u32, bool)
-    ensures fits { result.0 ≡ (if is_whole then sent.now.fits else sent.now.fits + 1) }
-    ensures certain { result.1 ≡ (is_whole && sent.now.certain) }
-{
-    let fits = u32::from(sent.fits);
-    if is_whole {
-        return (fits, sent.certain);
-    }
-    (fits + 1, false)
-}
-
-/// A send as it waits.
-fn listed(
-    meanings: &Meanings,
-    index: u32,
-    send: &Message,
-    sent: &Sent,
-) -> Result<Listed, ListingError>
-    ensures named { IfOk result (λ listed. (listed.key ≡ send.now.key) × (listed.index ≡ index)) }
-    ensures list { IfOk result (λ listed.
-        IsListOf meanings.now sent.now.generation send.now.gaps listed.list) }
-{
-    let node = match sent.generation {
-        Some(generation) => meanings.node_of(generation, send.gaps)?,
-        None => None,
-    };
-    let list = match node {
-        Some(node) => list_of(node)?,
-        None => 0,
-    };
-    Ok(Listed {
-        key: send.key,
-        list,
-        index,
-    })
-}
-
-/// The objects that a message hands over or delivers, and after how many gaps.
-fn objects_at<'h>(
-    messages: &Messages,
-    handed: &'h HandedOver,
-    message: u32,
-) -> Result<(&'h [Handed], u32), ListingError>
-    ensures { IfOk result (λ found. IsAfterGaps messages.now.list.all.items message found.1) }
-{
-    let gaps = messages.list.at(message)?.gaps;
-    Ok((handed.objects_of(message), gaps))
-}
-
-/// Notes what is known of the objects that a message hands over and another one delivers, each after
-/// so many gaps.
-fn learn_each(
-    meanings: &mut Meanings,
-    objects: &[Handed],
-    before: u32,
-    others: &[Handed],
-    after: u32,
-) -> Outcome
-    ensures { OnOk result (
-        LearnsEach meanings.old meanings.new objects.now before others.now after) }
-{
-    for one in objects {
-        learn_one(meanings, *one, before, others, after)?;
-    }
-    Ok(())
-}
-
-/// Notes what is known of an object that a message hands over after so many gaps, by the one with
-/// its number among these that come after so many.
-fn learn_one(
-    meanings: &mut Meanings,
-    one: Handed,
-    before: u32,
-    others: &[Handed],
-    after: u32,
-) -> Outcome
-    ensures { OnOk result (
-        LearnsOne meanings.old meanings.new one before others.now after) }
-{
-    let Some(other) = numbered(others, one.number) else {
-        return Ok(());
-    };
-    learn_object(meanings, (one.object, before), (other.object, after))
-}
-
-/// Notes what is known of an object, by what it is to the process that hands it over and to the one
-/// that gets it, each after so many gaps.
-fn learn_object(meanings: &mut Meanings, sent: (Object, u32), came: (Object, u32)) -> Outcome
-    ensures { OnOk result (
-        LearnsObject meanings.old meanings.new sent.0 sent.1 came.0 came.1) }
-{
-    match (sent, came) {
-        ((Object::Own(node), _), (Object::Of(reference), gaps))
-        | ((Object::Of(reference), gaps), (Object::Own(node), _)) => {
-            meanings.learn(reference.generation, gaps, node)
-        }
-        ((Object::Of(one), before), (Object::Of(other), after)) => {
-            meanings.learn_same((one.generation, before), (other.generation, after))
-        }
-        _ => Ok(()),
-    }
 }

@@ -3,11 +3,14 @@
 ghost use Rattle.std.specs.Prelude.{◌≡◌, ◌≤◌, ◌⊎◌, ◌++◌, ◌+◌, map, false, IsTrue, IfOk, IfSome, OnOk};
 ghost use Rattle.std.specs.Bool.{OnTrue};
 ghost use Rattle.std.specs.BTreeSet.{contains};
+ghost use Rattle.listing_tables.specs.Certainty.{IsListOf};
 ghost use Rattle.listing_tables.specs.Doubts.{CountsCame, CountsDoubt, CountsLeaving, CountsLeft};
 ghost use Rattle.listing_tables.specs.Waiting.{AllWait, Entry, HasNone, OthersWait, OthersWaitBut};
 ghost use Rattle.listing_tables.specs.Waiting.{all_looks, doubt_of, entry_cmp, entry_of, in_doubt};
 ghost use Rattle.listing_tables.specs.Waiting.{look_at, sends_in, waits};
 
+use crate::meanings::Meanings;
+use crate::messages::{Message, Sent};
 use crate::numbered::{narrow, one_fewer, one_more};
 use indexmap::IndexMap;
 use listing_fields::{ListingError, Outcome};
@@ -56,7 +59,9 @@ pub(crate) struct Waiting {
 }
 
 impl Waiting {
-    pub(crate) fn new(alloc: Global) -> Waiting {
+    pub(crate) fn new(alloc: Global) -> Waiting
+        ensures { HasNone result }
+    {
         Waiting {
             untaken: BTreeSet::new(alloc),
             guessed: BTreeSet::new(alloc),
@@ -244,6 +249,32 @@ pub(crate) fn list_of(node: u32) -> Result<u32, ListingError>
     ensures { IfOk result (λ list. list ≡ node + 1) }
 {
     narrow(u64::from(node) + 1)
+}
+
+/// A send as it waits.
+pub(crate) fn as_it_waits(
+    meanings: &Meanings,
+    index: u32,
+    send: &Message,
+    sent: &Sent,
+) -> Result<Listed, ListingError>
+    ensures named { IfOk result (λ listed. (listed.key ≡ send.now.key) × (listed.index ≡ index)) }
+    ensures list { IfOk result (λ listed.
+        IsListOf meanings.now sent.now.generation send.now.gaps listed.list) }
+{
+    let node = match sent.generation {
+        Some(generation) => meanings.node_of(generation, send.gaps)?,
+        None => None,
+    };
+    let list = match node {
+        Some(node) => list_of(node)?,
+        None => 0,
+    };
+    Ok(Listed {
+        key: send.key,
+        list,
+        index,
+    })
 }
 
 /// Looks at those of a list, as long as there is room. Returns whether these are all.

@@ -3,7 +3,7 @@ use Rattle.std.proofs.lemmas.List.{take_more}
 use Rattle.listing_tables.specs.Meanings.{LearnsEach}
 use Rattle.listing_tables.specs.declared.handed.Handed.{Handed}
 use Rattle.listing_tables.proofs.MeaningLaws.{learns_more}
-use Rattle.listing_tables.proofs.pairs.learn_each.Goals as goal
+use Rattle.listing_tables.proofs.learning.learn_each.Goals as goal
 
 pub loop-one-preserved : goal.loop-one-preserved
 loop-one-preserved c =

@@ -1,8 +1,8 @@
 use Rattle.std.proofs.Common.{ap, ◌∙◌}
 use Rattle.std.specs.Prelude.{slice_set}
 use Rattle.std.proofs.lemmas.Result.{on_ok_weaker}
-use Rattle.listing_tables.specs.declared.certainty.Marked.{Marked}
-use Rattle.listing_tables.proofs.pairs.mark_also.Goals as goal
+use Rattle.listing_tables.specs.declared.marks.Marked.{Marked}
+use Rattle.listing_tables.proofs.marks.mark_also.Goals as goal
 
 pub returns : goal.returns
 returns c =

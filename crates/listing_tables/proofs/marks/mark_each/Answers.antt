@@ -3,7 +3,7 @@ use Rattle.std.proofs.lemmas.List.{take_more}
 use Rattle.listing_tables.specs.Pairing.{MarksEach}
 use Rattle.listing_tables.specs.declared.fitting.Fit.{Fit}
 use Rattle.listing_tables.proofs.PairLaws.{marks_more}
-use Rattle.listing_tables.proofs.pairs.mark_each.Goals as goal
+use Rattle.listing_tables.proofs.marks.mark_each.Goals as goal
 
 pub loop-fit-preserved : goal.loop-fit-preserved
 loop-fit-preserved c =
