@@ -59,6 +59,7 @@ module _ (old a b : Seen) (sequence place : ℕ) (direction : Direction) (owner 
               (subst (λ (l : List ℕ). GoesOn b.threads.all.items new.threads.all.items owner.utid.index (length l)) (sym gaps) goes),
           ap (λ (s : Seen). s.old.all.items) rest,
         );
+        referred = ap (λ (s : Seen). s.referred) rest ∙ ap (λ (s : Seen). s.referred) b_rest ∙ ap (λ (s : Seen). s.referred) a_rest;
       }
 
   -- the first frame of a thread
@@ -82,4 +83,6 @@ module _ (old a b : Seen) (sequence place : ℕ) (direction : Direction) (owner 
               (subst (λ (l : List ℕ). BeginsThread b.threads.all.items c.threads.all.items owner.utid.index (length l)) (sym gaps) begun)),
           subst (λ (l : List Bool). NotesAge direction l new.old.all.items owner.upid.index) known age,
         );
+        referred = ap (λ (s : Seen). s.referred) new_rest ∙ ap (λ (s : Seen). s.referred) rest ∙ ap (λ (s : Seen). s.referred) b_rest
+            ∙ ap (λ (s : Seen). s.referred) a_rest;
       }

@@ -73,6 +73,7 @@ pub record TakesFrame (old : Seen) (sequence place : ℕ) (direction : Direction
       × NotesAge direction known new.old.all.items owner.upid.index)
       ⊎ (GoesOn old.threads.all.items new.threads.all.items owner.utid.index (length new.gaps.items)
       × (new.old.all.items ≡ known))
+  pub referred : new.referred ≡ old.referred
 
 -- whether a delivery is a oneway transaction, or opens a call that comes within no other one
 abbrev pub is_outermost : Message → Option Call → Bool

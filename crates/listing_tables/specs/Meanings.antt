@@ -59,13 +59,14 @@ MakesAllKnown old new pairs = (between : List Meaning) × SpreadsEach old betwee
 -- it is noted that a generation means a node, unless more or fewer gaps come before its begin than these
 abbrev pub LearnsNode : Meanings → Meanings → ℕ → ℕ → ℕ → Type 0
 LearnsNode old new generation gaps node =
-    IsPastGap old generation gaps ⊎ LearnsKnown old.list.all.items new.list.all.items generation (One node)
+    (IsPastGap old generation gaps × (new ≡ old))
+    ⊎ (LearnsKnown old.list.all.items new.list.all.items generation (One node) × (new.same ≡ old.same))
 
 -- it is noted that two generations mean the same node, unless more or fewer gaps come before the begin of one of them
 abbrev pub LearnsSame : Meanings → Meanings → ℕ × ℕ → ℕ × ℕ → Type 0
 LearnsSame old new one other =
-    IsPastGap old one.0 one.1 ⊎ IsPastGap old other.0 other.1
-    ⊎ (new.same.all.items ≡ old.same.all.items ++ (one.0, other.0) ∷ [])
+    (IsPastGap old one.0 one.1 × (new ≡ old)) ⊎ (IsPastGap old other.0 other.1 × (new ≡ old))
+    ⊎ ((new.same.all.items ≡ old.same.all.items ++ (one.0, other.0) ∷ []) × (new.list ≡ old.list))
 
 -- An object is one node to the process that hands it over after so many gaps, and to the one that gets it after so many.
 -- What only one of the two knows as its own is noted of the handle of the other one.

@@ -16,6 +16,7 @@ use Rattle.listing_tables.specs.declared.messages.Message.{Message}
 use Rattle.listing_tables.specs.declared.messages.Sent.{Sent}
 use Rattle.listing_tables.specs.declared.pairs.Ends.{Ends}
 use Rattle.listing_tables.specs.declared.pairs.Pairing.{Pairing}
+use Rattle.listing_tables.specs.declared.waiting.Waiting.{Waiting}
 use Rattle.listing_tables.specs.Certainty.{AreAlike, AreOfOneHandle, IsFitOf, IsListOf, IsOnlyOne, IsRefused, IsRepliedBy}
 use Rattle.listing_tables.specs.Changes.{Couples, IsSendAt, Rates, RatesPair}
 use Rattle.listing_tables.specs.Gaps.{AreGapsBefore, IsWholeCall}
@@ -42,6 +43,7 @@ pub record BeginsWalk (old new : Pairing) : Type 0 where
   pub marks : new.marks.all.items ≡ replicate (length (messages_of old)) (record { other = Unmarked; guess = None })
   pub messages : new.messages ≡ old.messages
   pub meanings : new.meanings ≡ old.meanings
+  pub facts : new.facts ≡ old.facts
 
 -- ---- the sends that wait
 
@@ -60,8 +62,9 @@ ClosesNothing pairing message =
     → (call.served ≡ true) ⊎ (call.place ≡ message.place)
     ⊎ ((send : Message) × (slice_get (messages_of pairing) call.opener ≡ Some send) × (send.partner ≢ None))
 
--- a message closes a call of which the delivery is still looked for: its send does not wait any more, and all others do
-pub record ClosesSend (old : Pairing) (message : Message) (new : Pairing) : Type 0 where
+-- A message closes a call of which the delivery is still looked for. The send of the call does not wait any more in the
+-- list of its node, and all others do.
+pub record ClosesSend (old : Pairing) (message : Message) (new : Waiting) : Type 0 where
   pub call : Call
   pub closes : IsAt (calls_of old) message.call call
   pub made : call.served ≡ false
@@ -69,9 +72,16 @@ pub record ClosesSend (old : Pairing) (message : Message) (new : Pairing) : Type
   pub send : Message
   pub there : slice_get (messages_of old) call.opener ≡ Some send
   pub free : send.partner ≡ None
+  pub sent : Sent
+  pub sends : IsSendAt (messages_of old) call.opener sent
   pub list : ℕ
-  pub others : OthersWaitBut (send.key, list, call.opener) old.waiting new.waiting
-  pub gone : waits new.waiting (send.key, list, call.opener) ≡ false
+  pub listed : IsListOf old.meanings sent.generation send.gaps list
+  pub others : OthersWaitBut (send.key, list, call.opener) old.waiting new
+  pub gone : waits new (send.key, list, call.opener) ≡ false
+
+-- the send of the call that a message closes is taken out, if its delivery is still looked for
+abbrev pub ClosesCall : Pairing → Message → Waiting → Type 0
+ClosesCall old message new = (ClosesNothing old message × (new ≡ old.waiting)) ⊎ ClosesSend old message new
 
 -- ---- the rule for sends that wait
 

@@ -8,15 +8,17 @@ use Rattle.listing_tables.specs.declared.numbered.Numbered.{Numbered}
 use Rattle.listing_tables.specs.declared.pairs.Pairing.{Pairing}
 use Rattle.listing_tables.specs.declared.traffic.Traffic.{Traffic}
 use Rattle.listing_tables.specs.Meanings.{BeginsEach, MakesAllKnown}
-use Rattle.listing_tables.specs.Pairing.{BeginsWalk, Claims, KeepsGuess, MarksClaimed, PairsDelivery, PairsReply, messages_of}
+use Rattle.listing_tables.specs.Pairing.{BeginsWalk, Claims, ClosesCall, KeepsGuess, MarksClaimed, PairsDelivery, PairsReply, messages_of}
 
--- a delivery that has no partner yet: its send is looked for, while all messages are as they were
+-- A delivery has no partner yet. Its send is looked for, by what is known and noted so far. Before that the send of the
+-- call that the delivery closes may be taken out.
 pub record LooksForSend (old : Pairing) (index : ℕ) (message : Message) (new : List Message) : Type 0 where
   pub buffer : ℕ
   pub is : message.detail ≡ Delivered buffer
   pub alone : message.partner ≡ None
   pub between : Pairing
-  pub same : messages_of between ≡ messages_of old
+  pub same : between ≡ record old { waiting = between.waiting; handed = between.handed }
+  pub closes : ClosesCall old message between.waiting
   pub sought : Sought
   pub which : sought.index ≡ index
   pub what : sought.message ≡ message
@@ -32,23 +34,30 @@ pub record HasTurn (calls : Bool) (old : Pairing) (index : ℕ) (new : Pairing) 
   pub there : slice_get (messages_of old) index ≡ Some message
   pub passed : calls ≡ true → message.oneway ≡ true → new ≡ old
   pub turn : TakesTurn old index message (messages_of new)
+  pub facts : new.facts ≡ old.facts
 
 -- a delivery is marked by the call at an index, if that must have come by it
 abbrev pub MarksIfClaimed : Pairing → ℕ → Pairing → Type 0
 MarksIfClaimed old index new =
-    (new.messages ≡ old.messages) × ((new.marks ≡ old.marks) ⊎ MarksClaimed old index new.marks.all.items)
+    (new ≡ record old { marks = new.marks }) × ((new.marks ≡ old.marks) ⊎ MarksClaimed old index new.marks.all.items)
 
--- the delivery at an index and the one call that marks it become a pair, if there is one
+-- the delivery at an index and the one call that marks it become a pair, if there is one; of that something may be learnt
 abbrev pub ClaimsIfMarked : Pairing → ℕ → Pairing → Type 0
-ClaimsIfMarked old index new = (messages_of new ≡ messages_of old) ⊎ Claims old index (messages_of new)
+ClaimsIfMarked old index new =
+    (new ≡ record old { messages = new.messages; handed = new.handed; meanings = new.meanings; news = new.news })
+    × ((messages_of new ≡ messages_of old) ⊎ Claims old index (messages_of new))
 
 -- the send at an index and the delivery that took it by guess become a pair, if there is one
 abbrev pub KeepsIfGuessed : Pairing → ℕ → Pairing → Type 0
-KeepsIfGuessed old index new = (messages_of new ≡ messages_of old) ⊎ KeepsGuess old index (messages_of new)
+KeepsIfGuessed old index new =
+    (new ≡ record old { messages = new.messages })
+    × ((messages_of new ≡ messages_of old) ⊎ KeepsGuess old index (messages_of new))
 
 -- the reply to the call that the delivery at an index opens becomes a pair with its answer, if there is one
 abbrev pub PairsIfReplied : Pairing → ℕ → Pairing → Type 0
-PairsIfReplied old index new = (messages_of new ≡ messages_of old) ⊎ PairsReply old index (messages_of new)
+PairsIfReplied old index new =
+    (new ≡ record old { messages = new.messages })
+    × ((messages_of new ≡ messages_of old) ⊎ PairsReply old index (messages_of new))
 
 -- a step is made for each index below a count, in order, and no other one
 abbrev pub MakesEach : (Pairing → ℕ → Pairing → Type 0) → Pairing → Pairing → ℕ → Type 0
@@ -75,7 +84,7 @@ pub record Walks (calls : Bool) (old new : Pairing) : Type 0 where
   pub claimed : Pairing
   pub claims : ClaimsAll turned claimed
   pub settles : MakesAllKnown claimed.meanings.list.all.items new.meanings.list.all.items claimed.meanings.same.all.items
-  pub same : new.messages ≡ claimed.messages
+  pub same : new ≡ record claimed { meanings = new.meanings; news = new.news }
 
 -- the first walk is through the messages of calls
 abbrev pub WalksAt : Pairing → ℕ → Pairing → Type 0
@@ -88,7 +97,7 @@ WalksOn old new = (walks : ℕ) × (walks ≤ 5) × MakesEach WalksAt old new wa
 -- Messages are paired by some walks. After that what the last one guessed is kept, and replies are paired.
 pub record PairsAll (old new : Pairing) : Type 0 where
   pub begun : Pairing
-  pub same : begun.messages ≡ old.messages
+  pub same : begun ≡ record old { meanings = begun.meanings }
   pub begins : BeginsEach old.facts.seen.now old.meanings.list.all.items begun.meanings.list.all.items
       old.facts.generations.now.list.all.items
   pub walked : Pairing

@@ -104,7 +104,7 @@ pub(crate) fn pair_all(alloc: Global, traffic: &mut Traffic, calls: &Numbered<Ca
 impl Pairing<'_> {
     ghost use Rattle.indexmap.specs.IndexSet.{contains};
     ghost use Rattle.listing_tables.specs.Changes.{RatesPair};
-    ghost use Rattle.listing_tables.specs.Pairing.{AddsSend, BeginsWalk, Claims, ClosesNothing, ClosesSend};
+    ghost use Rattle.listing_tables.specs.Pairing.{AddsSend, BeginsWalk, Claims, ClosesCall};
     ghost use Rattle.listing_tables.specs.Pairing.{GuessesFit, HasEnds, HasNoGap, KeepsGuess};
     ghost use Rattle.listing_tables.specs.Pairing.{MarksClaimed, MustHaveCome};
     ghost use Rattle.listing_tables.specs.Pairing.{PairsDelivery, PairsReply, messages_of};
@@ -182,7 +182,8 @@ impl Pairing<'_> {
     }
 
     fn pair_message(&mut self, index: u32, message: &Message) -> Outcome
-        ensures { OnOk result (TakesTurn self.old index message.now (messages_of self.new)) }
+        ensures turn { OnOk result (TakesTurn self.old index message.now (messages_of self.new)) }
+        ensures facts { self.new.facts ≡ self.old.facts }
     {
         self.close_send(message)?;
         if is_reply(message.kind) || message.partner.is_some() {
@@ -201,7 +202,7 @@ impl Pairing<'_> {
     /// Adds a send to those that wait, unless it is refused. If it is after a gap, the error may be
     /// that of another send.
     fn add_send(&mut self, index: u32, send: &Message, sent: &Sent) -> Outcome
-        ensures messages { self.new.messages ≡ self.old.messages }
+        ensures same { self.new ≡ record self.old { waiting = self.new.waiting } }
         ensures added { OnOk result (AddsSend self.old index send.now sent.now self.new) }
         ensures kept { OnOk result (AllWait self.old.waiting self.new.waiting) }
     {
@@ -214,10 +215,8 @@ impl Pairing<'_> {
 
     /// Takes out the send whose call a message closes, if its delivery is not sure.
     fn close_send(&mut self, message: &Message) -> Outcome
-        ensures messages { self.new.messages ≡ self.old.messages }
-        ensures closed { OnOk result (
-            (ClosesNothing self.old message.now × (self.new.waiting ≡ self.old.waiting))
-            ⊎ ClosesSend self.old message.now self.new) }
+        ensures same { self.new ≡ record self.old { waiting = self.new.waiting } }
+        ensures closed { OnOk result (ClosesCall self.old message.now self.new.waiting) }
     {
         let found = self.facts.calls.find(message.call)?;
         let Some(call) = found else {
@@ -255,7 +254,8 @@ impl Pairing<'_> {
     }
 
     fn pair_delivery(&mut self, sought: &Sought) -> Outcome
-        ensures { OnOk result (PairsDelivery self.old sought.now (messages_of self.new)) }
+        ensures pairs { OnOk result (PairsDelivery self.old sought.now (messages_of self.new)) }
+        ensures facts { self.new.facts ≡ self.old.facts }
     {
         let evidence = Evidence {
             messages: &self.messages,
@@ -298,6 +298,7 @@ impl Pairing<'_> {
         ensures pair { OnOk result (RatesPair (messages_of self.old) (messages_of self.new)
             fit.now.listed.index sought.now.index 1 true) }
         ensures gone { OnOk result (waits self.new.waiting (entry_of fit.now.listed) ≡ false) }
+        ensures facts { self.new.facts ≡ self.old.facts }
     {
         self.news |= !fit.fresh;
         self.waiting.take(fit.listed)?;
@@ -306,8 +307,9 @@ impl Pairing<'_> {
 
     /// Takes one of several sends of one generation.
     fn take_one(&mut self, sought: &Sought) -> Outcome
-        ensures { OnOk result ((count : ℕ) × GuessesFit sought.now.message.oneway
+        ensures rates { OnOk result ((count : ℕ) × GuessesFit sought.now.message.oneway
             (messages_of self.old) (messages_of self.new) self.old.fitting count true) }
+        ensures facts { self.new.facts ≡ self.old.facts }
     {
         let Some(fit) = self.fitting.first() else {
             return Err(ListingError::TooLarge);
@@ -321,8 +323,9 @@ impl Pairing<'_> {
     /// Takes the best send by guess, if there is one that no other delivery has taken. So many
     /// sends fit, and it may be certain that it is one of this generation.
     fn guess(&mut self, sought: &Sought, fits: u32, certain: bool) -> Outcome
-        ensures { OnOk result (GuessesFit sought.now.message.oneway (messages_of self.old)
+        ensures rates { OnOk result (GuessesFit sought.now.message.oneway (messages_of self.old)
             (messages_of self.new) self.old.fitting fits certain) }
+        ensures facts { self.new.facts ≡ self.old.facts }
     {
         self.mark_all(sought.index)?;
         let Some(fit) = self.fitting.best(sought.message.oneway) else {
@@ -365,7 +368,10 @@ impl Pairing<'_> {
     fn keep_pair(&mut self, index: u32, sought: &Sought) -> Outcome
         ensures pair { OnOk result (RatesPair (messages_of self.old) (messages_of self.new) index
             sought.now.index 1 true) }
-        ensures waiting { self.new.waiting ≡ self.old.waiting }
+        ensures same { self.new ≡ record self.old {
+          messages = self.new.messages;
+          meanings = self.new.meanings;
+        } }
     {
         let sent = self.messages.sent(index)?;
         let gaps = self.messages.list.at(index)?.gaps;
@@ -424,7 +430,7 @@ impl Pairing<'_> {
 
     /// Marks the delivery by which a call must have come.
     fn mark_claimed(&mut self, index: u32) -> Outcome
-        ensures messages { self.new.messages ≡ self.old.messages }
+        ensures same { self.new ≡ record self.old { marks = self.new.marks } }
         ensures marks { OnOk result ((self.new.marks ≡ self.old.marks)
             ⊎ MarksClaimed self.old index self.new.marks.all.items) }
     {
@@ -458,8 +464,14 @@ impl Pairing<'_> {
 
     /// Takes the one call that must have come by a delivery, if there is one.
     fn claim(&mut self, index: u32) -> Outcome
-        ensures { OnOk result ((messages_of self.new ≡ messages_of self.old)
+        ensures claims { OnOk result ((messages_of self.new ≡ messages_of self.old)
             ⊎ Claims self.old index (messages_of self.new)) }
+        ensures same { self.new ≡ record self.old {
+          messages = self.new.messages;
+          handed = self.new.handed;
+          meanings = self.new.meanings;
+          news = self.new.news;
+        } }
     {
         let delivery = self.messages.list.at(index)?;
         let mark = self.marks.at(index)?;
@@ -489,8 +501,9 @@ impl Pairing<'_> {
 
     /// Keeps what the last walk guessed.
     fn keep_guess(&mut self, index: u32) -> Outcome
-        ensures { OnOk result ((messages_of self.new ≡ messages_of self.old)
+        ensures keeps { OnOk result ((messages_of self.new ≡ messages_of self.old)
             ⊎ KeepsGuess self.old index (messages_of self.new)) }
+        ensures same { self.new ≡ record self.old { messages = self.new.messages } }
     {
         let mark = self.marks.at(index)?;
         let Some(delivery) = mark.guess else {
@@ -516,8 +529,9 @@ impl Pairing<'_> {
 
     /// Finds the delivery of the reply to a call whose own delivery is found.
     fn pair_reply(&mut self, index: u32) -> Outcome
-        ensures { OnOk result ((messages_of self.new ≡ messages_of self.old)
+        ensures pairs { OnOk result ((messages_of self.new ≡ messages_of self.old)
             ⊎ PairsReply self.old index (messages_of self.new)) }
+        ensures same { self.new ≡ record self.old { messages = self.new.messages } }
     {
         let found = self.ends_of(index)?;
         let Some(ends) = found else {

@@ -3,6 +3,7 @@
 
 ghost use Rattle.std.specs.Prelude.{◌≡◌, [], None, slice_set, true, length, IfOk, OnOk};
 ghost use Rattle.std.specs.Bool.{OnFalse, OnTrue};
+ghost use Rattle.indexmap.specs.IndexMap.{IsEmpty};
 ghost use Rattle.listing_tables.specs.Certainty.{HasAll, IsReferred, IsWhole};
 ghost use Rattle.listing_tables.specs.Gaps.{AreGapsBefore, BeginsThread, ComesAfterGap, GoesOn};
 ghost use Rattle.listing_tables.specs.Gaps.{IsWholeCall, NotesGap, NotesProcess, NotesReferred};
@@ -50,6 +51,7 @@ impl Seen {
         ensures gaps { result.gaps.items ≡ [] }
         ensures threads { result.threads.all.items ≡ [] }
         ensures processes { result.old.all.items ≡ [] }
+        ensures referred { IsEmpty result.referred }
     {
         Seen {
             sequence: None,

@@ -10,4 +10,5 @@ returns c = record {
       ∙ filled c.clear-3.new.self.items c.len-count.result _ _ _ c.clear-3.ensures.items c.clear-3.ensures.len (search rules);
   messages = refl;
   meanings = refl;
+  facts = refl;
 }

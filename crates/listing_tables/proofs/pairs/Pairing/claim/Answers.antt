@@ -5,8 +5,8 @@ use Rattle.listing_tables.specs.Pairing.{messages_of}
 use Rattle.listing_tables.specs.declared.messages.Message.{Message}
 use Rattle.listing_tables.proofs.pairs.Pairing.claim.Goals as goal
 
-pub returns : goal.returns
-returns c =
+pub returns-clause-claims : goal.returns-clause-claims
+returns-clause-claims c =
     let new = messages_of c.keep_pair.new.self in
     let send = c.in-By.send in
     let same = ap messages_of c.in_ok-sought.ensures.same in

@@ -46,7 +46,10 @@ returns-clause-closed c =
       send = send;
       there = c.in_ok-send.ensures;
       free = search rules;
+      sent = c.in_ok-sent.sent;
+      sends = c.in_ok-sent.ensures;
       list = c.in_ok-listed.listed.list;
+      listed = c.in_ok-listed.ensures.list;
       others = search rules;
       gone = search rules;
     }))

@@ -8,8 +8,8 @@ use Rattle.listing_tables.specs.declared.messages.Message.{Message}
 use Rattle.listing_tables.specs.declared.pairs.Pairing.{Pairing}
 use Rattle.listing_tables.proofs.pairs.Pairing.guess.Goals as goal
 
-pub returns : goal.returns
-returns c =
+pub returns-clause-rates : goal.returns-clause-rates
+returns-clause-rates c =
     let fit = c.in-Some.fit in
     let new = c.rate.new.self.list.all.items in
     let oneway = c.args.sought.now.message.oneway in
@@ -23,8 +23,8 @@ returns c =
     ))
     c.rate.ensures
 
-pub returns-in_default : goal.returns-in_default
-returns-in_default c =
+pub returns-in_default-clause-rates : goal.returns-in_default-clause-rates
+returns-in_default-clause-rates c =
     let oneway = c.args.sought.now.message.oneway in
     let marked = c.in_ok-mark_all.ensures.same in
     let best = rw c.in_default.is at c.best.ensures in

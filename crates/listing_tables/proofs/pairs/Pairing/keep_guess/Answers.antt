@@ -2,8 +2,8 @@ use Rattle.std.proofs.Common.{inr, rules}
 use Rattle.std.proofs.lemmas.Result.{on_ok_weaker}
 use Rattle.listing_tables.proofs.pairs.Pairing.keep_guess.Goals as goal
 
-pub returns : goal.returns
-returns c =
+pub returns-clause-keeps : goal.returns-clause-keeps
+returns-clause-keeps c =
     on_ok_weaker c.couple.result
     (λ couples. inr (record {
       mark = c.in_ok-mark.mark;

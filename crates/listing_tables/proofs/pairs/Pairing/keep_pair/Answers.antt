@@ -20,8 +20,3 @@ returns-clause-pair c =
       rates = subst (λ (l : List Message). Rates l rated c.args.index 1 true) (ap messages_of c.in_ok-learn_target.ensures) c.in_ok-rate.ensures;
       couples = c.in_ok-couple.ensures;
     }))
-
-pub returns-clause-waiting : goal.returns-clause-waiting
-returns-clause-waiting c =
-    ap (λ (p : Pairing). p.waiting) c.learn_answer.ensures ∙ ap (λ (p : Pairing). p.waiting) c.in_ok-learn_objects.ensures
-    ∙ ap (λ (p : Pairing). p.waiting) c.in_ok-learn_target.ensures

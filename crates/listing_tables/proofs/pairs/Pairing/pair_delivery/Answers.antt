@@ -7,8 +7,8 @@ use Rattle.listing_tables.specs.declared.pairs.Pairing.{Pairing}
 use Rattle.listing_tables.proofs.PairLaws.{guess_from, on_ok_always, pairs_guess, pairs_one, pairs_only}
 use Rattle.listing_tables.proofs.pairs.Pairing.pair_delivery.Goals as goal
 
-pub returns-in-Sure : goal.returns-in-Sure
-returns-in-Sure c =
+pub returns-in-Sure-clause-pairs : goal.returns-in-Sure-clause-pairs
+returns-in-Sure-clause-pairs c =
     let sought = c.args.sought.now in
     let fit = c.in-Sure.fit in
     let new = messages_of c.take.new.self in
@@ -20,8 +20,8 @@ returns-in-Sure c =
     only (subst (λ (l : List Message). RatesPair l new fit.listed.index sought.index 1 true) same pair))
     c.take.ensures.pair
 
-pub returns-in-OneHandle : goal.returns-in-OneHandle
-returns-in-OneHandle c =
+pub returns-in-OneHandle-clause-pairs : goal.returns-in-OneHandle-clause-pairs
+returns-in-OneHandle-clause-pairs c =
     let mid = c.note_crowded.new.self in
     let same = c.in_ok-note_crowded.ensures.same in
     let new = messages_of c.take_one.new.self in
@@ -31,24 +31,24 @@ returns-in-OneHandle c =
     (λ found. pairs_one c.args.self.now c.args.sought.now new c.args.sought.now.message.oneway _ fitting found.0
     (record { messages = refl; calls = refl; generations = refl; seen = refl; meanings = refl; waiting = refl; marks = refl })
     left (guess_from c.args.sought.now.message.oneway c.args.self.now mid new fitting found.0 true (ap messages_of same) (ap (λ (p : Pairing). p.fitting) same) found.1))
-    c.take_one.ensures
+    c.take_one.ensures.rates
 
-pub returns-in_ok-guess-in-Several : goal.returns-in_ok-guess-in-Several
-returns-in_ok-guess-in-Several c =
+pub returns-in_ok-guess-in-Several-clause-pairs : goal.returns-in_ok-guess-in-Several-clause-pairs
+returns-in_ok-guess-in-Several-clause-pairs c =
     let mid = c.note_crowded.new.self in
     let same = c.in_ok-note_crowded.ensures.same in
     let guessed = messages_of c.guess.new.self in
     on_ok_always c.doubt_all.result
     (subst (λ (l : List Message). PairsDelivery c.args.self.now c.args.sought.now l) (sym (ap messages_of c.doubt_all.ensures.same))
     (pairs_guess c.args.self.now c.args.sought.now guessed c.args.sought.now.message.oneway mid.fitting c.in_ok-fits.fits
-    (guess_from c.args.sought.now.message.oneway c.args.self.now mid guessed mid.fitting c.in_ok-fits.fits false (ap messages_of same) refl c.in_ok-guess-in-Several.ensures)))
+    (guess_from c.args.sought.now.message.oneway c.args.self.now mid guessed mid.fitting c.in_ok-fits.fits false (ap messages_of same) refl c.in_ok-guess-in-Several.ensures.rates)))
 
-pub returns-in_ok-one_more-in-Unknown : goal.returns-in_ok-one_more-in-Unknown
-returns-in_ok-one_more-in-Unknown c =
+pub returns-in_ok-one_more-in-Unknown-clause-pairs : goal.returns-in_ok-one_more-in-Unknown-clause-pairs
+returns-in_ok-one_more-in-Unknown-clause-pairs c =
     let mid = c.note_crowded.new.self in
     let same = c.in_ok-note_crowded.ensures.same in
     let guessed = messages_of c.guess-in-Unknown.new.self in
     on_ok_weaker c.guess-in-Unknown.result
     (λ found. pairs_guess c.args.self.now c.args.sought.now guessed c.args.sought.now.message.oneway mid.fitting c.in_ok-one_more-in-Unknown.field-0
     (guess_from c.args.sought.now.message.oneway c.args.self.now mid guessed mid.fitting c.in_ok-one_more-in-Unknown.field-0 false (ap messages_of same) refl found))
-    c.guess-in-Unknown.ensures
+    c.guess-in-Unknown.ensures.rates

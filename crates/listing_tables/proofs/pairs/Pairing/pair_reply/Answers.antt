@@ -5,8 +5,8 @@ use Rattle.listing_tables.specs.Changes.{Rates}
 use Rattle.listing_tables.specs.Pairing.{messages_of}
 use Rattle.listing_tables.proofs.pairs.Pairing.pair_reply.Goals as goal
 
-pub returns : goal.returns
-returns c =
+pub returns-clause-pairs : goal.returns-clause-pairs
+returns-clause-pairs c =
     let old = messages_of c.args.self.now in
     let between = c.rate.new.self.list.all.items in
     let ends = c.in-Some.ends in
