@@ -25,10 +25,12 @@ none_left old new key doubt is came gone =
 -- the same of what was counted before
 pub counts_from : (old mid new : Waiting) (send : Listed) (came : ℕ) → mid.doubted ≡ old.doubted → mid.doubts ≡ old.doubts
     → CountsLeaving mid send came new → CountsLeaving old send came new
-counts_from old mid new send came doubted doubts counts was =
+counts_from old mid new send came doubted doubts counts =
     let e : doubt_of mid send.key ≡ doubt_of old send.key = rw doubts refl in
-    let there : in_doubt mid (entry_of send) ≡ true = rw doubted was in
-    subst (λ (d : Doubt). CountsLeft (d.sends - 1) (d.came - came) send.key new) e (counts there)
+    record {
+      doubted = λ was. subst (λ (d : Doubt). CountsLeft (d.sends - 1) (d.came - came) send.key new) e (counts.doubted (rw doubted was));
+      other = λ was. subst (λ (d : Doubt). CountsLeft d.sends d.came send.key new) e (counts.other (rw doubted was));
+    }
 
 -- by other names of the counts
 pub counted_as : (mid new : Waiting) (key sends came : ℕ) → doubt_of mid key ≡ record { sends = sends; came = came }

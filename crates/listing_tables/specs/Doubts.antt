@@ -21,8 +21,9 @@ pub record CountsLeft (sends came : ℕ) (key : ℕ) (new : Waiting) : Type 0 wh
 abbrev pub CountsCame : Waiting → ℕ → Waiting → Type 0
 CountsCame old key new = CountsLeft (doubt_of old key).sends ((doubt_of old key).came + 1) key new
 
--- a send that was in doubt is not counted any more, nor so many of what came
-abbrev pub CountsLeaving : Waiting → Listed → ℕ → Waiting → Type 0
-CountsLeaving old send came new =
-    in_doubt old (entry_of send) ≡ true
-    → CountsLeft ((doubt_of old send.key).sends - 1) ((doubt_of old send.key).came - came) send.key new
+-- A send that was in doubt is not counted any more, nor so many of what came. If it was not in doubt, the counts stay.
+pub record CountsLeaving (old : Waiting) (send : Listed) (came : ℕ) (new : Waiting) : Type 0 where
+  pub doubted : in_doubt old (entry_of send) ≡ true
+      → CountsLeft ((doubt_of old send.key).sends - 1) ((doubt_of old send.key).came - came) send.key new
+  pub other : in_doubt old (entry_of send) ≡ false
+      → CountsLeft (doubt_of old send.key).sends (doubt_of old send.key).came send.key new

@@ -182,6 +182,25 @@ pub record Claims (pairing : Pairing) (index : ℕ) (new : List Message) : Type 
 
 -- ---- what is guessed
 
+-- it is noted of the message at an index that this delivery took it by guess
+pub record NotesGuess (old new : List Mark) (index delivery : ℕ) : Type 0 where
+  pub before : Mark
+  pub there : slice_get old index ≡ Some before
+  pub are : new ≡ slice_set old index (record before { guess = Some delivery })
+
+-- The sends that fit a delivery, which may be oneway, are marked by it, if nothing was found that speaks against them. Of
+-- the one that is guessed it is noted that the delivery took it.
+pub record MarksFits (oneway : Bool) (fitting : Fitting) (delivery : ℕ) (old new : List Mark) : Type 0 where
+  pub between : List Mark
+  pub marked : fitting.rank ≡ 0 → MarksEach old between fitting.list.items delivery
+  pub unmarked : fitting.rank ≢ 0 → between ≡ old
+  pub noted : (IsGuess oneway fitting.list.items None × (new ≡ between))
+      ⊎ ((fit : Fit) × IsGuess oneway fitting.list.items (Some fit) × NotesGuess between new fit.listed.index delivery)
+
+-- what is marked where the send of a delivery is looked for, which may be oneway
+abbrev pub MarksSome : Bool → ℕ → List Mark → List Mark → Type 0
+MarksSome oneway delivery old new = (new ≡ old) ⊎ ((fitting : Fitting) × MarksFits oneway fitting delivery old new)
+
 -- a send and the delivery that took it by guess are a pair, if neither is one of another pair
 pub record KeepsGuess (pairing : Pairing) (index : ℕ) (new : List Message) : Type 0 where
   pub mark : Mark

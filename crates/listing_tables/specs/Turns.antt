@@ -8,7 +8,7 @@ use Rattle.listing_tables.specs.declared.numbered.Numbered.{Numbered}
 use Rattle.listing_tables.specs.declared.pairs.Pairing.{Pairing}
 use Rattle.listing_tables.specs.declared.traffic.Traffic.{Traffic}
 use Rattle.listing_tables.specs.Meanings.{BeginsEach, MakesAllKnown}
-use Rattle.listing_tables.specs.Pairing.{BeginsWalk, Claims, ClosesCall, KeepsGuess, MarksClaimed, PairsDelivery, PairsReply, messages_of}
+use Rattle.listing_tables.specs.Pairing.{BeginsWalk, Claims, ClosesCall, KeepsGuess, MarksClaimed, MarksSome, PairsDelivery, PairsReply, messages_of}
 
 -- A delivery has no partner yet. Its send is looked for, by what is known and noted so far. Before that the send of the
 -- call that the delivery closes may be taken out.
@@ -34,6 +34,7 @@ pub record HasTurn (calls : Bool) (old : Pairing) (index : ℕ) (new : Pairing) 
   pub there : slice_get (messages_of old) index ≡ Some message
   pub passed : calls ≡ true → message.oneway ≡ true → new ≡ old
   pub turn : TakesTurn old index message (messages_of new)
+  pub marks : MarksSome message.oneway index old.marks.all.items new.marks.all.items
   pub facts : new.facts ≡ old.facts
 
 -- a delivery is marked by the call at an index, if that must have come by it

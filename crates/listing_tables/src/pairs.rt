@@ -106,7 +106,7 @@ impl Pairing<'_> {
     ghost use Rattle.listing_tables.specs.Changes.{RatesPair};
     ghost use Rattle.listing_tables.specs.Pairing.{AddsSend, BeginsWalk, Claims, ClosesCall};
     ghost use Rattle.listing_tables.specs.Pairing.{GuessesFit, HasEnds, HasNoGap, KeepsGuess};
-    ghost use Rattle.listing_tables.specs.Pairing.{MarksClaimed, MustHaveCome};
+    ghost use Rattle.listing_tables.specs.Pairing.{MarksClaimed, MarksFits, MarksSome, MustHaveCome};
     ghost use Rattle.listing_tables.specs.Pairing.{PairsDelivery, PairsReply, messages_of};
     ghost use Rattle.listing_tables.specs.Turns.{ClaimsAll, HasTurn, KeepsIfGuessed, MakesEach};
     ghost use Rattle.listing_tables.specs.Turns.{PairsAll, PairsIfReplied, TakesTurn, Walks, WalksOn};
@@ -183,6 +183,8 @@ impl Pairing<'_> {
 
     fn pair_message(&mut self, index: u32, message: &Message) -> Outcome
         ensures turn { OnOk result (TakesTurn self.old index message.now (messages_of self.new)) }
+        ensures marks { OnOk result (MarksSome message.now.oneway index self.old.marks.all.items
+            self.new.marks.all.items) }
         ensures facts { self.new.facts ≡ self.old.facts }
     {
         self.close_send(message)?;
@@ -255,6 +257,8 @@ impl Pairing<'_> {
 
     fn pair_delivery(&mut self, sought: &Sought) -> Outcome
         ensures pairs { OnOk result (PairsDelivery self.old sought.now (messages_of self.new)) }
+        ensures marks { OnOk result (MarksSome sought.now.message.oneway sought.now.index
+            self.old.marks.all.items self.new.marks.all.items) }
         ensures facts { self.new.facts ≡ self.old.facts }
     {
         let evidence = Evidence {
@@ -298,6 +302,7 @@ impl Pairing<'_> {
         ensures pair { OnOk result (RatesPair (messages_of self.old) (messages_of self.new)
             fit.now.listed.index sought.now.index 1 true) }
         ensures gone { OnOk result (waits self.new.waiting (entry_of fit.now.listed) ≡ false) }
+        ensures marks { self.new.marks ≡ self.old.marks }
         ensures facts { self.new.facts ≡ self.old.facts }
     {
         self.news |= !fit.fresh;
@@ -309,6 +314,8 @@ impl Pairing<'_> {
     fn take_one(&mut self, sought: &Sought) -> Outcome
         ensures rates { OnOk result ((count : ℕ) × GuessesFit sought.now.message.oneway
             (messages_of self.old) (messages_of self.new) self.old.fitting count true) }
+        ensures marks { OnOk result (MarksFits sought.now.message.oneway self.old.fitting
+            sought.now.index self.old.marks.all.items self.new.marks.all.items) }
         ensures facts { self.new.facts ≡ self.old.facts }
     {
         let Some(fit) = self.fitting.first() else {
@@ -325,6 +332,8 @@ impl Pairing<'_> {
     fn guess(&mut self, sought: &Sought, fits: u32, certain: bool) -> Outcome
         ensures rates { OnOk result (GuessesFit sought.now.message.oneway (messages_of self.old)
             (messages_of self.new) self.old.fitting fits certain) }
+        ensures marks { OnOk result (MarksFits sought.now.message.oneway self.old.fitting
+            sought.now.index self.old.marks.all.items self.new.marks.all.items) }
         ensures facts { self.new.facts ≡ self.old.facts }
     {
         self.mark_all(sought.index)?;

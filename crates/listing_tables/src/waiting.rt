@@ -83,6 +83,8 @@ impl Waiting {
     pub(crate) fn add(&mut self, send: Listed) -> Outcome
         ensures added { OnOk result (IsTrue (waits self.new (entry_of send))) }
         ensures kept { OnOk result (AllWait self.old self.new) }
+        ensures doubted { self.new.doubted ≡ self.old.doubted }
+        ensures doubts { self.new.doubts ≡ self.old.doubts }
     {
         self.untaken.insert((send.key, send.list, send.index))?;
         Ok(())
@@ -162,7 +164,9 @@ impl Waiting {
 
     /// A delivery takes a send by guess.
     pub(crate) fn guess(&mut self, send: Listed) -> Outcome
-        ensures { OnOk result (AllWait self.old self.new) }
+        ensures kept { OnOk result (AllWait self.old self.new) }
+        ensures doubted { self.new.doubted ≡ self.old.doubted }
+        ensures doubts { self.new.doubts ≡ self.old.doubts }
     {
         let at = (send.key, send.list, send.index);
         if self.untaken.remove(&at) {

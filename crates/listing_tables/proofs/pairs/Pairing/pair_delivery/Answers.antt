@@ -1,8 +1,10 @@
-use Rattle.std.proofs.Common.{List, true, false, refl, sym, ap, subst}
+use Rattle.std.proofs.Common.{List, true, false, inl, inr, refl, sym, ap, ◌∙◌, subst}
 use Rattle.std.proofs.lemmas.Result.{on_ok_weaker}
 use Rattle.listing_tables.specs.Changes.{RatesPair}
-use Rattle.listing_tables.specs.Pairing.{PairsDelivery, messages_of}
+use Rattle.listing_tables.specs.Pairing.{MarksFits, MarksSome, PairsDelivery, messages_of}
+use Rattle.listing_tables.specs.declared.marks.Mark.{Mark}
 use Rattle.listing_tables.specs.declared.messages.Message.{Message}
+use Rattle.listing_tables.specs.declared.numbered.Numbered.{Numbered}
 use Rattle.listing_tables.specs.declared.pairs.Pairing.{Pairing}
 use Rattle.listing_tables.proofs.PairLaws.{guess_from, on_ok_always, pairs_guess, pairs_one, pairs_only}
 use Rattle.listing_tables.proofs.pairs.Pairing.pair_delivery.Goals as goal
@@ -52,3 +54,48 @@ returns-in_ok-one_more-in-Unknown-clause-pairs c =
     (λ found. pairs_guess c.args.self.now c.args.sought.now guessed c.args.sought.now.message.oneway mid.fitting c.in_ok-one_more-in-Unknown.field-0
     (guess_from c.args.sought.now.message.oneway c.args.self.now mid guessed mid.fitting c.in_ok-one_more-in-Unknown.field-0 false (ap messages_of same) refl found))
     c.guess-in-Unknown.ensures.rates
+
+pub returns-in-Sure-clause-marks : goal.returns-in-Sure-clause-marks
+returns-in-Sure-clause-marks c =
+    on_ok_always c.take.result
+    (inl (ap (λ (m : Numbered Mark). m.all.items) c.take.ensures.marks
+    ∙ ap (λ (p : Pairing). p.marks.all.items) c.in_ok-note_crowded.ensures.same))
+
+pub returns-in-OneHandle-clause-marks : goal.returns-in-OneHandle-clause-marks
+returns-in-OneHandle-clause-marks c =
+    let sought = c.args.sought.now in
+    let mid = c.note_crowded.new.self in
+    let new = c.take_one.new.self.marks.all.items in
+    on_ok_weaker c.take_one.result
+    (λ marks. inr (
+      mid.fitting,
+      subst (λ (l : List Mark). MarksFits sought.message.oneway mid.fitting sought.index l new)
+          (ap (λ (p : Pairing). p.marks.all.items) c.in_ok-note_crowded.ensures.same) marks,
+    ))
+    c.take_one.ensures.marks
+
+pub returns-in_ok-guess-in-Several-clause-marks : goal.returns-in_ok-guess-in-Several-clause-marks
+returns-in_ok-guess-in-Several-clause-marks c =
+    let sought = c.args.sought.now in
+    let mid = c.note_crowded.new.self in
+    let old = c.args.self.now.marks.all.items in
+    on_ok_always c.doubt_all.result
+    (subst (λ (l : List Mark). MarksSome sought.message.oneway sought.index old l) (sym (ap (λ (p : Pairing). p.marks.all.items) c.doubt_all.ensures.same))
+    (inr (
+      mid.fitting,
+      subst (λ (l : List Mark). MarksFits sought.message.oneway mid.fitting sought.index l c.guess.new.self.marks.all.items)
+          (ap (λ (p : Pairing). p.marks.all.items) c.in_ok-note_crowded.ensures.same) c.in_ok-guess-in-Several.ensures.marks,
+    )))
+
+pub returns-in_ok-one_more-in-Unknown-clause-marks : goal.returns-in_ok-one_more-in-Unknown-clause-marks
+returns-in_ok-one_more-in-Unknown-clause-marks c =
+    let sought = c.args.sought.now in
+    let mid = c.note_crowded.new.self in
+    let new = c.guess-in-Unknown.new.self.marks.all.items in
+    on_ok_weaker c.guess-in-Unknown.result
+    (λ marks. inr (
+      mid.fitting,
+      subst (λ (l : List Mark). MarksFits sought.message.oneway mid.fitting sought.index l new)
+          (ap (λ (p : Pairing). p.marks.all.items) c.in_ok-note_crowded.ensures.same) marks,
+    ))
+    c.guess-in-Unknown.ensures.marks

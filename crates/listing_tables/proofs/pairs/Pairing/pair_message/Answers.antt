@@ -1,6 +1,8 @@
-use Rattle.std.proofs.Common.{inr, ap, ◌≡◌, ◌∙◌, sym, subst, rules}
+use Rattle.std.proofs.Common.{ℕ, List, inr, ap, ◌≡◌, ◌∙◌, sym, subst, rules}
 use Rattle.std.proofs.lemmas.Result.{on_ok_weaker}
-use Rattle.listing_tables.specs.Pairing.{ClosesCall}
+use Rattle.listing_tables.specs.Pairing.{ClosesCall, MarksSome}
+use Rattle.listing_tables.specs.declared.marks.Mark.{Mark}
+use Rattle.listing_tables.specs.declared.messages.Message.{Message}
 use Rattle.listing_tables.specs.declared.pairs.Pairing.{Pairing}
 use Rattle.listing_tables.specs.declared.waiting.Waiting.{Waiting}
 use Rattle.listing_tables.proofs.pairs.Pairing.pair_message.Goals as goal
@@ -25,3 +27,16 @@ returns-in_ok-sought-in-Delivered-clause-turn c =
       pairs = pairs;
     }))
     c.pair_delivery.ensures.pairs
+
+pub returns-in_ok-sought-in-Delivered-clause-marks : goal.returns-in_ok-sought-in-Delivered-clause-marks
+returns-in_ok-sought-in-Delivered-clause-marks c =
+    let sought = c.in_ok-sought-in-Delivered.sought in
+    let is = c.in_ok-sought-in-Delivered.ensures in
+    let new = c.pair_delivery.new.self.marks.all.items in
+    let same = ap (λ (p : Pairing). p.marks.all.items) c.sought.ensures.same ∙ ap (λ (p : Pairing). p.marks.all.items) c.in_ok-close_send.ensures.same in
+    on_ok_weaker c.pair_delivery.result
+    (λ marks.
+    subst (λ (l : List Mark). MarksSome c.args.message.now.oneway c.args.index l new) same
+    (subst (λ (m : Message). MarksSome m.oneway c.args.index c.sought.new.self.marks.all.items new) is.message
+    (subst (λ (n : ℕ). MarksSome sought.message.oneway n c.sought.new.self.marks.all.items new) is.index marks)))
+    c.pair_delivery.ensures.marks

@@ -49,23 +49,29 @@ returns-clause-fewer c = λ other h.
     ]
 
 pub returns-clause-counted : goal.returns-clause-counted
-returns-clause-counted c = λ was.
+returns-clause-counted c =
     let send = c.args.send in
     let key = send.key in
     let new = c.forget.new.self in
     let mid = c.if-remove.self in
-    elim c.if-remove.branch [
-      | then-remove+in_ok-one_fewer+in_ok-insert w ↦
-          let doubt = w.doubt_of-doubt.result in
-          let left : doubt_of mid key ≡ record { sends = w.in_ok-one_fewer.field-0; came = w.saturating_sub.result }
-          = ap (λ (m : Waiting). doubt_of m key) w.self-is ∙ ap (λ (o : Option Doubt). unwrap_or o (record { sends = 0; came = 0 })) w.in_ok-insert.ensures.updates.1 in
-          let counts = counted_as mid new key w.in_ok-one_fewer.field-0 w.saturating_sub.result left c.forget.ensures.counted in
-          let fewer : w.in_ok-one_fewer.field-0 ≡ doubt.sends - 1 = omega (arith, w.in_ok-one_fewer.ensures) in
-          subst (λ (d : Doubt). CountsLeft (d.sends - 1) (d.came - c.args.came) key new) w.doubt_of-doubt.ensures
-          (subst (λ (n : ℕ). CountsLeft (doubt.sends - 1) n key new) w.saturating_sub.ensures
-          (subst (λ (n : ℕ). CountsLeft n w.saturating_sub.result key new) fewer counts))
-      | else-remove w ↦ absurd (not_both _ (sym c.remove.ensures.test ∙ w.if-remove.false) was)
-    ]
+    record {
+      doubted = λ was. elim c.if-remove.branch [
+        | then-remove+in_ok-one_fewer+in_ok-insert w ↦
+            let doubt = w.doubt_of-doubt.result in
+            let left : doubt_of mid key ≡ record { sends = w.in_ok-one_fewer.field-0; came = w.saturating_sub.result }
+            = ap (λ (m : Waiting). doubt_of m key) w.self-is ∙ ap (λ (o : Option Doubt). unwrap_or o (record { sends = 0; came = 0 })) w.in_ok-insert.ensures.updates.1 in
+            let counts = counted_as mid new key w.in_ok-one_fewer.field-0 w.saturating_sub.result left c.forget.ensures.counted in
+            let fewer : w.in_ok-one_fewer.field-0 ≡ doubt.sends - 1 = omega (arith, w.in_ok-one_fewer.ensures) in
+            subst (λ (d : Doubt). CountsLeft (d.sends - 1) (d.came - c.args.came) key new) w.doubt_of-doubt.ensures
+            (subst (λ (n : ℕ). CountsLeft (doubt.sends - 1) n key new) w.saturating_sub.ensures
+            (subst (λ (n : ℕ). CountsLeft n w.saturating_sub.result key new) fewer counts))
+        | else-remove w ↦ absurd (not_both _ (sym c.remove.ensures.test ∙ w.if-remove.false) was)
+      ];
+      other = λ was. elim c.if-remove.branch [
+        | then-remove+in_ok-one_fewer+in_ok-insert w ↦ absurd (not_both _ was (sym c.remove.ensures.test ∙ w.if-remove.true))
+        | else-remove w ↦ subst (λ (m : Waiting). CountsLeft (doubt_of m key).sends (doubt_of m key).came key new) w.self-is c.forget.ensures.counted
+      ];
+    }
   where
     not_both : (b : Bool) → b ≡ false → b ≡ true → ⊥
     not_both b e f = cc
