@@ -1,9 +1,9 @@
 -- How the counts of sends in doubt change.
-use Rattle.std.proofs.Common.{◌≡◌, ℕ, ◌<◌, ◌≤◌, ◌-◌, true, None, refl, subst, arith}
+use Rattle.std.proofs.Common.{◌≡◌, ℕ, ◌<◌, ◌≤◌, ◌-◌, None, refl, subst, arith}
 use Rattle.std.specs.Prelude.{nat_eq}
 use Rattle.indexmap.specs.IndexMap.{get}
 use Rattle.listing_tables.specs.Doubts.{CountsLeaving, CountsLeft}
-use Rattle.listing_tables.specs.Waiting.{doubt_of, entry_of, in_doubt}
+use Rattle.listing_tables.specs.Waiting.{doubt_of}
 use Rattle.listing_tables.specs.declared.waiting.Doubt.{Doubt}
 use Rattle.listing_tables.specs.declared.waiting.Listed.{Listed}
 use Rattle.listing_tables.specs.declared.waiting.Waiting.{Waiting}

@@ -2,7 +2,6 @@ use Rattle.std.proofs.Common.{List, ◌≡◌, true, sym, ap, subst, ◌∙◌}
 use Rattle.listing_tables.specs.Changes.{Rates, RatesPair}
 use Rattle.listing_tables.specs.Pairing.{messages_of}
 use Rattle.listing_tables.specs.declared.messages.Message.{Message}
-use Rattle.listing_tables.specs.declared.pairs.Pairing.{Pairing}
 use Rattle.listing_tables.proofs.PairLaws.{on_ok_always}
 use Rattle.listing_tables.proofs.pairs.Pairing.keep_pair.Goals as goal
 
