@@ -93,10 +93,10 @@ guess_from oneway old mid new fitting count sure messages fits h =
     (subst (λ (l : List Message). GuessesFit oneway l new mid.fitting count sure) messages h)
 
 module _ (pairing : Pairing) (sought : Sought) (new : List Message) where
-  pub pairs_guess : (oneway : Bool) (fitting : Fitting) (count : ℕ) → GuessesFit oneway (messages_of pairing) new fitting count false
-      → PairsDelivery pairing sought new
-  pairs_guess oneway fitting count h = ⊎_elim (λ same. inl same.0)
-      (λ found. inr (inl (record { index = found.0.listed.index; count = count; rates = found.2 }))) h
+  pub pairs_guess : (fitting : Fitting) (count : ℕ)
+      → GuessesFit sought.message.oneway (messages_of pairing) new fitting count false → PairsDelivery pairing sought new
+  pairs_guess fitting count h = ⊎_elim (λ same. inl same.0)
+      (λ found. inr (inl (record { fitting = fitting; fit = found.0; is = found.1; count = count; rates = found.2 }))) h
 
   pub pairs_one : (oneway : Bool) (evidence : Evidence) (fitting : Fitting) (count : ℕ) → IsEvidenceOf pairing evidence
       → LeavesOneHandle evidence sought fitting → GuessesFit oneway (messages_of pairing) new fitting count true

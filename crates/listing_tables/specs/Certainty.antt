@@ -108,12 +108,12 @@ AreAlike messages one other =
     × (slice_get messages.list.all.items other.message ≡ Some b) × (a.key ≡ b.key)
 
 -- A made call and a served call are not the two ends of one call: the made one is answered and the other one is not
--- replied, or it is closed before the reply, or the answer is another one than the reply.
+-- replied, or it is closed before the reply, or its answer is another one than the reply.
 abbrev pub LieBadly : Messages → Call → Call → Type 0
 LieBadly messages call served =
     ((call.verdict ≡ Answered) × ((reply : Closer) → IsRepliedBy served reply → ⊥))
     ⊎ ((reply closer : Closer) × IsRepliedBy served reply × (call.closer ≡ Some closer)
-    × ((closer.place ≤ reply.place) ⊎ (AreAlike messages reply closer → ⊥)))
+    × ((closer.place ≤ reply.place) ⊎ ((call.verdict ≡ Answered) × (AreAlike messages reply closer → ⊥))))
 
 -- so they lie, and no frame is missing in either: a call may have another closer in a missing frame
 pub record LieApart (evidence : Evidence) (call : Call) (message : Message) (served : Call) (delivery : Message) : Type 0 where

@@ -11,7 +11,7 @@ use Rattle.listing_tables.specs.declared.marks.Marked.TheVariants.{By, Unmarked}
 use Rattle.listing_tables.specs.declared.certainty.Sought.{Sought}
 use Rattle.listing_tables.specs.declared.fitting.Fit.{Fit}
 use Rattle.listing_tables.specs.declared.fitting.Fitting.{Fitting}
-use Rattle.listing_tables.specs.declared.messages.Detail.TheVariants.{Sent as IsSent}
+use Rattle.listing_tables.specs.declared.messages.Detail.TheVariants.{Delivered, Sent as IsSent}
 use Rattle.listing_tables.specs.declared.messages.Message.{Message}
 use Rattle.listing_tables.specs.declared.messages.Sent.{Sent}
 use Rattle.listing_tables.specs.declared.pairs.Ends.{Ends}
@@ -115,15 +115,17 @@ pub record TakesOneOf (pairing : Pairing) (sought : Sought) (new : List Message)
   pub rates : Rates (messages_of pairing) new fit.listed.index count true
 
 -- a send is guessed: it is not certain
-pub record Guesses (old new : List Message) : Type 0 where
-  pub index : ℕ
+pub record Guesses (oneway : Bool) (old new : List Message) : Type 0 where
+  pub fitting : Fitting
+  pub fit : Fit
+  pub is : IsGuess oneway fitting.list.items (Some fit)
   pub count : ℕ
-  pub rates : Rates old new index count false
+  pub rates : Rates old new fit.listed.index count false
 
 -- what may become of the messages where the send of a delivery is looked for
 abbrev pub PairsDelivery : Pairing → Sought → List Message → Type 0
 PairsDelivery pairing sought new =
-    (new ≡ messages_of pairing) ⊎ Guesses (messages_of pairing) new ⊎ TakesOneOf pairing sought new
+    (new ≡ messages_of pairing) ⊎ Guesses sought.message.oneway (messages_of pairing) new ⊎ TakesOneOf pairing sought new
     ⊎ TakesOnly pairing sought new
 
 -- of the fits of a delivery, which may be oneway, that one is rated so which is guessed; without one no message changes
@@ -200,6 +202,11 @@ pub record MarksFits (oneway : Bool) (fitting : Fitting) (delivery : ℕ) (old n
 -- what is marked where the send of a delivery is looked for, which may be oneway
 abbrev pub MarksSome : Bool → ℕ → List Mark → List Mark → Type 0
 MarksSome oneway delivery old new = (new ≡ old) ⊎ ((fitting : Fitting) × MarksFits oneway fitting delivery old new)
+
+-- so it is at the turn of a delivery; at that of any other message nothing is marked
+abbrev pub MarksTurn : Message → ℕ → List Mark → List Mark → Type 0
+MarksTurn message index old new =
+    (new ≡ old) ⊎ ((buffer : ℕ) × (message.detail ≡ Delivered buffer) × MarksSome message.oneway index old new)
 
 -- a send and the delivery that took it by guess are a pair, if neither is one of another pair
 pub record KeepsGuess (pairing : Pairing) (index : ℕ) (new : List Message) : Type 0 where

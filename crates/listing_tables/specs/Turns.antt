@@ -8,7 +8,7 @@ use Rattle.listing_tables.specs.declared.numbered.Numbered.{Numbered}
 use Rattle.listing_tables.specs.declared.pairs.Pairing.{Pairing}
 use Rattle.listing_tables.specs.declared.traffic.Traffic.{Traffic}
 use Rattle.listing_tables.specs.Meanings.{BeginsEach, MakesAllKnown}
-use Rattle.listing_tables.specs.Pairing.{BeginsWalk, Claims, ClosesCall, KeepsGuess, MarksClaimed, MarksSome, PairsDelivery, PairsReply, messages_of}
+use Rattle.listing_tables.specs.Pairing.{BeginsWalk, Claims, ClosesCall, KeepsGuess, MarksClaimed, MarksTurn, PairsDelivery, PairsReply, messages_of}
 
 -- A delivery has no partner yet. Its send is looked for, by what is known and noted so far. Before that the send of the
 -- call that the delivery closes may be taken out.
@@ -34,7 +34,7 @@ pub record HasTurn (calls : Bool) (old : Pairing) (index : ℕ) (new : Pairing) 
   pub there : slice_get (messages_of old) index ≡ Some message
   pub passed : calls ≡ true → message.oneway ≡ true → new ≡ old
   pub turn : TakesTurn old index message (messages_of new)
-  pub marks : MarksSome message.oneway index old.marks.all.items new.marks.all.items
+  pub marks : MarksTurn message index old.marks.all.items new.marks.all.items
   pub facts : new.facts ≡ old.facts
 
 -- a delivery is marked by the call at an index, if that must have come by it
@@ -91,14 +91,15 @@ pub record Walks (calls : Bool) (old new : Pairing) : Type 0 where
 abbrev pub WalksAt : Pairing → ℕ → Pairing → Type 0
 WalksAt old walk new = Walks (walk == 0) old new
 
--- so many walks are made, at most five
+-- so many walks are made, at least one and at most five
 abbrev pub WalksOn : Pairing → Pairing → Type 0
-WalksOn old new = (walks : ℕ) × (walks ≤ 5) × MakesEach WalksAt old new walks
+WalksOn old new = (walks : ℕ) × (1 ≤ walks) × (walks ≤ 5) × MakesEach WalksAt old new walks
 
 -- Messages are paired by some walks. After that what the last one guessed is kept, and replies are paired.
 pub record PairsAll (old new : Pairing) : Type 0 where
   pub begun : Pairing
   pub same : begun ≡ record old { meanings = begun.meanings }
+  pub alike : begun.meanings.same ≡ old.meanings.same
   pub begins : BeginsEach old.facts.seen.now old.meanings.list.all.items begun.meanings.list.all.items
       old.facts.generations.now.list.all.items
   pub walked : Pairing
@@ -107,7 +108,8 @@ pub record PairsAll (old new : Pairing) : Type 0 where
   pub keeps : MakesEach KeepsIfGuessed walked kept (count_of walked)
   pub replies : MakesEach PairsIfReplied kept new (count_of kept)
 
--- Pairing begins with all that has come of the records, and with the calls. Nothing is known yet of what generations mean.
+-- Pairing begins with all that has come of the records, and with the calls. Nothing is known yet of what generations mean,
+-- and nothing is marked.
 pub record BeginsWith (traffic : Traffic) (calls : Numbered Call) (begun : Pairing) : Type 0 where
   pub messages : begun.messages ≡ traffic.messages
   pub handed : begun.handed ≡ traffic.handles.handed
@@ -117,6 +119,7 @@ pub record BeginsWith (traffic : Traffic) (calls : Numbered Call) (begun : Pairi
   pub made : begun.facts.calls.now ≡ calls
   pub meanings : begun.meanings.list.all.items ≡ []
   pub same : begun.meanings.same.all.items ≡ []
+  pub marks : begun.marks.all.items ≡ []
 
 -- The messages of a traffic are paired. Of all else only the objects that are handed over may change.
 pub record PairsTraffic (old : Traffic) (calls : Numbered Call) (new : Traffic) : Type 0 where

@@ -63,8 +63,9 @@ impl Meanings {
 
     /// Nothing is known yet of these generations.
     pub(crate) fn begin(&mut self, generations: &Generations, seen: &Seen) -> Outcome
-        ensures { OnOk result (BeginsEach seen.now self.old.list.all.items
+        ensures begins { OnOk result (BeginsEach seen.now self.old.list.all.items
             self.new.list.all.items generations.now.list.all.items) }
+        ensures same { self.new.same ≡ self.old.same }
     {
         for generation in &generations.list.all {
             self.list.push(Meaning {

@@ -106,7 +106,7 @@ impl Pairing<'_> {
     ghost use Rattle.listing_tables.specs.Changes.{RatesPair};
     ghost use Rattle.listing_tables.specs.Pairing.{AddsSend, BeginsWalk, Claims, ClosesCall};
     ghost use Rattle.listing_tables.specs.Pairing.{GuessesFit, HasEnds, HasNoGap, KeepsGuess};
-    ghost use Rattle.listing_tables.specs.Pairing.{MarksClaimed, MarksFits, MarksSome, MustHaveCome};
+    ghost use Rattle.listing_tables.specs.Pairing.{MarksClaimed, MarksFits, MarksSome, MarksTurn, MustHaveCome};
     ghost use Rattle.listing_tables.specs.Pairing.{PairsDelivery, PairsReply, messages_of};
     ghost use Rattle.listing_tables.specs.Turns.{ClaimsAll, HasTurn, KeepsIfGuessed, MakesEach};
     ghost use Rattle.listing_tables.specs.Turns.{PairsAll, PairsIfReplied, TakesTurn, Walks, WalksOn};
@@ -183,7 +183,7 @@ impl Pairing<'_> {
 
     fn pair_message(&mut self, index: u32, message: &Message) -> Outcome
         ensures turn { OnOk result (TakesTurn self.old index message.now (messages_of self.new)) }
-        ensures marks { OnOk result (MarksSome message.now.oneway index self.old.marks.all.items
+        ensures marks { OnOk result (MarksTurn message.now index self.old.marks.all.items
             self.new.marks.all.items) }
         ensures facts { self.new.facts ≡ self.old.facts }
     {

@@ -15,6 +15,7 @@ returns c = record {
     made = refl;
     meanings = c.new-3.ensures.list;
     same = c.new-3.ensures.same;
+    marks = c.new-6.ensures;
   };
   messages = refl;
   others = refl;

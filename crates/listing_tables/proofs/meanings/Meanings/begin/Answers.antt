@@ -14,7 +14,10 @@ loop-generation-preserved c =
     let old = c.args.self.now.list.all.items in
     let before = c.loop-generation.self.list.all.items in
     let new = c.push.new.self.all.items in
-    subst (λ (l : List Generation). BeginsEach seen old new (take (i + 1) l)) value
-    (begins_next seen old before new generations i _ c.in_ok-gaps_before.field-0
-    (subst (λ (l : List Generation). BeginsEach seen old before (take i l)) (sym value) c.loop-generation.invariant)
-    (take_more generations i _ c.loop-generation-test.true) c.in_ok-gaps_before.ensures c.in_ok-push.ensures.last)
+    record {
+      begins = subst (λ (l : List Generation). BeginsEach seen old new (take (i + 1) l)) value
+          (begins_next seen old before new generations i _ c.in_ok-gaps_before.field-0
+          (subst (λ (l : List Generation). BeginsEach seen old before (take i l)) (sym value) c.loop-generation.invariant.begins)
+          (take_more generations i _ c.loop-generation-test.true) c.in_ok-gaps_before.ensures c.in_ok-push.ensures.last);
+      same = c.loop-generation.invariant.same;
+    }

@@ -8,7 +8,8 @@ returns c =
     (λ replies. record {
       begun = record c.args.self.now { meanings = c.begin.new.self };
       same = refl;
-      begins = c.in_ok-begin.ensures;
+      alike = c.begin.ensures.same;
+      begins = c.in_ok-begin.ensures.begins;
       walked = c.walk_on.new.self;
       walks = c.in_ok-walk_on.ensures;
       kept = c.keep_guesses.new.self;

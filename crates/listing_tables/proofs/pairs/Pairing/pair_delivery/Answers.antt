@@ -42,7 +42,7 @@ returns-in_ok-guess-in-Several-clause-pairs c =
     let guessed = messages_of c.guess.new.self in
     on_ok_always c.doubt_all.result
     (subst (λ (l : List Message). PairsDelivery c.args.self.now c.args.sought.now l) (sym (ap messages_of c.doubt_all.ensures.same))
-    (pairs_guess c.args.self.now c.args.sought.now guessed c.args.sought.now.message.oneway mid.fitting c.in_ok-fits.fits
+    (pairs_guess c.args.self.now c.args.sought.now guessed mid.fitting c.in_ok-fits.fits
     (guess_from c.args.sought.now.message.oneway c.args.self.now mid guessed mid.fitting c.in_ok-fits.fits false (ap messages_of same) refl c.in_ok-guess-in-Several.ensures.rates)))
 
 pub returns-in_ok-one_more-in-Unknown-clause-pairs : goal.returns-in_ok-one_more-in-Unknown-clause-pairs
@@ -51,7 +51,7 @@ returns-in_ok-one_more-in-Unknown-clause-pairs c =
     let same = c.in_ok-note_crowded.ensures.same in
     let guessed = messages_of c.guess-in-Unknown.new.self in
     on_ok_weaker c.guess-in-Unknown.result
-    (λ found. pairs_guess c.args.self.now c.args.sought.now guessed c.args.sought.now.message.oneway mid.fitting c.in_ok-one_more-in-Unknown.field-0
+    (λ found. pairs_guess c.args.self.now c.args.sought.now guessed mid.fitting c.in_ok-one_more-in-Unknown.field-0
     (guess_from c.args.sought.now.message.oneway c.args.self.now mid guessed mid.fitting c.in_ok-one_more-in-Unknown.field-0 false (ap messages_of same) refl found))
     c.guess-in-Unknown.ensures.rates
 

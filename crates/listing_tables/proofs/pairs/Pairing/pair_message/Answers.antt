@@ -35,8 +35,11 @@ returns-in_ok-sought-in-Delivered-clause-marks c =
     let new = c.pair_delivery.new.self.marks.all.items in
     let same = ap (λ (p : Pairing). p.marks.all.items) c.sought.ensures.same ∙ ap (λ (p : Pairing). p.marks.all.items) c.in_ok-close_send.ensures.same in
     on_ok_weaker c.pair_delivery.result
-    (λ marks.
-    subst (λ (l : List Mark). MarksSome c.args.message.now.oneway c.args.index l new) same
-    (subst (λ (m : Message). MarksSome m.oneway c.args.index c.sought.new.self.marks.all.items new) is.message
-    (subst (λ (n : ℕ). MarksSome sought.message.oneway n c.sought.new.self.marks.all.items new) is.index marks)))
+    (λ marks. inr (
+      c.in-Delivered.buffer,
+      c.in-Delivered.is,
+      subst (λ (l : List Mark). MarksSome c.args.message.now.oneway c.args.index l new) same
+          (subst (λ (m : Message). MarksSome m.oneway c.args.index c.sought.new.self.marks.all.items new) is.message
+          (subst (λ (n : ℕ). MarksSome sought.message.oneway n c.sought.new.self.marks.all.items new) is.index marks)),
+    ))
     c.pair_delivery.ensures.marks
