@@ -185,7 +185,7 @@ impl Pairing<'_> {
         ensures turn { OnOk result (TakesTurn self.old index message.now (messages_of self.new)) }
         ensures marks { OnOk result (MarksTurn message.now index self.old.marks.all.items
             self.new.marks.all.items) }
-        ensures facts { self.new.facts ≡ self.old.facts }
+        ensures facts { OnOk result (self.new.facts ≡ self.old.facts) }
     {
         self.close_send(message)?;
         if is_reply(message.kind) || message.partner.is_some() {
@@ -204,7 +204,7 @@ impl Pairing<'_> {
     /// Adds a send to those that wait, unless it is refused. If it is after a gap, the error may be
     /// that of another send.
     fn add_send(&mut self, index: u32, send: &Message, sent: &Sent) -> Outcome
-        ensures same { self.new ≡ record self.old { waiting = self.new.waiting } }
+        ensures same { OnOk result (self.new ≡ record self.old { waiting = self.new.waiting }) }
         ensures added { OnOk result (AddsSend self.old index send.now sent.now self.new) }
         ensures kept { OnOk result (AllWait self.old.waiting self.new.waiting) }
     {
@@ -217,7 +217,7 @@ impl Pairing<'_> {
 
     /// Takes out the send whose call a message closes, if its delivery is not sure.
     fn close_send(&mut self, message: &Message) -> Outcome
-        ensures same { self.new ≡ record self.old { waiting = self.new.waiting } }
+        ensures same { OnOk result (self.new ≡ record self.old { waiting = self.new.waiting }) }
         ensures closed { OnOk result (ClosesCall self.old message.now self.new.waiting) }
     {
         let found = self.facts.calls.find(message.call)?;
@@ -259,7 +259,7 @@ impl Pairing<'_> {
         ensures pairs { OnOk result (PairsDelivery self.old sought.now (messages_of self.new)) }
         ensures marks { OnOk result (MarksSome sought.now.message.oneway sought.now.index
             self.old.marks.all.items self.new.marks.all.items) }
-        ensures facts { self.new.facts ≡ self.old.facts }
+        ensures facts { OnOk result (self.new.facts ≡ self.old.facts) }
     {
         let evidence = Evidence {
             messages: &self.messages,
@@ -302,8 +302,8 @@ impl Pairing<'_> {
         ensures pair { OnOk result (RatesPair (messages_of self.old) (messages_of self.new)
             fit.now.listed.index sought.now.index 1 true) }
         ensures gone { OnOk result (waits self.new.waiting (entry_of fit.now.listed) ≡ false) }
-        ensures marks { self.new.marks ≡ self.old.marks }
-        ensures facts { self.new.facts ≡ self.old.facts }
+        ensures marks { OnOk result (self.new.marks ≡ self.old.marks) }
+        ensures facts { OnOk result (self.new.facts ≡ self.old.facts) }
     {
         self.news |= !fit.fresh;
         self.waiting.take(fit.listed)?;
@@ -316,7 +316,7 @@ impl Pairing<'_> {
             (messages_of self.old) (messages_of self.new) self.old.fitting count true) }
         ensures marks { OnOk result (MarksFits sought.now.message.oneway self.old.fitting
             sought.now.index self.old.marks.all.items self.new.marks.all.items) }
-        ensures facts { self.new.facts ≡ self.old.facts }
+        ensures facts { OnOk result (self.new.facts ≡ self.old.facts) }
     {
         let Some(fit) = self.fitting.first() else {
             return Err(ListingError::TooLarge);
@@ -334,7 +334,7 @@ impl Pairing<'_> {
             (messages_of self.new) self.old.fitting fits certain) }
         ensures marks { OnOk result (MarksFits sought.now.message.oneway self.old.fitting
             sought.now.index self.old.marks.all.items self.new.marks.all.items) }
-        ensures facts { self.new.facts ≡ self.old.facts }
+        ensures facts { OnOk result (self.new.facts ≡ self.old.facts) }
     {
         self.mark_all(sought.index)?;
         let Some(fit) = self.fitting.best(sought.message.oneway) else {
@@ -377,10 +377,10 @@ impl Pairing<'_> {
     fn keep_pair(&mut self, index: u32, sought: &Sought) -> Outcome
         ensures pair { OnOk result (RatesPair (messages_of self.old) (messages_of self.new) index
             sought.now.index 1 true) }
-        ensures same { self.new ≡ record self.old {
+        ensures same { OnOk result (self.new ≡ record self.old {
           messages = self.new.messages;
           meanings = self.new.meanings;
-        } }
+        }) }
     {
         let sent = self.messages.sent(index)?;
         let gaps = self.messages.list.at(index)?.gaps;
@@ -439,7 +439,7 @@ impl Pairing<'_> {
 
     /// Marks the delivery by which a call must have come.
     fn mark_claimed(&mut self, index: u32) -> Outcome
-        ensures same { self.new ≡ record self.old { marks = self.new.marks } }
+        ensures same { OnOk result (self.new ≡ record self.old { marks = self.new.marks }) }
         ensures marks { OnOk result ((self.new.marks ≡ self.old.marks)
             ⊎ MarksClaimed self.old index self.new.marks.all.items) }
     {
@@ -475,12 +475,12 @@ impl Pairing<'_> {
     fn claim(&mut self, index: u32) -> Outcome
         ensures claims { OnOk result ((messages_of self.new ≡ messages_of self.old)
             ⊎ Claims self.old index (messages_of self.new)) }
-        ensures same { self.new ≡ record self.old {
+        ensures same { OnOk result (self.new ≡ record self.old {
           messages = self.new.messages;
           handed = self.new.handed;
           meanings = self.new.meanings;
           news = self.new.news;
-        } }
+        }) }
     {
         let delivery = self.messages.list.at(index)?;
         let mark = self.marks.at(index)?;
@@ -512,7 +512,7 @@ impl Pairing<'_> {
     fn keep_guess(&mut self, index: u32) -> Outcome
         ensures keeps { OnOk result ((messages_of self.new ≡ messages_of self.old)
             ⊎ KeepsGuess self.old index (messages_of self.new)) }
-        ensures same { self.new ≡ record self.old { messages = self.new.messages } }
+        ensures same { OnOk result (self.new ≡ record self.old { messages = self.new.messages }) }
     {
         let mark = self.marks.at(index)?;
         let Some(delivery) = mark.guess else {
@@ -540,7 +540,7 @@ impl Pairing<'_> {
     fn pair_reply(&mut self, index: u32) -> Outcome
         ensures pairs { OnOk result ((messages_of self.new ≡ messages_of self.old)
             ⊎ PairsReply self.old index (messages_of self.new)) }
-        ensures same { self.new ≡ record self.old { messages = self.new.messages } }
+        ensures same { OnOk result (self.new ≡ record self.old { messages = self.new.messages }) }
     {
         let found = self.ends_of(index)?;
         let Some(ends) = found else {

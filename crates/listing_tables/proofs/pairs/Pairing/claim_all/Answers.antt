@@ -6,12 +6,12 @@ use Rattle.listing_tables.proofs.pairs.Pairing.claim_all.Goals as goal
 pub loop-index-preserved : goal.loop-index-preserved
 loop-index-preserved c =
     each_more MarksIfClaimed c.args.self.now c.loop-index.self c.mark_claimed.new.self c.loop-index.index c.loop-index.invariant
-    (c.mark_claimed.ensures.same, c.in_ok-mark_claimed.ensures.marks)
+    (c.in_ok-mark_claimed.ensures.same, c.in_ok-mark_claimed.ensures.marks)
 
 pub loop-delivery-preserved : goal.loop-delivery-preserved
 loop-delivery-preserved c =
     each_more ClaimsIfMarked c.loop-index.self c.loop-delivery.self c.claim.new.self c.loop-delivery.delivery c.loop-delivery.invariant
-    (c.claim.ensures.same, c.in_ok-claim.ensures.claims)
+    (c.in_ok-claim.ensures.same, c.in_ok-claim.ensures.claims)
 
 pub returns : goal.returns
 returns c =

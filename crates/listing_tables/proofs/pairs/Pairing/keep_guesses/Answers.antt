@@ -6,7 +6,7 @@ use Rattle.listing_tables.proofs.pairs.Pairing.keep_guesses.Goals as goal
 pub loop-index-preserved : goal.loop-index-preserved
 loop-index-preserved c =
     each_more KeepsIfGuessed c.args.self.now c.loop-index.self c.keep_guess.new.self c.loop-index.index c.loop-index.invariant
-    (c.keep_guess.ensures.same, c.in_ok-keep_guess.ensures.keeps)
+    (c.in_ok-keep_guess.ensures.same, c.in_ok-keep_guess.ensures.keeps)
 
 pub returns : goal.returns
 returns c =

@@ -57,9 +57,10 @@ returns-in_ok-one_more-in-Unknown-clause-pairs c =
 
 pub returns-in-Sure-clause-marks : goal.returns-in-Sure-clause-marks
 returns-in-Sure-clause-marks c =
-    on_ok_always c.take.result
-    (inl (ap (λ (m : Numbered Mark). m.all.items) c.take.ensures.marks
+    on_ok_weaker c.take.result
+    (λ marks. inl (ap (λ (m : Numbered Mark). m.all.items) marks
     ∙ ap (λ (p : Pairing). p.marks.all.items) c.in_ok-note_crowded.ensures.same))
+    c.take.ensures.marks
 
 pub returns-in-OneHandle-clause-marks : goal.returns-in-OneHandle-clause-marks
 returns-in-OneHandle-clause-marks c =

@@ -6,7 +6,7 @@ use Rattle.listing_tables.proofs.pairs.Pairing.pair_replies.Goals as goal
 pub loop-index-preserved : goal.loop-index-preserved
 loop-index-preserved c =
     each_more PairsIfReplied c.args.self.now c.loop-index.self c.pair_reply.new.self c.loop-index.index c.loop-index.invariant
-    (c.pair_reply.ensures.same, c.in_ok-pair_reply.ensures.pairs)
+    (c.in_ok-pair_reply.ensures.same, c.in_ok-pair_reply.ensures.pairs)
 
 pub returns : goal.returns
 returns c =
