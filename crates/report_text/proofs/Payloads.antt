@@ -1,5 +1,6 @@
 -- How long the payloads are that rows read.
 use Rattle.std.proofs.Common.{◌≡◌, ◌⊎◌, ⊎_elim, inl, inr, ℕ, ◌≤◌, true, arith, refl, subst}
+use Rattle.std.proofs.lemmas.Bool.{false≢true}
 use Rattle.std.specs.Prelude.{IsTrue}
 use Rattle.std.specs.Option.{ForSome}
 use Rattle.binder_code.specs.Commands.{command_lines, return_lines, row_of}
@@ -19,7 +20,7 @@ sized_as kind known n is sized = subst (λ (k : Kind). IsSized k n) is sized
 
 free_only : (kind : Kind) → IsTrue (is_free kind) → kind ≡ BcFreeBuffer
 free_only BcFreeBuffer is = refl
-free_only _ is = cc
+free_only _ is = absurd (false≢true is)
 
 pub free_sized : (kind : Kind) (n : ℕ) → IsTrue (is_free kind) → IsSized kind n → 8 ≤ n
 unfolding command_lines return_lines
@@ -27,7 +28,7 @@ free_sized kind n is sized = let e = sized_as kind BcFreeBuffer n (free_only kin
 
 request_only : (kind : Kind) → IsTrue (is_request kind) → kind ≡ BcRequestDeathNotification
 request_only BcRequestDeathNotification is = refl
-request_only _ is = cc
+request_only _ is = absurd (false≢true is)
 
 pub request_sized : (kind : Kind) (n : ℕ) → IsTrue (is_request kind) → IsSized kind n → 12 ≤ n
 unfolding command_lines return_lines
@@ -37,7 +38,7 @@ request_sized kind n is sized =
 death_only : (kind : Kind) → IsTrue (is_of_death kind) → (kind ≡ BrDeadBinder) ⊎ (kind ≡ BcDeadBinderDone)
 death_only BrDeadBinder is = inl refl
 death_only BcDeadBinderDone is = inr refl
-death_only _ is = cc
+death_only _ is = absurd (false≢true is)
 
 pub death_sized : (kind : Kind) (n : ℕ) → IsTrue (is_of_death kind) → IsSized kind n → 8 ≤ n
 unfolding command_lines return_lines
@@ -47,7 +48,7 @@ death_sized kind n is sized =
 
 clear_only : (kind : Kind) → sameb the_type kind BcClearDeathNotification ≡ true → kind ≡ BcClearDeathNotification
 clear_only BcClearDeathNotification is = refl
-clear_only _ is = cc
+clear_only _ is = absurd (false≢true is)
 
 -- a clear has a handle too
 pub clear_long : (kind : Kind) (n : ℕ) → sameb the_type kind BcClearDeathNotification ≡ true → IsSized kind n → 12 ≤ n
@@ -59,7 +60,7 @@ of_clear_only : (kind : Kind) → IsTrue (is_of_clear kind)
     → (kind ≡ BcClearDeathNotification) ⊎ (kind ≡ BrClearDeathNotificationDone)
 of_clear_only BcClearDeathNotification is = inl refl
 of_clear_only BrClearDeathNotificationDone is = inr refl
-of_clear_only _ is = cc
+of_clear_only _ is = absurd (false≢true is)
 
 pub clear_sized : (kind : Kind) (n : ℕ) → IsTrue (is_of_clear kind) → IsSized kind n → 8 ≤ n
 unfolding command_lines return_lines
