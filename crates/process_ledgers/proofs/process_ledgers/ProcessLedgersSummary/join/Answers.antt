@@ -1,4 +1,5 @@
 use Rattle.std.proofs.Common.{◌++◌}
+use Rattle.std.proofs.lemmas.Result.{IfOk-at_ok}
 use Rattle.pending_ledger.specs.Pending.{place_of}
 use Rattle.pending_ledger.specs.Requests.{request_place}
 use Rattle.process_ledgers.specs.Items.{buffer_pending_of, clear_item_of, death_item_of, handle_item_of, node_item_of, oneway_item_of, request_item_of}
@@ -38,13 +39,13 @@ pub returns : goal.returns
 returns c first second sums others fits =
     let all = first ++ second in
     let ok = c.in-Ok-Ok-Ok-Ok-Ok-Ok-Ok in
-    let handles = rw ok.is-0 at c.join-handles.ensures in
-    let nodes = rw ok.is-1 at c.join-nodes.ensures in
-    let buffers = rw ok.is-2 at c.join-buffers.ensures in
-    let requests = rw ok.is-3 at c.join-requests.ensures in
-    let deaths = rw ok.is-4 at c.join-deaths.ensures in
-    let clears = rw ok.is-5 at c.join-clears.ensures in
-    let oneway = rw ok.is-6 at c.join-oneway.ensures in
+    let handles = IfOk-at_ok _ ok.is-0 c.join-handles.ensures in
+    let nodes = IfOk-at_ok _ ok.is-1 c.join-nodes.ensures in
+    let buffers = IfOk-at_ok _ ok.is-2 c.join-buffers.ensures in
+    let requests = IfOk-at_ok _ ok.is-3 c.join-requests.ensures in
+    let deaths = IfOk-at_ok _ ok.is-4 c.join-deaths.ensures in
+    let clears = IfOk-at_ok _ ok.is-5 c.join-clears.ensures in
+    let oneway = IfOk-at_ok _ ok.is-6 c.join-oneway.ensures in
     record {
       handles = handles first second sums.handles others.handles (few_by handle_item_of all fits);
       nodes = nodes first second sums.nodes others.nodes (few_by node_item_of all fits);
