@@ -9,7 +9,7 @@ use binder_code::Kind;
 use capture_frame::u64_at;
 
 /// What a record does to the buffer at an address of its process.
-#[derive(Clone, Copy, Debug, PartialEq, Eq)]
+#[derive(Clone, Copy)]
 pub enum BufferItem {
     /// The driver delivers a transaction or a reply in it.
     Delivery {

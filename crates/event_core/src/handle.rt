@@ -9,7 +9,7 @@ use binder_code::Kind;
 use capture_frame::u32_at;
 
 /// Whether a count of a handle goes up or down by one.
-#[derive(Clone, Copy, Debug, PartialEq, Eq)]
+#[derive(Clone, Copy)]
 pub enum HandleChange {
     Raise,
     Lower,

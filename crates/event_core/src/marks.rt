@@ -2,7 +2,7 @@
 //! understood, and whether it opens or closes a call.
 
 /// What the next error reply of the thread would answer.
-#[derive(Clone, Copy, Debug, PartialEq, Eq)]
+#[derive(Clone, Copy)]
 pub enum Mark {
     /// A oneway transaction that the thread has sent.
     Oneway,
@@ -13,7 +13,7 @@ pub enum Mark {
 }
 
 /// What an event is among the calls of its thread.
-#[derive(Clone, Copy, Debug, PartialEq, Eq)]
+#[derive(Clone, Copy, PartialEq, Eq)]
 pub enum Bracket {
     /// The thread makes a call: an opener.
     Call,

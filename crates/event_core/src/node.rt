@@ -30,7 +30,7 @@ impl NodeKey {
 
 /// What a record does to the references to a node. The driver asks the node's process to keep them,
 /// and they are all of one strength.
-#[derive(Clone, Copy, Debug, PartialEq, Eq)]
+#[derive(Clone, Copy)]
 pub enum NodeChange {
     /// The driver asks the process to keep one: they are one more, and one more is due.
     Raise,

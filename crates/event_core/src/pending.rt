@@ -1,5 +1,5 @@
 /// What a record does to a key in a list of opens and closes.
-#[derive(Clone, Copy, Debug, PartialEq, Eq)]
+#[derive(Clone, Copy)]
 pub enum PendingChange {
     /// It begins what a later close of the key ends.
     Open,
@@ -8,7 +8,7 @@ pub enum PendingChange {
 }
 
 /// An open or a close of a key, which is beside it.
-#[derive(Clone, Copy, Debug, PartialEq, Eq)]
+#[derive(Clone, Copy)]
 pub struct KeyEvent {
     /// Where the record begins in the capture, in bytes.
     pub place: u64,

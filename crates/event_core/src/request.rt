@@ -9,7 +9,7 @@ use capture_frame::{u32_at, u64_at};
 
 /// A handle and the cookie that its process chose, `struct binder_handle_cookie` of
 /// `linux/android/binder.h`, which is packed.
-#[derive(Clone, Copy, Debug, PartialEq, Eq, PartialOrd, Ord)]
+#[derive(Clone, Copy, PartialEq, Eq, PartialOrd, Ord)]
 pub struct RequestKey {
     pub handle: u32,
     pub cookie: u64,
@@ -29,7 +29,7 @@ impl RequestKey {
 }
 
 /// What a record does to the requests of its process.
-#[derive(Clone, Copy, Debug, PartialEq, Eq)]
+#[derive(Clone, Copy)]
 pub enum RequestChange {
     /// The process makes one.
     Request(RequestKey),

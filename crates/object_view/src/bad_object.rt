@@ -1,6 +1,6 @@
 /// Why no good object begins at an offset, in the order in which causes are looked for. `Short` is
 /// looked for twice, before `UnknownSort` and after it.
-#[derive(Clone, Copy, Debug, PartialEq, Eq)]
+#[derive(Clone, Copy, Debug)]
 pub enum Cause {
     /// The length of the list of offsets is not a multiple of 8.
     ListLength,
@@ -15,7 +15,7 @@ pub enum Cause {
 }
 
 /// The first bad object of an attachment. The objects after it are not read.
-#[derive(Clone, Copy, Debug, PartialEq, Eq)]
+#[derive(Clone, Copy, Debug)]
 pub struct BadObject {
     /// Its number in the list of offsets, from 0; 0 where the list's length is wrong.
     pub index: u64,

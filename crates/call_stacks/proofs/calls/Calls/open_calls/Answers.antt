@@ -1,4 +1,4 @@
-use Rattle.std.proofs.Common.{◌≡◌, ap, map, ◌∙◌}
+use Rattle.std.proofs.Common.{ap, map, ◌∙◌}
 use Rattle.call_stacks.specs.Calls.{open_call}
 use Rattle.call_stacks.proofs.Joins.{left_open}
 use Rattle.call_stacks.proofs.Sums.{holds}
