@@ -1,7 +1,10 @@
 //! The words of the command line, and what they ask for.
 ghost use Rattle.std.specs.Prelude.{◌≡◌, ◌≢◌, ◌≤◌, ◌^◌, ◌↔◌, ℕ, List, OnOk, IfOk, IfSome, IfNone, IsErrOf, codes, false, map, string_bytes};
-ghost use Rattle.clap.specs.Words.{Text, app_of, found_of, kind_of, rows_of, rule_of, subcommand_of, subcommand_rows_of};
-ghost use Rattle.audit_program.specs.CommandLine.{AreTaken, AsksFirstFault, AsksFor, AsksReport, NamesFiles, ReadsNumber, audit_app, files_rule, number_rule};
+ghost use Rattle.clap.specs.Words.{Text, app_of, found_of, kind_of, new_app, rows_of, rule_of, subcommand_of};
+ghost use Rattle.clap.specs.Words.{subcommand_rows_of, with_subcommand};
+ghost use Rattle.clap.specs.declared.builder.command.Command.TheViews.{out-Command as fields_of};
+ghost use Rattle.audit_program.specs.CommandLine.{AreTaken, AsksFirstFault, AsksFor, AsksReport, NamesFiles, ReadsNumber};
+ghost use Rattle.audit_program.specs.CommandLine.{audit_app, files_rule, first_fault_app, number_rule, report_app};
 ghost use Rattle.audit_run.specs.declared.answers.Request.{Request};
 
 use audit_run::{Piece, Question, Request, RunError, Workers};
@@ -68,17 +71,46 @@ fn files<'a>(alloc: Global) -> Arg<'a>
         .num_args(1..)
 }
 
+// The subcommand `report`. The clause of `Command::subcommand` is about one without global options.
+fn report<'a>(alloc: Global) -> Result<Command<'a>, AllocError>
+    ensures app { IfOk result (λ made. app_of made ≡ report_app) }
+    ensures local { IfOk result (λ made. (fields_of made).has_globals ≡ false) }
+{
+    Command::new(alloc, "report")
+        .arg(workers(alloc))?
+        .arg(piece(alloc))?
+        .arg(files(alloc))
+}
+
+// The subcommand `first-fault`.
+fn first_fault<'a>(alloc: Global) -> Result<Command<'a>, AllocError>
+    ensures app { IfOk result (λ made. app_of made ≡ first_fault_app) }
+    ensures local { IfOk result (λ made. (fields_of made).has_globals ≡ false) }
+{
+    Command::new(alloc, "first-fault").arg(files(alloc))
+}
+
+// The command with its first subcommand.
+fn with_report<'a>(alloc: Global) -> Result<Command<'a>, AllocError>
+    ensures { IfOk result (λ made.
+        app_of made ≡ with_subcommand (new_app (codes "binder_audit")) report_app.top) }
+{
+    Command::new(alloc, "binder_audit").subcommand(report(alloc)?)
+}
+
+// The whole command. Where the second subcommand fails, it is dropped by a call, because it is
+// costly to prove that a function drops its fields itself.
 fn command<'a>(alloc: Global) -> Result<Command<'a>, AllocError>
     ensures { IfOk result (λ made. app_of made ≡ audit_app) }
 {
-    let report = Command::new(alloc, "report")
-        .arg(workers(alloc))?
-        .arg(piece(alloc))?
-        .arg(files(alloc))?;
-    let first_fault = Command::new(alloc, "first-fault").arg(files(alloc))?;
-    Command::new(alloc, "binder_audit")
-        .subcommand(report)?
-        .subcommand(first_fault)
+    let command = with_report(alloc)?;
+    match first_fault(alloc) {
+        Ok(first_fault) => command.subcommand(first_fault),
+        Err(error) => {
+            drop(command);
+            Err(error)
+        }
+    }
 }
 
 // The option's value as a number.
