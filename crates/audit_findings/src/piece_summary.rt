@@ -11,6 +11,7 @@ ghost use Rattle.audit_findings.specs.Frames.{AreGoodFrames, good_views_halves};
 ghost use Rattle.audit_findings.specs.Ledgers.{AreFewFrames};
 ghost use Rattle.audit_findings.specs.Summary.{SumsPiece, SumsSome, NamesProcess};
 
+use crate::both::both;
 use crate::event_sums::EventSums;
 use crate::guesses::Guesses;
 use crate::sequences::Sequences;
@@ -106,10 +107,11 @@ impl<'c> Summary for PieceSummary<'c> {
     fn join(self, later: PieceSummary<'c>) -> Result<PieceSummary<'c>, AllocError> {
         let order = self.order.join(later.order);
         let of_events = self.of_events.join(later.of_events);
+        let (order, of_events) = both(order, of_events)?;
         Ok(PieceSummary {
             sequences: self.sequences.then(later.sequences),
-            order: order?,
-            of_events: of_events?,
+            order,
+            of_events,
             guesses: self.guesses,
             alloc: self.alloc,
         })

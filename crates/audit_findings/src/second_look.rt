@@ -65,12 +65,17 @@ impl<'f, 'c> SecondLook<'f, 'c> {
         requires sums { SumsPiece whole frames.now }
         ensures { IfOk result (λ look. look ≡ frames.now) }
     {
-        let unfreed = unfreed_of(&whole)?;
-        Ok(SecondLook {
-            whole,
-            frames,
-            unfreed,
-        })
+        match unfreed_of(&whole) {
+            Ok(unfreed) => Ok(SecondLook {
+                whole,
+                frames,
+                unfreed,
+            }),
+            Err(error) => {
+                drop(whole);
+                Err(error)
+            }
+        }
     }
 
     /// How many processes the frames have.
@@ -93,7 +98,9 @@ impl<'f, 'c> SecondLook<'f, 'c> {
         let mut guess = number;
         let ledgers = processes.ledgers(*process, &mut guess);
         let unfreed = self.unfreed[number].as_slice();
-        listed_handles(alloc, self.frames, *process, ledgers, unfreed)
+        let rows = listed_handles(alloc, self.frames, *process, ledgers, unfreed);
+        drop(none);
+        rows
     }
 
     /// What the findings keep of the frames, from the rows of handles of each process, in order.
@@ -122,15 +129,16 @@ impl<'f, 'c> SecondLook<'f, 'c> {
     }
 }
 
-/// The places of the leaked deliveries of each process whose frames are summed. The ledgers of a
-/// process without events are dropped here and in `sections_of_processes`, where less is left to drop.
+/// The places of the leaked deliveries of each process whose frames are summed.
 fn unfreed_of(whole: &PieceSummary<'_>) -> Result<Vec<Vec<u64>>, AllocError>
     ensures { IfOk result (λ unfreed. (frames : List PlacedFrame) →
         SumsPiece whole.now frames →
         AreUnfreed frames (map (λ list. list.items) unfreed.items)) }
 {
     let none = ProcessLedgers::empty(whole.alloc);
-    lists_of::<Unclosed<BufferPairs>>(whole.alloc, whole.processes(&none))
+    let lists = lists_of::<Unclosed<BufferPairs>>(whole.alloc, whole.processes(&none));
+    drop(none);
+    lists
 }
 
 /// What is kept of the processes whose frames are summed.
@@ -147,5 +155,7 @@ fn sections_of_processes(
         kept ≡ processes_at_places (process_sections frames)) }
 {
     let none = ProcessLedgers::empty(whole.alloc);
-    ProcessSections::of(whole.alloc, whole.processes(&none), unfreed, handles)
+    let sections = ProcessSections::of(whole.alloc, whole.processes(&none), unfreed, handles);
+    drop(none);
+    sections
 }

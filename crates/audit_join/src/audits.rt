@@ -144,8 +144,13 @@ fn sections_of<'c, T: Threads + Sync>(
 {
     let whole = sum_shares(rt, alloc, frames, workers.get())?;
     let look = SecondLook::of(whole, frames)?;
-    let handles = look_again(rt, alloc, &look, workers)?;
-    look.sections(handles.as_slice())
+    match look_again(rt, alloc, &look, workers) {
+        Ok(handles) => look.sections(handles.as_slice()),
+        Err(error) => {
+            drop(look);
+            Err(error)
+        }
+    }
 }
 
 /// The rows of handles of each process, by workers that take a process at a time.

@@ -1,6 +1,6 @@
 //! Frames are summed by workers in threads.
 
-ghost use Rattle.std.specs.Prelude.{◌≤◌, ◌<◌, length, IfOk, IfSome};
+ghost use Rattle.std.specs.Prelude.{◌≤◌, ◌<◌, [], length, IfOk, IfSome, OnOk};
 ghost use Rattle.std.specs.Thread.{IsSend, IsSync};
 ghost use Rattle.audit_findings.specs.Frames.{AreGoodFrames};
 ghost use Rattle.audit_join.specs.Shares.{AreHalves, SumsShare};
@@ -147,8 +147,26 @@ fn sum_share<'c>(alloc: Global, frames: &FrameSlice<'_, 'c>) -> Result<PieceSumm
     ensures { IfOk result (λ summary. SumsShare summary frames.now) }
 {
     let mut summary = PieceSummary::empty(alloc);
+    match add_frames(&mut summary, frames) {
+        Ok(()) => Ok(summary),
+        Err(error) => {
+            drop(summary);
+            Err(error)
+        }
+    }
+}
+
+/// Adds these frames to an empty summary.
+fn add_frames<'c>(
+    summary: &mut PieceSummary<'c>,
+    frames: &FrameSlice<'_, 'c>,
+) -> Result<(), AllocError>
+    requires good { AreGoodFrames frames.now }
+    requires none { SumsShare summary.old [] }
+    ensures { OnOk result (SumsShare summary.new frames.now) }
+{
     for number in 0..frames.len() {
         summary.add(frames.get(number))?;
     }
-    Ok(summary)
+    Ok(())
 }

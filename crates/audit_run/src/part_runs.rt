@@ -170,8 +170,7 @@ pub(crate) fn report_on<T: Threads + Sync, G: Gate + Sync>(
     Ok(report_of(rt, alloc, found)?)
 }
 
-/// The report on findings, which are dropped here: they are large, and a function that drops other
-/// values beside them is costly to prove.
+/// The report on findings, which are dropped here.
 fn report_of<T: Threads + Sync>(
     rt: &T,
     alloc: Global,
@@ -179,7 +178,9 @@ fn report_of<T: Threads + Sync>(
 ) -> Result<String, AllocError>
     ensures { IfOk result (λ text. string_bytes text ≡ report_text (findings_of found.entry)) }
 {
-    text(rt, alloc, &found)
+    let text = text(rt, alloc, &found);
+    drop(found);
+    text
 }
 
 /// Writes the line that names the first fault of parts, or that says that there is none. It takes

@@ -19,9 +19,9 @@ pub look_again-requires-after_bounds : goal.look_again-requires-after_bounds
 look_again-requires-after_bounds g c κs within =
     subst AreGoodFrames (sym c.in_ok-look.ensures) (good_cut c.args.frames.now c.requires.cut c.requires.sound)
 
-pub returns : goal.returns
-returns g c =
+pub returns-in-Ok : goal.returns-in-Ok
+returns-in-Ok g c =
     IfOk-weaker c.sections.result _ _
     (λ sections gives.
-    subst (λ frames. AreSectionsOf frames sections) c.in_ok-look.ensures (gives (ap lists_of c.as_slice.ensures.value ∙ c.in_ok-handles.ensures)))
+    subst (λ frames. AreSectionsOf frames sections) c.in_ok-look.ensures (gives (ap lists_of c.as_slice.ensures.value ∙ c.in-Ok.ensures)))
     c.sections.ensures

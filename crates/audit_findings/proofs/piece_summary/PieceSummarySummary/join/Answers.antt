@@ -1,5 +1,6 @@
 use Rattle.std.proofs.Common.{◌++◌, map, sym, subst, length-append, arith}
 use Rattle.std.proofs.lemmas.List.{map-append}
+use Rattle.std.proofs.lemmas.Result.{IfOk-at_ok}
 use Rattle.capture_frame.specs.Cut.{shown_by}
 use Rattle.capture_frame.specs.Envelope.{placed_frame}
 use Rattle.process_ledgers.specs.EachProcess.{order_item}
@@ -36,13 +37,14 @@ returns c views later sums others good =
     let first = shown_by views in
     let second = shown_by later in
     let both = both_given first second sums.given others.given sums.are_all others.are_all in
+    let pair = c.in_ok-order.ensures in
     subst (SumsPiece _) (sym (map-append placed_frame views later))
     (record {
       sequences = c.then.ensures first second sums.sequences others.sequences;
       order = order_both _ first second
-          (c.in_ok-order.ensures (map order_item first) (map order_item second) sums.order others.order (λ key. tt));
+          (IfOk-at_ok _ pair.0 c.join-order.ensures (map order_item first) (map order_item second) sums.order others.order (λ key. tt));
       given = sums.given ++ others.given;
       are_all = both;
-      sums = c.in_ok-of_events.ensures sums.given others.given sums.sums others.sums
+      sums = IfOk-at_ok _ pair.1 c.join-of_events.ensures sums.given others.given sums.sums others.sums
           (subst AreFewEvents (sym both) (few_shown views later good).1);
     })
