@@ -28,12 +28,6 @@ fn expect_handle(rt: &impl Abort, found: &Findings<'_>, handle: u32, strong: Cou
     assert_eq!(rt; rows[0].row.taken.strong, strong);
 }
 
-/// The same, and drops the findings. They are large, and each function that drops them is costly to
-/// prove, so this one does no more.
-fn expect_only_handle(rt: &impl Abort, found: Findings<'_>, handle: u32, strong: Count) {
-    expect_handle(rt, &found, handle, strong);
-}
-
 /// Two pieces are under way at the same time.
 #[test]
 fn two_pieces_meet(rt: HostRuntime) -> Result<(), Fail> {
@@ -43,7 +37,8 @@ fn two_pieces_meet(rt: HostRuntime) -> Result<(), Fail> {
     let capture = within_limit(&rt, RELEASE_FIRST);
     let found = audit(&rt, rt.alloc(), capture, two, one, &gate)?;
     // The handle is released before it is acquired.
-    expect_only_handle(&rt, found, 3, Count { sum: 0, low: -1 });
+    expect_handle(&rt, &found, 3, Count { sum: 0, low: -1 });
+    drop(found);
     assert!(rt; gate.was_held());
     Ok(())
 }

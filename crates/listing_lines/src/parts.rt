@@ -80,7 +80,9 @@ fn list_beside<S: Read + Drop, R: Read + Drop, W: Write>(
     out: &mut W,
 ) -> Result<Ended, ListingError> {
     let mut side = side_of(alloc, list)?;
-    list_to(alloc, asked, &mut side, seen, readers, out)
+    let ended = list_to(alloc, asked, &mut side, seen, readers, out);
+    drop(side);
+    ended
 }
 
 /// Lists the parts to a writer.

@@ -74,7 +74,10 @@ impl<S: Read + Drop> Side<S> {
         };
         match side.read_first_line() {
             Ok(()) => Ok(side),
-            Err(error) => Err(error),
+            Err(error) => {
+                drop(side);
+                Err(error)
+            }
         }
     }
 

@@ -81,7 +81,10 @@ fn tell<'c, W: Write>(
 fn tell_look<W: Write>(alloc: Global, look: SecondLook<'_, '_>, out: &mut W) -> Printed {
     match handles_of(alloc, &look) {
         Ok(handles) => tell_sections(look, handles.as_slice(), out),
-        Err(AllocError) => Err(NoAnswer::Memory),
+        Err(AllocError) => {
+            drop(look);
+            Err(NoAnswer::Memory)
+        }
     }
 }
 
@@ -106,9 +109,11 @@ fn tell_sections<W: Write>(
     }
 }
 
-/// Prints sections. They are large, so they are dropped here, where nothing else happens.
+/// Prints sections, and drops them.
 fn tell_whole<W: Write>(sections: Sections<u64>, out: &mut W) -> Printed {
-    told::sections(&sections, out)
+    let printed = told::sections(&sections, out);
+    drop(sections);
+    printed
 }
 
 pub(crate) fn summed<W: Write>(alloc: Global, bytes: &[u8], way: Way, out: &mut W) -> Printed {

@@ -50,15 +50,16 @@ pub(crate) enum Shown {
 }
 
 impl<T: Threads + Sync> Given<'_, T> {
-    /// Prints findings. They are large, and each function that drops them is costly to prove, so
-    /// only this one does.
+    /// Prints findings, and drops them.
     pub(crate) fn tell_findings<W: Write>(
         &self,
         found: Findings<'_>,
         shown: Shown,
         out: &mut W,
     ) -> Printed {
-        self.tell_of(&found, shown, out)
+        let printed = self.tell_of(&found, shown, out);
+        drop(found);
+        printed
     }
 
     fn tell_of<W: Write>(&self, found: &Findings<'_>, shown: Shown, out: &mut W) -> Printed {
