@@ -33,7 +33,9 @@ pub fn write_before_fault<W: Write + Drop>(
         (capture_before_fault (map (λ part. part.now) parts.now))) }
 {
     let (frames, ending) = frames_of(alloc, parts)?;
-    match write_capture(alloc, &frames.as_slice(), ending.count, file) {
+    let done = write_capture(alloc, &frames.as_slice(), ending.count, file);
+    drop(frames);
+    match done {
         Ok(written) => Ok(written),
         Err(error) => Err(write_error(&error)),
     }

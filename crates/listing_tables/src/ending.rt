@@ -66,20 +66,39 @@ fn with_ending<'c>(
         take found.1.count frames.entry ≡ up_to_fault frames.entry) }
     ensures good { IfOk result (λ found. All IsGood (take (found.1.count - 1) frames.entry)) }
 {
-    let count = count_up_to_fault(&frames.as_slice());
-    let fault = if ends_with_fault(&frames.as_slice(), count) {
+    match ending_of(&frames.as_slice(), cut, parts) {
+        Ok(ending) => Ok((frames, ending)),
+        Err(error) => {
+            drop(frames);
+            Err(error)
+        }
+    }
+}
+
+/// How far a capture goes that has these frames, and that is in these parts.
+fn ending_of(
+    frames: &FrameSlice<'_, '_>,
+    cut: Option<PartFault>,
+    parts: &[&[u8]],
+) -> Result<Ending, ListingError>
+    requires { length parts.now < 2 ^ 32 }
+    ensures few { IfOk result (λ ending. ending.count ≤ length frames.now) }
+    ensures counted { IfOk result (λ ending. take ending.count frames.now ≡ up_to_fault frames.now) }
+    ensures good { IfOk result (λ ending. All IsGood (take (ending.count - 1) frames.now)) }
+{
+    let count = count_up_to_fault(frames);
+    let fault = if ends_with_fault(frames, count) {
         first_fault_parts(parts)
     } else {
         cut
     };
-    let ending = Ending {
+    Ok(Ending {
         parts: parts.len() as u64,
         bytes: bytes_up_to(parts, fault)?,
         fault,
         count,
-        span: span_of(&frames.as_slice(), count),
-    };
-    Ok((frames, ending))
+        span: span_of(frames, count),
+    })
 }
 
 /// How many frames there are up to the first one whose content has a fault, with that one.

@@ -74,12 +74,48 @@ impl<F: Write + Drop, R: Write + Drop, O: Write + Drop, C: Write + Drop> Streams
             objects,
             calls,
         } = self;
-        Ok(Writers {
-            frames: frames.finish()?,
-            records: records.finish()?,
-            objects: objects.finish()?,
-            calls: calls.finish()?,
-        })
+        match finish_both(frames, records) {
+            Ok((frames, records)) => match finish_both(objects, calls) {
+                Ok((objects, calls)) => Ok(Writers {
+                    frames,
+                    records,
+                    objects,
+                    calls,
+                }),
+                Err(error) => {
+                    drop((frames, records));
+                    Err(error)
+                }
+            },
+            Err(error) => {
+                drop((objects, calls));
+                Err(error)
+            }
+        }
+    }
+}
+
+/// Finishes two of them, in this order. What is left at an error is dropped by a call: dropped field
+/// by field, the proof takes several times as long.
+fn finish_both<F: Write + Drop, S: Write + Drop>(
+    first: RowWriter<F>,
+    second: RowWriter<S>,
+) -> Result<(F, S), ListingError>
+    ensures first { IfOk result (λ both. Keeps first (F.contents both.0)) }
+    ensures second { IfOk result (λ both. Keeps second (S.contents both.1)) }
+{
+    match first.finish() {
+        Ok(first) => match second.finish() {
+            Ok(second) => Ok((first, second)),
+            Err(error) => {
+                drop(first);
+                Err(error)
+            }
+        },
+        Err(error) => {
+            drop(second);
+            Err(error)
+        }
     }
 }
 
@@ -106,8 +142,13 @@ pub fn walk_to<F: Write + Drop, R: Write + Drop, O: Write + Drop, C: Write + Dro
         (flat_map marked_in (counted_frames (map (λ part. part.now) parts.now)))) }
 {
     let mut streams = Streams::new(alloc, writers);
-    let ending = walk_capture(alloc, parts, tables, &mut streams)?;
-    Ok((ending, streams.finish()?))
+    match walk_capture(alloc, parts, tables, &mut streams) {
+        Ok(ending) => Ok((ending, streams.finish()?)),
+        Err(error) => {
+            drop(streams);
+            Err(error)
+        }
+    }
 }
 
 /// Walks through the capture. The rows of frames, records and objects are written as they come, and
@@ -130,9 +171,10 @@ fn walk_capture<F: Write + Drop, R: Write + Drop, O: Write + Drop, C: Write + Dr
 {
     let (frames, ending) = frames_of(alloc, parts)?;
     tables.begin(ending);
-    walk_frames(&frames.as_slice(), ending.count, tables, streams)?;
+    let walked = walk_frames(&frames.as_slice(), ending.count, tables, streams);
     // What the tables take at the end is the most.
     drop(frames);
+    walked?;
     tables.finish(alloc, &mut streams.calls)?;
     Ok(ending)
 }

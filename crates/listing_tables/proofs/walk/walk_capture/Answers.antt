@@ -9,9 +9,9 @@ returns-clause-calls g c =
     let parts = map (λ part. part.now) c.args.parts.now in
     let count = c.in_ok-frames.ending.count in
     let counted : take count c.as_slice.result ≡ counted_frames parts = search rules in
-    let kept = c.in_ok-walk_frames.ensures.marked []
+    let kept = c.in_ok-walked.ensures.marked []
     (subst (λ steps. KeepsAll steps.entries.entries []) (sym c.begin.ensures) c.requires.nothing) in
     let written = c.in_ok-finish.ensures (flat_map marked_in (take count c.as_slice.result)) kept in
     subst (λ (old : Option (List ℕ)). WritesCalls old c.finish.new.rows (flat_map marked_in (counted_frames parts)))
-    c.in_ok-walk_frames.ensures.calls
-    (subst (λ frames. WritesCalls c.walk_frames.new.streams.calls c.finish.new.rows (flat_map marked_in frames)) counted written)
+    c.in_ok-walked.ensures.calls
+    (subst (λ frames. WritesCalls c.walk_frames-walked.new.streams.calls c.finish.new.rows (flat_map marked_in frames)) counted written)
