@@ -1,7 +1,7 @@
 //! Which sends a delivery may have come from, and what is certain of it. viewer/database/schema.sql
 //! says how.
 
-ghost use Rattle.std.specs.Prelude.{◌≡◌, ◌⊎◌, ◌&&◌, ◌+◌, if◌then◌else◌, true, None, IfOk, IfSome, OnOk};
+ghost use Rattle.std.specs.Prelude.{◌≡◌, ◌⊎◌, ◌&&◌, ◌+◌, if◌then◌else◌, true, None, Some, slice_get, IfOk, IfSome, OnOk};
 ghost use Rattle.std.specs.Bool.{OnTrue, OnFalse};
 ghost use Rattle.listing_tables.specs.Certainty.{IsElsewhere, IsFit, IsJustified};
 ghost use Rattle.listing_tables.specs.Certainty.{IsOtherCall, IsRefused, IsRepliedBy};
@@ -9,6 +9,7 @@ ghost use Rattle.listing_tables.specs.Certainty.{LieApart, LieBadly, LooksAtAll,
 ghost use Rattle.listing_tables.specs.Certainty.{SpeaksAgainst};
 ghost use Rattle.listing_tables.specs.OneHandle.{LeavesFits};
 ghost use Rattle.listing_tables.specs.declared.calls.Closer.{Closer};
+ghost use Rattle.listing_tables.specs.declared.messages.Detail.TheVariants.{Sent as IsSent};
 
 use crate::calls::{Call, Closer};
 use crate::fitting::{Fit, Fitting, Meant};
@@ -153,20 +154,36 @@ impl Evidence<'_> {
         if listed.list == 0 && self.is_elsewhere(sought, &send, &sent)? {
             return Ok(None);
         }
-        let unmarked = is_unmarked(self.marks, listed.index)?;
         let rank = self.rank_of(&send, &sent, sought)?;
-        let fit = Fit {
-            listed,
+        let fit = self.fit_at(look, &send, &sent, sought.node)?;
+        Ok(Some(Ranked { rank, fit }))
+    }
+
+    /// What is known of a send that is looked at, and that can be the one.
+    fn fit_at(
+        &self,
+        look: Look,
+        send: &Message,
+        sent: &Sent,
+        node: u32,
+    ) -> Result<Fit, ListingError>
+        requires at { slice_get self.now.messages.now.list.all.items look.listed.index ≡ Some send.now }
+        requires is { send.now.detail ≡ IsSent sent.now }
+        ensures fit { IfOk result (IsFit self.now look) }
+        ensures gaps { IfOk result (λ fit. fit.gaps ≡ send.now.gaps) }
+    {
+        let unmarked = is_unmarked(self.marks, look.listed.index)?;
+        Ok(Fit {
+            listed: look.listed,
             guessed: look.guessed,
-            fresh: !look.guessed && !is_refused(&sent) && unmarked,
-            meant: self.meant_by(&sent, sought.node)?,
-            sent,
+            fresh: !look.guessed && !is_refused(sent) && unmarked,
+            meant: self.meant_by(sent, node)?,
+            sent: *sent,
             place: send.place,
             gaps: send.gaps,
             utid: send.utid,
-            closer: self.closer_of(&send)?,
-        };
-        Ok(Some(Ranked { rank, fit }))
+            closer: self.closer_of(send)?,
+        })
     }
 
     /// Whether a send goes to another node than that of a delivery.

@@ -26,18 +26,39 @@ impl Traffic {
             self.link(index, calls)?;
         }
         let mut held = HeldCounts::new(alloc);
+        self.follow_all(calls, spans, &mut held)
+    }
+
+    fn follow_all(
+        &mut self,
+        calls: &Numbered<Call>,
+        spans: &Spans,
+        held: &mut HeldCounts,
+    ) -> Outcome {
         for index in 0..self.messages.list.next()? {
             let message = self.messages.list.at(index)?;
             let upid = spans.upid_of(message.utid)?;
             let call = calls.find(message.call)?;
-            if let Some(call) = call {
-                self.follow_call(&message, &call, upid)?;
-            }
-            if let Detail::Delivered(buffer) = message.detail {
-                self.follow_delivery(&message, buffer, call, upid, &mut held)?;
-            }
+            self.follow_one(&message, call, upid, held)?;
         }
         Ok(())
+    }
+
+    /// Follows a message, which may be of a call, and a delivery.
+    fn follow_one(
+        &mut self,
+        message: &Message,
+        call: Option<Call>,
+        upid: Upid,
+        held: &mut HeldCounts,
+    ) -> Outcome {
+        if let Some(call) = call {
+            self.follow_call(message, &call, upid)?;
+        }
+        match message.detail {
+            Detail::Delivered(buffer) => self.follow_delivery(message, buffer, call, upid, held),
+            _ => Ok(()),
+        }
     }
 
     /// Notes which call its opener opens, and which its closer closes.
@@ -78,16 +99,26 @@ impl Traffic {
         if is_outermost(message, call) {
             self.seen.take_delivery(message.utid, upid, message.place)?;
         }
-        let found = self.buffers.list.at(index)?.path;
-        let path = match call {
-            Some(call) if message.kind == Kind::BrReply && call.is_answered() => {
-                self.answer_path(&call, upid)?
-            }
-            _ => found,
-        };
+        let path = self.path_of(message, index, call, upid)?;
         held.let_go(&self.buffers, message.place)?;
         let count = held.hold(path)?;
         self.buffers.keep_path(index, path, count)
+    }
+
+    /// The index of the path of a delivery, whose buffer has this index.
+    fn path_of(
+        &mut self,
+        message: &Message,
+        index: u32,
+        call: Option<Call>,
+        upid: Upid,
+    ) -> Result<u32, ListingError> {
+        match call {
+            Some(call) if message.kind == Kind::BrReply && call.is_answered() => {
+                self.answer_path(&call, upid)
+            }
+            _ => Ok(self.buffers.list.at(index)?.path),
+        }
     }
 
     /// The index of the path of the replies to a known call.

@@ -59,34 +59,45 @@ impl Handles {
             let Ok(object) = attached.found else {
                 break;
             };
-            if let Some(ptr) = object.binder()
-                && let Some(cookie) = object.cookie()
-            {
+            if let (Some(ptr), Some(cookie)) = (object.binder(), object.cookie()) {
                 let upid = origin.upid;
-                let node = self.handed.index_of(Node { upid, ptr, cookie })?;
-                self.handed.push(message, number, Object::Own(node))?;
+                self.take_own(message, number, Node { upid, ptr, cookie })?;
             }
             if let Some(handle) = object.handle() {
-                let strength = match object.sort {
-                    Sort::WeakHandle => Strength::Weak,
-                    _ => Strength::Strong,
-                };
-                let effect = if delivered {
-                    Effect::Holds(strength)
-                } else {
-                    Effect::Names
-                };
-                let (generation, _, _) = self
-                    .generations
-                    .name(origin.upid, handle, effect, origin.place)?;
-                let reference = Reference {
-                    generation,
-                    strength,
-                };
+                let strength = strength_of(object.sort);
+                let reference = self.refer(origin, handle, strength, delivered)?;
                 self.handed.push(message, number, Object::Of(reference))?;
             }
         }
         Ok(())
+    }
+
+    /// Takes the object of this number that is a node of the process itself.
+    fn take_own(&mut self, message: u32, number: u32, node: Node) -> Outcome {
+        let index = self.handed.index_of(node)?;
+        self.handed.push(message, number, Object::Own(index))
+    }
+
+    /// The reference by a handle in a message, which a delivery holds.
+    fn refer(
+        &mut self,
+        origin: Origin,
+        handle: u32,
+        strength: Strength,
+        delivered: bool,
+    ) -> Result<Reference, ListingError> {
+        let effect = if delivered {
+            Effect::Holds(strength)
+        } else {
+            Effect::Names
+        };
+        let (generation, _, _) = self
+            .generations
+            .name(origin.upid, handle, effect, origin.place)?;
+        Ok(Reference {
+            generation,
+            strength,
+        })
     }
 
     /// Takes back the references that a delivery holds, at the place where its buffer is freed.
@@ -97,5 +108,13 @@ impl Handles {
             }
         }
         Ok(())
+    }
+}
+
+/// How a handle of this sort holds its node.
+fn strength_of(sort: Sort) -> Strength {
+    match sort {
+        Sort::WeakHandle => Strength::Weak,
+        _ => Strength::Strong,
     }
 }

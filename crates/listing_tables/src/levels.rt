@@ -164,9 +164,7 @@ impl Levels {
             let mut most = held;
             for resource in 0..5u8 {
                 // In a slice in which nothing changed there is none.
-                if let Some(slice) = self.slices.all.get(next as usize)
-                    && (slice.upid, slice.number, slice.resource) == (upid, number, resource)
-                {
+                if let Some(slice) = self.slice_at(next, upid, number, resource) {
                     most[resource as usize] = slice.most;
                     held[resource as usize] = slice.end;
                     next = one_more(next)?;
@@ -183,6 +181,15 @@ impl Levels {
             })?;
         }
         Ok(next)
+    }
+
+    /// The slice at this index, if it is that one of a process and a resource.
+    fn slice_at(&self, index: u32, upid: Upid, number: u8, resource: u8) -> Option<Slice> {
+        let slice = self.slices.all.get(index as usize)?;
+        if (slice.upid, slice.number, slice.resource) != (upid, number, resource) {
+            return None;
+        }
+        Some(*slice)
     }
 }
 

@@ -207,6 +207,21 @@ impl Meanings {
             return Ok(false);
         }
         let upid = generations.list.at(generation)?.upid.index;
+        self.is_held(generation, upid, gaps, node, generations)
+    }
+
+    /// Whether the process of a generation, which is this one, has such another one.
+    fn is_held(
+        &self,
+        generation: u32,
+        upid: u32,
+        gaps: u32,
+        node: u32,
+        generations: &Generations,
+    ) -> Result<bool, ListingError>
+        ensures { IfOk result (λ has. OnTrue has (
+            HasOtherHandle generations.now self.now generation gaps node)) }
+    {
         for (process, at, index) in self.held.range((upid, node, 0)..).take(LOOKED_AT) {
             if *process != upid || *at != node {
                 break;

@@ -77,14 +77,20 @@ fn write_names<W: Write + Drop>(
     let mut letters = Vec::new(alloc);
     for bytes in names {
         number = number.saturating_add(1);
-        // The bytes that are 0 are halves of units of UTF-16.
-        letters.clear();
-        for byte in bytes {
-            if *byte != 0 {
-                letters.push(*byte)?;
-            }
-        }
+        set_letters(&mut letters, bytes.as_slice())?;
         rows.push(&columns! { id: number, name: Column::Text(letters.as_slice()) })?;
+    }
+    Ok(())
+}
+
+/// Puts the letters of a name in the place of those that are there.
+fn set_letters(letters: &mut Vec<u8>, name: &[u8]) -> Outcome {
+    letters.clear();
+    for byte in name {
+        // The bytes that are 0 are halves of units of UTF-16.
+        if *byte != 0 {
+            letters.push(*byte)?;
+        }
     }
     Ok(())
 }

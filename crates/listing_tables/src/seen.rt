@@ -120,26 +120,8 @@ impl Seen {
             (length self.entry.now.gaps.items))) }
         ensures rest { self.exit.now ≡ record self.entry.now { threads = self.exit.now.threads } }
     {
-        let last = self.gaps()?;
-        if utid.index >= self.threads.next()? {
-            self.threads.push(Watched {
-                last,
-                earlier: None,
-                takes_calls: None,
-            })?;
-            return Ok(true);
-        }
-        let thread = self.threads.at(utid.index)?;
-        let earlier = Some(thread.last);
-        self.threads.set(
-            utid.index,
-            Watched {
-                last,
-                earlier,
-                ..thread
-            },
-        )?;
-        Ok(false)
+        let gaps = self.gaps()?;
+        note_frame(&mut self.threads, utid, gaps)
     }
 
     /// Notes that a process is older than the capture.
@@ -264,6 +246,31 @@ impl Seen {
     {
         Ok(!self.old.at(upid.index)?)
     }
+}
+
+/// Notes a frame of a thread after so many gaps. Returns whether it is the thread's first one.
+fn note_frame(threads: &mut Numbered<Watched>, utid: Utid, gaps: u32) -> Result<bool, ListingError>
+    ensures first { IfOk result (λ first. OnTrue first (BeginsThread
+        threads.old.all.items threads.new.all.items utid.index gaps)) }
+    ensures later { IfOk result (λ first. OnFalse first (GoesOn
+        threads.old.all.items threads.new.all.items utid.index gaps)) }
+{
+    if utid.index >= threads.next()? {
+        threads.push(Watched {
+            last: gaps,
+            earlier: None,
+            takes_calls: None,
+        })?;
+        return Ok(true);
+    }
+    let thread = threads.at(utid.index)?;
+    let watched = Watched {
+        last: gaps,
+        earlier: Some(thread.last),
+        ..thread
+    };
+    threads.set(utid.index, watched)?;
+    Ok(false)
 }
 
 /// Whether something was said, and before a place.

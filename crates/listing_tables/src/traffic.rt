@@ -13,7 +13,7 @@ use crate::messages::{Detail, Message, Messages, Path, Sent, Settled, unknown_pa
 use crate::origin::Origin;
 use crate::seen::Seen;
 use crate::sends::Sends;
-use crate::spans::{Owner, Utid};
+use crate::spans::{Owner, Upid, Utid};
 use crate::steps::is_oneway;
 use binder_code::Kind;
 use capture_frame::Frame;
@@ -58,10 +58,7 @@ impl Traffic {
     /// Takes a record, and what it names.
     pub(crate) fn add_item(&mut self, origin: Origin, item: Item<'_>, named: Named) -> Outcome {
         let kind = item.record.kind;
-        let generation = match named.handle {
-            Some(handle) => Some(self.handles.name(origin, kind, handle, &mut self.levels)?),
-            None => None,
-        };
+        let generation = self.generation_of(origin, kind, named.handle)?;
         let Some(transaction) = Transaction::of(item.record) else {
             return self.settle(origin, kind, named);
         };
@@ -74,6 +71,19 @@ impl Traffic {
         };
         let key = key_of(transaction, item.entry, origin.device)?;
         self.add_message(origin, kind, oneway, key, detail)
+    }
+
+    /// The index of the generation of the handle that a record names, if it names one.
+    fn generation_of(
+        &mut self,
+        origin: Origin,
+        kind: Kind,
+        handle: Option<u32>,
+    ) -> Result<Option<u32>, ListingError> {
+        match handle {
+            Some(handle) => Ok(Some(self.handles.name(origin, kind, handle, &mut self.levels)?)),
+            None => Ok(None),
+        }
     }
 
     fn add_message(
@@ -128,8 +138,7 @@ impl Traffic {
         }))
     }
 
-    /// What is known of a delivery. Its path is that of a reply to an unknown call until the calls
-    /// are found.
+    /// What is known of a delivery.
     fn deliver(
         &mut self,
         origin: Origin,
@@ -141,24 +150,13 @@ impl Traffic {
         if let Some(entry) = entry {
             self.handles.take_objects(origin, index, entry, true)?;
         }
-        let path = match transaction.carrier.kind {
-            Kind::BrReply => unknown_path(origin.upid),
-            _ => Path {
-                upid: origin.upid,
-                sort: u8::from(oneway),
-                code: transaction.code(),
-                target: transaction.target_ptr(),
-                cookie: transaction.cookie(),
-            },
-        };
-        let size = transaction.data_size();
-        self.levels.raise(origin.upid, Resource::Buffers, 1)?;
-        self.levels.raise(origin.upid, Resource::Bytes, size)?;
+        self.hold(origin.upid, transaction.data_size())?;
+        let path = path_of(origin.upid, transaction, oneway);
         let buffer = Buffer {
             place: origin.place,
             delivery: index,
             sender: transaction.sender_pid(),
-            size,
+            size: transaction.data_size(),
             freed: None,
             freed_in: 0,
             path: self.messages.index_of(path)?,
@@ -167,6 +165,12 @@ impl Traffic {
         };
         let key = (origin.upid.index, transaction.buffer());
         Ok(Detail::Delivered(self.buffers.deliver(key, buffer)?))
+    }
+
+    /// A process holds one more buffer, of this size.
+    fn hold(&mut self, upid: Upid, size: u64) -> Outcome {
+        self.levels.raise(upid, Resource::Buffers, 1)?;
+        self.levels.raise(upid, Resource::Bytes, size)
     }
 
     /// Takes a record that confirms a send, refuses one, or frees a buffer, or that shows whether
@@ -237,13 +241,35 @@ impl Traffic {
         let first = self.buffers.freed.next()?;
         self.buffers.free(key, origin.place, origin.sequence)?;
         for at in first..self.buffers.freed.next()? {
-            let buffer = self.buffers.freed_at(at)?;
-            self.handles.let_go(buffer.delivery, origin.place)?;
-            self.levels.lower(origin.upid, Resource::Buffers, 1)?;
-            self.levels
-                .lower(origin.upid, Resource::Bytes, buffer.size)?;
+            self.let_go(at, origin)?;
         }
         Ok(())
+    }
+
+    /// Lets go of what the buffer held that is freed as this one of all.
+    fn let_go(&mut self, at: u32, origin: Origin) -> Outcome
+        ensures messages { self.new.messages ≡ self.old.messages }
+        ensures sends { self.new.sends ≡ self.old.sends }
+    {
+        let buffer = self.buffers.freed_at(at)?;
+        self.handles.let_go(buffer.delivery, origin.place)?;
+        self.levels.lower(origin.upid, Resource::Buffers, 1)?;
+        self.levels.lower(origin.upid, Resource::Bytes, buffer.size)
+    }
+}
+
+/// The path of a delivery: that of a reply to an unknown call, until the calls are found, if it is
+/// one.
+fn path_of(upid: Upid, transaction: Transaction<'_>, oneway: bool) -> Path {
+    match transaction.carrier.kind {
+        Kind::BrReply => unknown_path(upid),
+        _ => Path {
+            upid,
+            sort: u8::from(oneway),
+            code: transaction.code(),
+            target: transaction.target_ptr(),
+            cookie: transaction.cookie(),
+        },
     }
 }
 
