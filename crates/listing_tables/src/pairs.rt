@@ -66,8 +66,7 @@ struct Ends {
     send: u32,
 }
 
-/// Finds the delivery of each send, and the send of each delivery. Where that ends with an error, the
-/// traffic has no messages any more.
+/// Finds the delivery of each send, and the send of each delivery.
 pub(crate) fn pair_all(alloc: Global, traffic: &mut Traffic, calls: &Numbered<Call>) -> Outcome
     ensures { OnOk result (PairsTraffic traffic.old calls.now traffic.new) }
 {
@@ -90,15 +89,22 @@ pub(crate) fn pair_all(alloc: Global, traffic: &mut Traffic, calls: &Numbered<Ca
         crowded: IndexSet::new(alloc),
         news: false,
     };
-    pairing.pair()?;
+    let done = pairing.pair();
     let Pairing {
-        messages,
-        handed,
+        mut messages,
+        mut handed,
+        meanings,
+        waiting,
+        fitting,
+        marks,
+        crowded,
         ..
     } = pairing;
-    traffic.messages = messages;
-    traffic.handles.handed = handed;
-    Ok(())
+    mem::swap(&mut traffic.messages, &mut messages);
+    mem::swap(&mut traffic.handles.handed, &mut handed);
+    // Dropped by a call: dropped here field by field, the proof takes ten times as long.
+    drop((messages, handed, meanings, waiting, fitting, marks, crowded));
+    done
 }
 
 impl Pairing<'_> {
@@ -382,13 +388,25 @@ impl Pairing<'_> {
           meanings = self.new.meanings;
         }) }
     {
+        self.make_pair(index, sought)?;
+        self.learn_objects(index, sought.index)?;
+        self.learn_answer(sought.index)
+    }
+
+    /// Makes such a pair, and notes what the target of the send means.
+    fn make_pair(&mut self, index: u32, sought: &Sought) -> Outcome
+        ensures pair { OnOk result (RatesPair (messages_of self.old) (messages_of self.new) index
+            sought.now.index 1 true) }
+        ensures same { OnOk result (self.new ≡ record self.old {
+          messages = self.new.messages;
+          meanings = self.new.meanings;
+        }) }
+    {
         let sent = self.messages.sent(index)?;
         let gaps = self.messages.list.at(index)?.gaps;
         self.learn_target(sent.generation, gaps, sought.node)?;
         self.messages.rate(index, 1, true)?;
-        self.messages.couple(index, sought.index)?;
-        self.learn_objects(index, sought.index)?;
-        self.learn_answer(sought.index)
+        self.messages.couple(index, sought.index)
     }
 
     /// Notes that the target of a send after so many gaps means a node, if it is that of a handle.

@@ -65,9 +65,9 @@ pub const NAMES: [(&str, Name); 14] = [
 
 /// The table of this name.
 pub fn name_of(word: &str) -> Option<Name> {
-    for (name, table) in NAMES {
-        if name == word {
-            return Some(table);
+    for (name, table) in &NAMES {
+        if *name == word {
+            return Some(*table);
         }
     }
     None
@@ -142,14 +142,7 @@ impl Tables {
             .add_record(owner.utid, frame.direction, item.record.place)?;
         let before = self.traffic.messages.list.next()?;
         add_step(&mut self.steps, frame, item.record, before)?;
-        let origin = Origin {
-            place: narrow(item.record.place)?,
-            sequence: frame.sequence,
-            device: frame.device,
-            process: frame.process,
-            upid: owner.upid,
-            utid: owner.utid,
-        };
+        let origin = origin_of(frame, owner, item.record.place)?;
         self.traffic.add_item(origin, item, named)
     }
 
@@ -163,12 +156,13 @@ impl Tables {
             KeepsAll self.old.steps.entries.entries marked →
             WritesCalls rows.old rows.new marked) }
     {
-        let calls = all_calls(alloc, &mem::replace(&mut self.steps, Steps::empty(alloc)))?;
-        self.traffic.messages.write_calls(&calls, rows)?;
-        self.traffic.follow(alloc, &calls, &self.spans)?;
-        pair_all(alloc, &mut self.traffic, &calls)?;
-        self.calls = calls;
-        Ok(())
+        let steps = mem::replace(&mut self.steps, Steps::empty(alloc));
+        let calls = all_calls(alloc, &steps);
+        drop(steps);
+        self.calls = calls?;
+        self.traffic.messages.write_calls(&self.calls, rows)?;
+        self.traffic.follow(alloc, &self.calls, &self.spans)?;
+        pair_all(alloc, &mut self.traffic, &self.calls)
     }
 
     /// Writes a table of the capture that was walked through, and that goes this far. Nothing is
@@ -182,7 +176,6 @@ impl Tables {
         ensures written { OnOk result (WritesTable self.old name rows.old rows.new) }
         ensures kept { KeepsLists self.old self.new }
     {
-        let traffic = &mut self.traffic;
         match name {
             Name::Frame | Name::Record | Name::Object | Name::Call => Ok(()),
             Name::Capture => ending.write(self.records, rows),
@@ -190,18 +183,37 @@ impl Tables {
             Name::Thread => self.spans.write_threads(rows),
             Name::Interface => self.names.write_interfaces(rows),
             Name::Service => self.names.write_services(rows),
-            Name::Generation => traffic.handles.generations.write(rows),
-            Name::Send => traffic.messages.write_sends(rows),
+            Name::Generation => self.traffic.handles.generations.write(rows),
+            Name::Send => self.traffic.messages.write_sends(rows),
             Name::Delivery => {
-                traffic
+                self.traffic
                     .messages
-                    .write_deliveries(&traffic.buffers, &self.calls, rows)
+                    .write_deliveries(&self.traffic.buffers, &self.calls, rows)
             }
             Name::Slice => match ending.span {
                 Some(span) => Slices::of(span).write(rows),
                 None => Ok(()),
             },
-            Name::Level => traffic.levels.write(self.spans.processes()?, rows),
+            Name::Level => self.write_levels(rows),
         }
     }
+
+    fn write_levels<W: Write + Drop>(&mut self, rows: &mut RowWriter<W>) -> Outcome
+        ensures { KeepsLists self.old self.new }
+    {
+        let processes = self.spans.processes()?;
+        self.traffic.levels.write(processes, rows)
+    }
+}
+
+/// Where a record at this place comes from.
+fn origin_of(frame: Frame<'_>, owner: Owner, place: u64) -> Result<Origin, ListingError> {
+    Ok(Origin {
+        place: narrow(place)?,
+        sequence: frame.sequence,
+        device: frame.device,
+        process: frame.process,
+        upid: owner.upid,
+        utid: owner.utid,
+    })
 }
