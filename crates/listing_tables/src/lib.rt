@@ -24,6 +24,7 @@ mod numbered;
 mod origin;
 mod pairs;
 mod records;
+mod replies;
 mod rows;
 mod seen;
 mod sends;

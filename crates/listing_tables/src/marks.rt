@@ -3,7 +3,7 @@
 ghost use Rattle.std.specs.Prelude.{◌≡◌, IfOk, OnOk};
 ghost use Rattle.std.specs.Bool.{OnTrue};
 ghost use Rattle.listing_tables.specs.Certainty.{IsUnmarked};
-ghost use Rattle.listing_tables.specs.Pairing.{MarksAlso, MarksEach};
+ghost use Rattle.listing_tables.specs.Pairing.{MarksAlso, MarksEach, NotesGuess};
 
 use crate::fitting::Fit;
 use crate::numbered::Numbered;
@@ -69,4 +69,13 @@ pub(crate) fn mark_also(marks: &mut Numbered<Mark>, index: u32, by: u32) -> Outc
     let mark = marks.at(index)?;
     let other = mark.other.and(by);
     marks.set(index, Mark { other, ..mark })
+}
+
+/// Notes of the send at an index that a delivery took it by guess.
+pub(crate) fn note_guess(marks: &mut Numbered<Mark>, index: u32, delivery: u32) -> Outcome
+    ensures { OnOk result (NotesGuess marks.old.all.items marks.new.all.items index delivery) }
+{
+    let mark = marks.at(index)?;
+    let guess = Some(delivery);
+    marks.set(index, Mark { guess, ..mark })
 }

@@ -1,9 +1,9 @@
 //! What threads send and get: the records that open and close calls, and what became of them.
 
-ghost use Rattle.std.specs.Prelude.{◌≡◌, option_map, IfOk, OnOk};
+ghost use Rattle.std.specs.Prelude.{◌≡◌, option_map, Some, IfOk, OnOk};
 ghost use Rattle.std.specs.Bool.{OnFalse, OnTrue};
 ghost use Rattle.listing_tables.specs.Columns.{AddsRows, WritesRows, number_at};
-ghost use Rattle.listing_tables.specs.Messages.{IsCallRow, call_columns, closed_after, confirmed_by, delivery_columns, delivery_row, delivery_rows};
+ghost use Rattle.listing_tables.specs.Messages.{IsCallRow, buffer_row, call_columns, closed_after, confirmed_by, delivery_columns, delivery_row, delivery_rows};
 ghost use Rattle.listing_tables.specs.Messages.{freed_after, if_known, is_answer, place_for, place_of_message, refused_by, send_columns};
 ghost use Rattle.listing_tables.specs.Messages.{send_row, send_rows};
 ghost use Rattle.listing_tables.specs.Numbered.{thing_at};
@@ -306,13 +306,27 @@ impl Messages {
         match message.detail {
             Detail::Delivered(index) => {
                 let buffer = buffers.list.at(index)?;
-                let duration = buffer.freed_after(message.sequence)?;
-                let call = place_for(message.kind, calls.find(message.call)?);
-                let partner = self.partner_place(message)?;
-                rows.push(&delivery_columns(message, &buffer, duration, call, partner))
+                self.write_buffer(message, &buffer, calls, rows)
             }
             _ => Ok(()),
         }
+    }
+
+    /// Writes the row of a delivery with this buffer.
+    fn write_buffer<W: Write + Drop>(
+        &self,
+        message: &Message,
+        buffer: &Buffer,
+        calls: &Numbered<Call>,
+        rows: &mut RowWriter<W>,
+    ) -> Outcome
+        ensures { OnOk result (WritesRows rows.old rows.new
+            (buffer_row self.now.list.all.items calls.now.all.items message.now (Some buffer.now))) }
+    {
+        let duration = buffer.freed_after(message.sequence)?;
+        let call = place_for(message.kind, calls.find(message.call)?);
+        let partner = self.partner_place(message)?;
+        rows.push(&delivery_columns(message, buffer, duration, call, partner))
     }
 }
 

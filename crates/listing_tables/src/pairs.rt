@@ -1,6 +1,6 @@
 //! Pairs each delivery with the send that it came from. viewer/database/schema.sql says how.
 
-ghost use Rattle.std.specs.Prelude.{◌≡◌, ◌≢◌, ◌⊎◌, ℕ, true, false, nat_eq, IfOk, IfSome, OnOk};
+ghost use Rattle.std.specs.Prelude.{◌≡◌, ◌≢◌, ◌⊎◌, ℕ, true, false, nat_eq, IfOk, OnOk};
 ghost use Rattle.std.specs.Bool.{OnTrue};
 ghost use Rattle.listing_tables.specs.Pairing.{MarksEach};
 ghost use Rattle.listing_tables.specs.Turns.{PairsTraffic};
@@ -9,19 +9,18 @@ ghost use Rattle.listing_tables.specs.declared.waiting.Waiting.{Waiting};
 
 use crate::buffers::Buffers;
 use crate::calls::{Call, Closer};
-use crate::certainty::{Certainty, Evidence, Sought, is_refused, rate_of_reply, replied_by};
+use crate::certainty::{Certainty, Evidence, Sought, is_refused};
 use crate::fitting::{Fit, Fitting};
 use crate::generations::Generations;
 use crate::handed::HandedOver;
 use crate::learning::{learn_each, objects_at};
-use crate::marks::{Mark, Marked, UNMARKED, mark_also, mark_each};
+use crate::marks::{Mark, Marked, UNMARKED, mark_also, mark_each, note_guess};
 use crate::meanings::Meanings;
 use crate::messages::{Detail, Message, Messages, Sent};
 use crate::numbered::{Numbered, one_more};
 use crate::seen::Seen;
 use crate::traffic::Traffic;
 use crate::waiting::{Waiting, as_it_waits};
-use binder_code::Kind;
 use indexmap::IndexSet;
 use listing_fields::{ListingError, Outcome, is_reply};
 use std::alloc::Global;
@@ -32,20 +31,20 @@ const WALKS: u32 = 5;
 
 /// What stays as it is while messages are paired.
 #[derive(Clone, Copy)]
-struct Facts<'f> {
+pub(crate) struct Facts<'f> {
     buffers: &'f Buffers,
     generations: &'f Generations,
-    seen: &'f Seen,
-    calls: &'f Numbered<Call>,
+    pub seen: &'f Seen,
+    pub calls: &'f Numbered<Call>,
 }
 
 /// Pairs the messages. Of what is found on a walk only what generations mean is kept for the next
 /// one, and the pairs of which no other send can have been meant.
 #[derive(Drop)]
-struct Pairing<'f> {
-    messages: Messages,
+pub(crate) struct Pairing<'f> {
+    pub messages: Messages,
     handed: HandedOver,
-    facts: Facts<'f>,
+    pub facts: Facts<'f>,
     meanings: Meanings,
     waiting: Waiting,
     fitting: Fitting,
@@ -60,10 +59,10 @@ struct Pairing<'f> {
 /// Of the delivery of a call that a reply closes: that reply, the answer of the same key that
 /// closes the call of its send, and that send.
 #[derive(Clone, Copy)]
-struct Ends {
-    replied: u32,
-    answered: Closer,
-    send: u32,
+pub(crate) struct Ends {
+    pub replied: u32,
+    pub answered: Closer,
+    pub send: u32,
 }
 
 /// Finds the delivery of each send, and the send of each delivery.
@@ -111,11 +110,12 @@ impl Pairing<'_> {
     ghost use Rattle.indexmap.specs.IndexSet.{contains};
     ghost use Rattle.listing_tables.specs.Changes.{RatesPair};
     ghost use Rattle.listing_tables.specs.Pairing.{AddsSend, BeginsWalk, Claims, ClosesCall};
-    ghost use Rattle.listing_tables.specs.Pairing.{GuessesFit, HasEnds, HasNoGap, KeepsGuess};
+    ghost use Rattle.listing_tables.specs.Pairing.{GuessesFit, KeepsGuess};
     ghost use Rattle.listing_tables.specs.Pairing.{MarksClaimed, MarksFits, MarksSome, MarksTurn, MustHaveCome};
-    ghost use Rattle.listing_tables.specs.Pairing.{PairsDelivery, PairsReply, messages_of};
-    ghost use Rattle.listing_tables.specs.Turns.{ClaimsAll, HasTurn, KeepsIfGuessed, MakesEach};
-    ghost use Rattle.listing_tables.specs.Turns.{PairsAll, PairsIfReplied, TakesTurn, Walks, WalksOn};
+    ghost use Rattle.listing_tables.specs.Pairing.{PairsDelivery, messages_of};
+    ghost use Rattle.listing_tables.specs.Turns.{ClaimsAll, ClaimsIfMarked, HasTurn, KeepsIfGuessed};
+    ghost use Rattle.listing_tables.specs.Turns.{MakesEach, MarksIfClaimed};
+    ghost use Rattle.listing_tables.specs.Turns.{PairsAll, TakesTurn, Walks, WalksOn};
     ghost use Rattle.listing_tables.specs.Turns.{count_of};
     ghost use Rattle.listing_tables.specs.Waiting.{entry_of, waits};
 
@@ -348,9 +348,7 @@ impl Pairing<'_> {
         };
         let index = fit.listed.index;
         self.waiting.guess(fit.listed)?;
-        let mark = self.marks.at(index)?;
-        let guess = Some(sought.index);
-        self.marks.set(index, Mark { guess, ..mark })?;
+        note_guess(&mut self.marks, index, sought.index)?;
         self.messages.rate(index, fits, certain)
     }
 
@@ -446,11 +444,26 @@ impl Pairing<'_> {
     fn claim_all(&mut self) -> Outcome
         ensures { OnOk result (ClaimsAll self.old self.new) }
     {
+        self.mark_calls()?;
+        self.claim_marked()
+    }
+
+    /// Marks each delivery by which a call must have come.
+    fn mark_calls(&mut self) -> Outcome
+        ensures { OnOk result (MakesEach MarksIfClaimed self.old self.new (count_of self.old)) }
+    {
         for index in 0..self.messages.list.next()? {
             self.mark_claimed(index)?;
         }
-        for delivery in 0..self.messages.list.next()? {
-            self.claim(delivery)?;
+        Ok(())
+    }
+
+    /// Takes each call that alone marks a delivery.
+    fn claim_marked(&mut self) -> Outcome
+        ensures { OnOk result (MakesEach ClaimsIfMarked self.old self.new (count_of self.old)) }
+    {
+        for index in 0..self.messages.list.next()? {
+            self.claim(index)?;
         }
         Ok(())
     }
@@ -542,84 +555,6 @@ impl Pairing<'_> {
             return Ok(());
         }
         self.messages.couple(index, delivery)
-    }
-
-    /// Finds the deliveries of all replies to calls whose own delivery is found.
-    fn pair_replies(&mut self) -> Outcome
-        ensures { OnOk result (MakesEach PairsIfReplied self.old self.new (count_of self.old)) }
-    {
-        for index in 0..self.messages.list.next()? {
-            self.pair_reply(index)?;
-        }
-        Ok(())
-    }
-
-    /// Finds the delivery of the reply to a call whose own delivery is found.
-    fn pair_reply(&mut self, index: u32) -> Outcome
-        ensures pairs { OnOk result ((messages_of self.new ≡ messages_of self.old)
-            ⊎ PairsReply self.old index (messages_of self.new)) }
-        ensures same { OnOk result (self.new ≡ record self.old { messages = self.new.messages }) }
-    {
-        let found = self.ends_of(index)?;
-        let Some(ends) = found else {
-            return Ok(());
-        };
-        let sent = self.messages.sent(ends.send)?;
-        let is_whole = self.is_whole(&ends)?;
-        let rate = rate_of_reply(&sent, is_whole);
-        self.messages.rate(ends.replied, rate.0, rate.1)?;
-        self.messages.couple(ends.replied, ends.answered.message)
-    }
-
-    /// Whether no frame is missing from the send of a call to its answer.
-    fn is_whole(&self, ends: &Ends) -> Result<bool, ListingError>
-        ensures { IfOk result (λ whole. OnTrue whole (HasNoGap self.now ends.now)) }
-    {
-        let send = self.messages.list.at(ends.send)?;
-        let gaps = self.facts.seen.gaps_before(ends.answered.place)?;
-        Ok(gaps == send.gaps)
-    }
-
-    /// The ends of the call that a delivery opens, if its send is found.
-    fn ends_of(&self, index: u32) -> Result<Option<Ends>, ListingError>
-        ensures { IfOk result (λ found. IfSome found (HasEnds self.now index)) }
-    {
-        let delivery = self.messages.list.at(index)?;
-        if !matches!(
-            delivery.kind,
-            Kind::BrTransaction | Kind::BrTransactionSecCtx
-        ) {
-            return Ok(None);
-        }
-        let Some(send) = delivery.partner else {
-            return Ok(None);
-        };
-        let opener = self.messages.list.at(send)?;
-        let opened = self.facts.calls.find(opener.call)?;
-        let Some(made) = opened else {
-            return Ok(None);
-        };
-        let begun = self.facts.calls.find(delivery.call)?;
-        let Some(served) = begun else {
-            return Ok(None);
-        };
-        let Some(answered) = made.closer else {
-            return Ok(None);
-        };
-        let Some(replied) = replied_by(served) else {
-            return Ok(None);
-        };
-        if !made.is_answered() {
-            return Ok(None);
-        }
-        if !self.messages.are_alike(replied, answered)? {
-            return Ok(None);
-        }
-        Ok(Some(Ends {
-            replied: replied.message,
-            answered,
-            send,
-        }))
     }
 }
 

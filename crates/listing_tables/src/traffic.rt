@@ -126,16 +126,7 @@ impl Traffic {
             self.handles.take_objects(origin, index, entry, false)?;
         }
         self.sends.add(origin.utid, index)?;
-        Ok(Detail::Sent(Sent {
-            process: origin.process,
-            code: transaction.code(),
-            handle: transaction.target_handle(),
-            settled: Settled::Waiting,
-            generation,
-            updates: transaction.flags() & UPDATES != 0,
-            fits: 0,
-            certain: false,
-        }))
+        Ok(Detail::Sent(sent_of(origin, transaction, generation)))
     }
 
     /// What is known of a delivery.
@@ -255,6 +246,20 @@ impl Traffic {
         self.handles.let_go(buffer.delivery, origin.place)?;
         self.levels.lower(origin.upid, Resource::Buffers, 1)?;
         self.levels.lower(origin.upid, Resource::Bytes, buffer.size)
+    }
+}
+
+/// A send that waits to be confirmed.
+fn sent_of(origin: Origin, transaction: Transaction<'_>, generation: Option<u32>) -> Sent {
+    Sent {
+        process: origin.process,
+        code: transaction.code(),
+        handle: transaction.target_handle(),
+        settled: Settled::Waiting,
+        generation,
+        updates: transaction.flags() & UPDATES != 0,
+        fits: 0,
+        certain: false,
     }
 }
 

@@ -227,14 +227,37 @@ fn walk_frame<F: Write + Drop, R: Write + Drop, O: Write + Drop, C: Write + Drop
         tables.new.steps.entries.entries (marked_in (placed_frame frame.entry))) }
 {
     let owner = tables.add_frame(frame)?;
+    let count = walk_items(frame, owner, content, tables, streams)?;
+    streams
+        .frames
+        .push(&frame_columns(frame, owner.utid, count))
+}
+
+/// Walks through the records of a frame with this content, and returns how many there are.
+fn walk_items<F: Write + Drop, R: Write + Drop, O: Write + Drop, C: Write + Drop>(
+    frame: Frame<'_>,
+    owner: Owner,
+    content: Content<'_>,
+    tables: &mut Tables,
+    streams: &mut Streams<F, R, O, C>,
+) -> Result<u64, ListingError>
+    requires kept { IsKept tables.old.steps.entries.entries }
+    requires content { records_left content ≡ (records_of (placed_frame frame)).units }
+    ensures count { IfOk result (λ count.
+        count ≡ length (records_of (placed_frame frame.entry)).units) }
+    ensures frames { streams.new.frames ≡ streams.old.frames }
+    ensures records { OnOk result (AddsRows BeginsWith streams.old.records streams.new.records
+        (record_begins (placed_frame frame.entry))) }
+    ensures calls { streams.new.calls ≡ streams.old.calls }
+    ensures marked { OnOk result (AddsMarked tables.old.steps.entries.entries
+        tables.new.steps.entries.entries (marked_in (placed_frame frame.entry))) }
+{
     let mut count = 0u64;
     for item in content {
         walk_item(frame, owner, item, tables, streams)?;
         count = sum(count, 1)?;
     }
-    streams
-        .frames
-        .push(&frame_columns(frame, owner.utid, count))
+    Ok(count)
 }
 
 fn walk_item<F: Write + Drop, R: Write + Drop, O: Write + Drop, C: Write + Drop>(

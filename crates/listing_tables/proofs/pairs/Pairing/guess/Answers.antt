@@ -46,7 +46,7 @@ returns-clause-marks c =
       noted = inr (
         fit,
         subst (λ (f : Fitting). IsGuess oneway f.list.items (Some fit)) (ap (λ (p : Pairing). p.fitting) c.in_ok-mark_all.ensures.same) best,
-        record { before = c.in_ok-mark.mark; there = c.in_ok-mark.ensures; are = c.in_ok-set.ensures },
+        c.in_ok-note_guess.ensures,
       );
     })
 

@@ -5,7 +5,7 @@ use Rattle.listing_fields.specs.Content.{record_of_item}
 use Rattle.listing_tables.specs.Columns.{AddsRows}
 use Rattle.listing_tables.specs.Steps.{AddsMarked, marked_of}
 use Rattle.listing_tables.specs.Walk.{BeginsWith, record_begin}
-use Rattle.listing_tables.proofs.walk.walk_frame.Given as goal
+use Rattle.listing_tables.proofs.walk.walk_items.Given as goal
 
 abbrev pub invariant-loop-item : goal.invariant-loop-item
 invariant-loop-item g l = record {
