@@ -1,6 +1,6 @@
 //! What threads send and get: the records that open and close calls, and what became of them.
 
-ghost use Rattle.std.specs.Prelude.{◌≡◌, option_map, Some, IfOk, OnOk};
+ghost use Rattle.std.specs.Prelude.{◌≡◌, ◌∷◌, [], option_map, Some, IfOk, OnOk};
 ghost use Rattle.std.specs.Bool.{OnFalse, OnTrue};
 ghost use Rattle.listing_tables.specs.Columns.{AddsRows, WritesRows, number_at};
 ghost use Rattle.listing_tables.specs.Messages.{IsCallRow, buffer_row, call_columns, closed_after, confirmed_by, delivery_columns, delivery_row, delivery_rows};
@@ -228,11 +228,18 @@ impl Messages {
     {
         for index in 0..calls.next()? {
             let call = calls.at(index)?;
-            let opener = self.list.at(call.opener)?;
-            let duration = self.closed_after(&call, opener.sequence)?;
-            rows.push(&call_columns(&call, &opener, duration))?;
+            self.write_call(&call, rows)?;
         }
         Ok(())
+    }
+
+    fn write_call<W: Write + Drop>(&self, call: &Call, rows: &mut RowWriter<W>) -> Outcome
+        ensures { OnOk result (AddsRows (IsCallRow self.now.list.all.items) rows.old rows.new
+            (call.now ∷ [])) }
+    {
+        let opener = self.list.at(call.opener)?;
+        let duration = self.closed_after(call, opener.sequence)?;
+        rows.push(&call_columns(call, &opener, duration))
     }
 
     /// How many sequences after this one a call is closed.

@@ -100,3 +100,22 @@ returns-in_ok-one_more-in-Unknown-clause-marks c =
           (ap (λ (p : Pairing). p.marks.all.items) c.in_ok-note_crowded.ensures.same) marks,
     ))
     c.guess-in-Unknown.ensures.marks
+
+pub returns-in-Sure-clause-facts : goal.returns-in-Sure-clause-facts
+returns-in-Sure-clause-facts c =
+    on_ok_weaker c.take.result (λ facts. facts ∙ ap (λ (p : Pairing). p.facts) c.in_ok-note_crowded.ensures.same) c.take.ensures.facts
+
+pub returns-in-OneHandle-clause-facts : goal.returns-in-OneHandle-clause-facts
+returns-in-OneHandle-clause-facts c =
+    on_ok_weaker c.take_one.result (λ facts. facts ∙ ap (λ (p : Pairing). p.facts) c.in_ok-note_crowded.ensures.same) c.take_one.ensures.facts
+
+pub returns-in_ok-guess-in-Several-clause-facts : goal.returns-in_ok-guess-in-Several-clause-facts
+returns-in_ok-guess-in-Several-clause-facts c =
+    on_ok_always c.doubt_all.result
+    (ap (λ (p : Pairing). p.facts) c.doubt_all.ensures.same ∙ c.in_ok-guess-in-Several.ensures.facts
+    ∙ ap (λ (p : Pairing). p.facts) c.in_ok-note_crowded.ensures.same)
+
+pub returns-in_ok-one_more-in-Unknown-clause-facts : goal.returns-in_ok-one_more-in-Unknown-clause-facts
+returns-in_ok-one_more-in-Unknown-clause-facts c =
+    on_ok_weaker c.guess-in-Unknown.result (λ facts. facts ∙ ap (λ (p : Pairing). p.facts) c.in_ok-note_crowded.ensures.same)
+    c.guess-in-Unknown.ensures.facts

@@ -43,3 +43,15 @@ returns-in_ok-sought-in-Delivered-clause-marks c =
           (subst (λ (n : ℕ). MarksSome sought.message.oneway n c.sought.new.self.marks.all.items new) is.index marks)),
     ))
     c.pair_delivery.ensures.marks
+
+pub returns-in_ok-sought-in-Delivered-clause-facts : goal.returns-in_ok-sought-in-Delivered-clause-facts
+returns-in_ok-sought-in-Delivered-clause-facts c =
+    on_ok_weaker c.pair_delivery.result
+    (λ facts. facts ∙ ap (λ (p : Pairing). p.facts) c.sought.ensures.same ∙ ap (λ (p : Pairing). p.facts) c.in_ok-close_send.ensures.same)
+    c.pair_delivery.ensures.facts
+
+pub returns-in-Sent-clause-facts : goal.returns-in-Sent-clause-facts
+returns-in-Sent-clause-facts c =
+    on_ok_weaker c.add_send.result
+    (λ same. ap (λ (p : Pairing). p.facts) same ∙ ap (λ (p : Pairing). p.facts) c.in_ok-close_send.ensures.same)
+    c.add_send.ensures.same
