@@ -1,7 +1,8 @@
 //! Which sends a delivery may have come from, and what is certain of it. viewer/database/schema.sql
 //! says how.
 
-ghost use Rattle.std.specs.Prelude.{◌≡◌, ◌⊎◌, ◌&&◌, ◌+◌, if◌then◌else◌, true, None, Some, slice_get, IfOk, IfSome, OnOk};
+ghost use Rattle.std.specs.Prelude.{◌≡◌, ◌⊎◌, ◌&&◌, ◌+◌, if◌then◌else◌, true, None, Some, slice_get};
+ghost use Rattle.std.specs.Prelude.{IfOk, IfSome, OnOk};
 ghost use Rattle.std.specs.Bool.{OnTrue, OnFalse};
 ghost use Rattle.listing_tables.specs.Certainty.{IsElsewhere, IsFit, IsJustified};
 ghost use Rattle.listing_tables.specs.Certainty.{IsOtherCall, IsRefused, IsRepliedBy};

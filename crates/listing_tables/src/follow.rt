@@ -29,6 +29,7 @@ impl Traffic {
         self.follow_all(calls, spans, &mut held)
     }
 
+    /// Follows all messages, in order.
     fn follow_all(
         &mut self,
         calls: &Numbered<Call>,
@@ -44,7 +45,7 @@ impl Traffic {
         Ok(())
     }
 
-    /// Follows a message, which may be of a call, and a delivery.
+    /// Follows a message. It may be of a call, and it may be a delivery.
     fn follow_one(
         &mut self,
         message: &Message,
@@ -99,14 +100,14 @@ impl Traffic {
         if is_outermost(message, call) {
             self.seen.take_delivery(message.utid, upid, message.place)?;
         }
-        let path = self.path_of(message, index, call, upid)?;
+        let path = self.path_at(message, index, call, upid)?;
         held.let_go(&self.buffers, message.place)?;
         let count = held.hold(path)?;
         self.buffers.keep_path(index, path, count)
     }
 
     /// The index of the path of a delivery, whose buffer has this index.
-    fn path_of(
+    fn path_at(
         &mut self,
         message: &Message,
         index: u32,

@@ -78,7 +78,7 @@ impl Handles {
         self.handed.push(message, number, Object::Own(index))
     }
 
-    /// The reference by a handle in a message, which a delivery holds.
+    /// The reference that a message makes by a handle. That of a delivery is held.
     fn refer(
         &mut self,
         origin: Origin,

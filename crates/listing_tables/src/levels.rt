@@ -183,7 +183,7 @@ impl Levels {
         Ok(next)
     }
 
-    /// The slice at this index, if it is that one of a process and a resource.
+    /// The slice at this index, if it is the one of this process, number and resource.
     fn slice_at(&self, index: u32, upid: Upid, number: u8, resource: u8) -> Option<Slice> {
         let slice = self.slices.all.get(index as usize)?;
         if (slice.upid, slice.number, slice.resource) != (upid, number, resource) {

@@ -210,7 +210,8 @@ impl Meanings {
         self.is_held(generation, upid, gaps, node, generations)
     }
 
-    /// Whether the process of a generation, which is this one, has such another one.
+    /// Whether the process with this index, that of a generation, has another handle that means the
+    /// node after so many gaps.
     fn is_held(
         &self,
         generation: u32,

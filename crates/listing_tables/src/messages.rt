@@ -3,7 +3,8 @@
 ghost use Rattle.std.specs.Prelude.{◌≡◌, ◌∷◌, [], option_map, Some, IfOk, OnOk};
 ghost use Rattle.std.specs.Bool.{OnFalse, OnTrue};
 ghost use Rattle.listing_tables.specs.Columns.{AddsRows, WritesRows, number_at};
-ghost use Rattle.listing_tables.specs.Messages.{IsCallRow, buffer_row, call_columns, closed_after, confirmed_by, delivery_columns, delivery_row, delivery_rows};
+ghost use Rattle.listing_tables.specs.Messages.{IsCallRow, buffer_row, call_columns, closed_after};
+ghost use Rattle.listing_tables.specs.Messages.{confirmed_by, delivery_columns, delivery_row, delivery_rows};
 ghost use Rattle.listing_tables.specs.Messages.{freed_after, if_known, is_answer, place_for, place_of_message, refused_by, send_columns};
 ghost use Rattle.listing_tables.specs.Messages.{send_row, send_rows};
 ghost use Rattle.listing_tables.specs.Numbered.{thing_at};
@@ -233,6 +234,7 @@ impl Messages {
         Ok(())
     }
 
+    /// Writes the row of a call.
     fn write_call<W: Write + Drop>(&self, call: &Call, rows: &mut RowWriter<W>) -> Outcome
         ensures { OnOk result (AddsRows (IsCallRow self.now.list.all.items) rows.old rows.new
             (call.now ∷ [])) }

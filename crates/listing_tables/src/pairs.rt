@@ -101,7 +101,7 @@ pub(crate) fn pair_all(alloc: Global, traffic: &mut Traffic, calls: &Numbered<Ca
     } = pairing;
     mem::swap(&mut traffic.messages, &mut messages);
     mem::swap(&mut traffic.handles.handed, &mut handed);
-    // Dropped by a call: dropped here field by field, the proof takes ten times as long.
+    // By a call, because it is costly to prove that a function drops their fields itself.
     drop((messages, handed, meanings, waiting, fitting, marks, crowded));
     done
 }

@@ -198,6 +198,7 @@ impl Tables {
         }
     }
 
+    /// Writes the rows of the levels of all processes.
     fn write_levels<W: Write + Drop>(&mut self, rows: &mut RowWriter<W>) -> Outcome
         ensures { KeepsLists self.old self.new }
     {

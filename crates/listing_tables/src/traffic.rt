@@ -237,7 +237,7 @@ impl Traffic {
         Ok(())
     }
 
-    /// Lets go of what the buffer held that is freed as this one of all.
+    /// Lets go of what a buffer held: the one with this number among the freed ones.
     fn let_go(&mut self, at: u32, origin: Origin) -> Outcome
         ensures messages { self.new.messages ≡ self.old.messages }
         ensures sends { self.new.sends ≡ self.old.sends }
@@ -263,8 +263,8 @@ fn sent_of(origin: Origin, transaction: Transaction<'_>, generation: Option<u32>
     }
 }
 
-/// The path of a delivery: that of a reply to an unknown call, until the calls are found, if it is
-/// one.
+/// The path of a delivery. That of a reply is the path of replies to unknown calls, until the calls
+/// are found.
 fn path_of(upid: Upid, transaction: Transaction<'_>, oneway: bool) -> Path {
     match transaction.carrier.kind {
         Kind::BrReply => unknown_path(upid),

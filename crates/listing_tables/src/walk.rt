@@ -95,8 +95,7 @@ impl<F: Write + Drop, R: Write + Drop, O: Write + Drop, C: Write + Drop> Streams
     }
 }
 
-/// Finishes two of them, in this order. What is left at an error is dropped by a call: dropped field
-/// by field, the proof takes several times as long.
+/// Finishes two writers of rows, in this order.
 fn finish_both<F: Write + Drop, S: Write + Drop>(
     first: RowWriter<F>,
     second: RowWriter<S>,
