@@ -17,7 +17,8 @@ FOLDER = BUILD.CACHE / "refused"
 # How many days a file is kept that no run asks for.
 MOST_DAYS = 60
 # The code that says what a check of a stack has shown.
-JUDGED_BY = ("checks/auditor/wrong.py", "checks/kit/proving.py")
+JUDGED_BY = ("checks/auditor/wrong.py", "checks/auditor/bare.py", "checks/auditor/functions.py",
+             "checks/kit/proving.py")
 
 
 class Before(NamedTuple):

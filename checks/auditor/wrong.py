@@ -16,12 +16,13 @@ does not read, with the function as `rt check` names it after the crate:
 
     # goal: returns-clause-each of answers::open_files
 
-Edits of different functions go into one check, which proves these functions and those that they call, over the
-libraries that `rt ci` or crates/build has kept of the crates below; a library that is not kept is made first. An edit
-is refused if a function that it changes reads `no proof` or `not proved` by itself. Whatever else comes of an edit
-beside others, it is tried once more alone: the other function may be one that it calls, or keep the crate from being
-read. An edit of no function, for example of a constant or of a definition, has a check of its own, of the whole crate;
-a lemma that is not proved then is a goal too, of each function that has no proof by itself.
+Edits of different functions go into one check, over the libraries that `rt ci` or crates/build has kept of the crates
+below; a library that is not kept is made first. The check goes by the contracts of all functions that are not changed:
+in its copy of the crate they have no body, and a hole in place of their proof. An edit is refused if a function that it
+changes reads `no proof` or `not proved` by itself. Whatever else comes of an edit beside others, it is tried once more
+alone: the other function may be one that it calls, or keep the crate from being read. An edit of no function, for
+example of a constant or of a definition, has a check of its own, of the whole crate with all its proofs; a lemma that
+is not proved then is a goal too, of each function that has no proof by itself.
 
 A body that is refused only because its proof names what the function no longer has shows nothing about a clause, and
 counts as not refused: keep the names, or mend the proof in the edit.
@@ -29,7 +30,7 @@ counts as not refused: keep the names, or mend the proof in the edit.
 For each edit a line says what came of it, with the goals that were left. The status is 1 if an edit was not refused, or
 not at the goal that it names, or with --all names none; 64 for another command line. With --all the last line says how
 many were tried. As many checks run at a time as there are processors and memory. A crate takes as many checks as the
-function with most edits has edits.
+function with most edits has edits, and a check has at most MOST_EDITS.
 """
 
 import contextlib
@@ -40,15 +41,15 @@ import sys
 import tempfile
 import time
 from concurrent.futures import FIRST_COMPLETED, Future, ThreadPoolExecutor, wait
-from typing import Iterator, NamedTuple
+from typing import Collection, Iterator, NamedTuple
 
+from checks.auditor.bare import keep_only
+from checks.auditor.functions import function_at, homes_of, lines_of
 from checks.auditor.refused_before import Before, RefusedBefore
 from checks.kit.checking import own_room
 from checks.kit.programs import ROOT, edits_of
 from checks.kit.proving import Libraries
 
-ITEM = re.compile(r"^( {0,4})(?:pub(?:\([a-z]+\))? )?(?:(?:const|final|ghost|unsafe) )*"
-                  r"(fn|struct|enum|impl|trait|const|static|use|type|mod)\b ?(\w*)", re.MULTILINE)
 FN = re.compile(r"^fn (\S+): (.*)$", re.MULTILINE)
 CALLS = re.compile(r"it calls|it passes|a call of")
 # A declaration that is refused in a file of lemmas, which belongs to no function.
@@ -58,6 +59,10 @@ LOST = re.compile(r"has no field|is not in scope")
 OPEN = re.compile(r"did not prove ((?:`[^`]+`(?:, | and )?)+)")
 GOAL = re.compile(r"^# goal:(.*)$", re.MULTILINE)
 NAMED = re.compile(r" (\S+) of (\S+)")
+
+
+# A check of this many takes long enough that what it loads first no longer counts, and several can run side by side.
+MOST_EDITS = 15
 
 
 class Goal(NamedTuple):
@@ -134,63 +139,6 @@ def applied(edit: Edit, texts: dict[str, str], folder: pathlib.Path) -> tuple[di
     return made, changed
 
 
-def modules_of(file: str) -> list[str]:
-    return [it for it in file.removeprefix("src/").removesuffix(".rt").split("/") if it not in ("lib", "main", "mod")]
-
-
-def homes_of(folder: pathlib.Path) -> dict[str, list[str]]:
-    """For each type of a crate the modules that it is in."""
-    homes: dict[str, list[str]] = {}
-    for path in sorted((folder / "src").rglob("*.rt")):
-        for it in ITEM.finditer(path.read_text("utf-8")):
-            if it[2] in ("struct", "enum") and not it[1]:
-                homes.setdefault(it[3], modules_of(path.relative_to(folder).as_posix()))
-    return homes
-
-
-def closed_at(text: str, start: int) -> int:
-    """Where the generics that begin at `start` are closed; `start` itself if none begin there."""
-    depth = 0
-    for at in range(start, len(text)):
-        depth += (text[at] == "<") - (text[at] == ">" and text[at - 1] != "-")
-        if depth == 0:
-            return at + (at > start)
-    return start
-
-
-def words_of(text: str) -> list[str]:
-    """The names in a type, with `Ref` for each `&`, without lifetimes and without paths before names."""
-    return re.findall(r"(?<!['\w])\w+(?!\w|::)", text.replace("&", " Ref "))
-
-
-def owner_of(head: str) -> tuple[str, str]:
-    """From the head of an impl or a trait: the name that `rt` gives it; and for an impl without a trait the type."""
-    _, word, rest = re.split(r"^(?:pub(?:\([a-z]+\))? )?(impl|trait)\b *", head, maxsplit=1)
-    if word == "trait":
-        return re.split(r"\W", rest)[0], ""
-    end = closed_at(rest, 0)
-    parameters = set(re.findall(r"(?:^<|, *)(?:const )?(\w+)", rest[:end]))
-    of, _, type_name = re.split(r"\bwhere\b", rest[end:])[0].strip().rpartition(" for ")
-    if of:
-        named = [it for it in words_of(type_name) + words_of(of) if it not in parameters]
-        return "".join(it[:1].upper() + it[1:] for it in named), ""
-    own, *arguments = words_of(type_name)
-    return (own if set(arguments) <= parameters else "+".join([own, *arguments])), own
-
-
-def function_at(file: str, text: str, end: int, homes: dict[str, list[str]]) -> set[str]:
-    """The function that the text before `end` belongs to, as `rt check` names it after the crate; or none."""
-    before = [it for it in ITEM.finditer(text) if it.start() < end]
-    if not before or before[-1][2] != "fn":
-        return set()
-    path, name = modules_of(file), before[-1][3]
-    owner = [it for it in before if it[2] in ("impl", "trait") and not it[1]] if before[-1][1] else []
-    if owner:
-        named, own = owner_of(text[owner[-1].start():text.index("{", owner[-1].start())])
-        path = [*homes.get(own, path), named]
-    return {"::".join([*path, name])}
-
-
 def edited_of(told: str, changed: set[str]) -> str:
     """The edited function that `rt` names, itself or by a closure in it; or nothing."""
     plain = re.sub(r"(^|::)fn::", r"\1", told, count=1)
@@ -218,20 +166,6 @@ def goals_of(function: str, said: str, lines: tuple[str, int, int]) -> tuple[dic
     return found, lost
 
 
-def lines_of(function: str, texts: dict[str, str], homes: dict[str, list[str]]) -> tuple[str, int, int]:
-    """The file of an edited function, and its first and its last line there."""
-    for file, text in texts.items():
-        starts = [*ITEM.finditer(text)]
-        for number, it in enumerate(starts):
-            if it[2] == "fn" and function_at(file, text, it.end(), homes) == {function}:
-                behind = starts[number + 1].start() if number + 1 < len(starts) else len(text)
-                # What comes before the next item, for example its comment, belongs to that item.
-                close = re.compile(rf"^{it[1]}(?:\{{?\}}|\S.*;)$", re.MULTILINE).search(text, it.end(), behind)
-                end = close.end() if close else behind
-                return file, text.count("\n", 0, it.start()) + 1, text.count("\n", 0, end) + 1
-    return "", 0, 0
-
-
 def sources_of(folder: pathlib.Path, texts: dict[str, str]) -> dict[str, str]:
     """Each file of a crate's src/, the files of an edit first, with the edit."""
     paths = [it.relative_to(folder).as_posix() for it in sorted((folder / "src").rglob("*.rt"))]
@@ -246,7 +180,8 @@ def stacked(crate: str, edits: list[Edit]) -> tuple[Stack, list[Edit]]:
     names: set[str] = set()
     for edit in edits:
         found = applied(edit, texts, folder_of(crate))
-        if found and not (found[1] & names) and (not taken or found[1] and taken[0][1]):
+        fits = found and not found[1] & names and (not taken or found[1] and taken[0][1] and len(taken) < MOST_EDITS)
+        if found and fits:
             texts, changed = found
             names |= changed
             taken.append((edit, changed))
@@ -271,11 +206,16 @@ def folder_of(crate: str) -> pathlib.Path:
 
 
 def checked(stack: Stack, libraries: Libraries, room: pathlib.Path) -> str:
-    """What the prover says of a copy of the crate with these edits: of the functions that they change, or of all
-    functions if they change none, or if it has another name for one that is alone."""
-    with own_copy(stack, room) as copy:
-        said = libraries.check(stack.crate, copy, stack.functions)
-        if len(stack.edits) == 1 and stack.functions and not FN.search(said):
+    """What the prover says of a copy of the crate with these edits: of the functions that they change, over the
+    contracts of the others; or of all functions if they change none, or if it has another name for one that is
+    alone."""
+    said = ""
+    if stack.functions:
+        with own_copy(stack, room) as copy:
+            keep_only(stack.crate, copy, set(stack.functions))
+            said = libraries.check(stack.crate, copy, stack.functions)
+    if not stack.functions or len(stack.edits) == 1 and not FN.search(said):
+        with own_copy(stack, room) as copy:
             said = libraries.check(stack.crate, copy, [])
     return said
 
@@ -305,7 +245,7 @@ def judged(crate: str, changed: set[str], said: str, sources: dict[str, str], ho
         return refused_anywhere(by_itself, said, sources, homes) if by_itself else Verdict("proved", "")
     ours = {it: edited_of(it, changed) for it in lacking if edited_of(it, changed)}
     if ours:
-        return refused_at(ours, by_itself, said, sources, homes)
+        return refused_at(ours, lacking, by_itself.keys(), said, sources, homes)
     return Verdict("proved", "" if changed & told.keys() else f"no line of {', '.join(changed)}")
 
 
@@ -314,24 +254,24 @@ def refused_anywhere(by_itself: dict[str, str], said: str, sources: dict[str, st
     """What is said of an edit of no function: a lemma that is not proved any more is a goal of each function that has
     no proof by itself."""
     lemmas = [(name, why) for name, why in LEMMA.findall(said) if not LOST.search(why)]
-    verdict = refused_at({it: it for it in by_itself}, by_itself, said, sources, homes)
+    verdict = refused_at({it: it for it in by_itself}, by_itself, by_itself.keys(), said, sources, homes)
     goals = [Goal(name, function) for function in by_itself for name, _ in lemmas]
     shown = f"; lemmas: {', '.join(name for name, _ in lemmas)}" if lemmas else ""
     return verdict._replace(why=verdict.why + shown, goals=verdict.goals + goals)
 
 
-def refused_at(ours: dict[str, str], by_itself: dict[str, str], said: str, sources: dict[str, str],
-               homes: dict[str, list[str]]) -> Verdict:
-    """What is said of functions that have no proof, each with the edited function that it is a part of."""
+def refused_at(ours: dict[str, str], lacking: dict[str, str], by_itself: Collection[str], said: str,
+               sources: dict[str, str], homes: dict[str, list[str]]) -> Verdict:
+    """What is said of functions that have no proof, each with the edited function that it is a part of. `lacking` has
+    the lines of all functions without a proof, and `by_itself` names those that do not only call another of them."""
     left = {it: goals_of(function, said, lines_of(function, sources, homes)) for it, function in ours.items()}
-    for it, what in by_itself.items():
-        for names in OPEN.findall(what) if it in ours else []:
+    for it in ours:
+        for names in OPEN.findall(lacking[it]):
             left[it][0].update(dict.fromkeys(re.findall(r"`([^`]+)`", names), ""))
-    # A function that calls another wrong body is refused by itself if it has goals of its own.
+    # A function that calls another wrong body, or one with a hole, is refused by itself if it has goals of its own.
     lost = [it for it in ours if left[it][1] and not left[it][0]]
     found = [it for it in ours if it not in lost and (it in by_itself or left[it][0])]
-    shown = {it: "; ".join(f"{goal}{note}" for goal, note in left[it][0].items()) or by_itself.get(it, "")
-             for it in ours}
+    shown = {it: "; ".join(f"{goal}{note}" for goal, note in left[it][0].items()) or lacking[it] for it in ours}
     if found:
         goals = [Goal(name, ours[it]) for it in found for name in left[it][0]]
         return Verdict("refused", "; ".join(f"`{it}`: {shown[it]}"[:300] for it in found), list(dict.fromkeys(goals)))

@@ -57,10 +57,10 @@ class Libraries:
 
     def check(self, crate: str, folder: pathlib.Path, functions: list[str]) -> str:
         """What the prover says of a crate with the sources in this folder: of these functions and of those that they
-        call, or of all functions if there are none."""
+        call, past holes in proofs; or of all functions if there are none."""
         words = ["setpriv", "--pdeathsig", "KILL", f"{self.toolchain.folder}/bin/rattle", "check"]
         words += [*BUILD.words_over_libraries(self.crates[crate], self.toolchain), "--jobs", "1"]
-        words += [word for name in functions for word in ("--only", name)]
+        words += [word for name in functions for word in ("--only", name)] + ["--allow-holes"] * bool(functions)
         ended = subprocess.run(words, cwd=folder, stdin=subprocess.DEVNULL, stdout=subprocess.PIPE,
                                stderr=subprocess.STDOUT, encoding="utf-8", errors="replace")
         return ended.stdout
