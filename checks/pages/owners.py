@@ -15,7 +15,7 @@ FACTS = {
         ("recorder/adb/next_command.py", r"MOST_TOGETHER = ([\d_]+)"),
         ("packager/completions.zsh", r"--size\[most bytes of a file\]:65536 to (\d+):")),
     "the most files of a capture": (
-        ("crates/audit_program/src/command_line.rt", r"MOST_FILES: usize = (\d+);"),
+        ("crates/audit_words/src/command_line.rt", r"MOST_FILES: usize = (\d+);"),
         ("recorder/parts.h", r"#define MOST_FILES_TOGETHER (\d+)u"),
         ("recorder/adb/next_command.py", r"MOST_FILES = (\d+)")),
 }

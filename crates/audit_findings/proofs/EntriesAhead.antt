@@ -18,8 +18,7 @@ use Rattle.audit_findings.specs.Entries.{AddsEntries, AreChosen, AreEntriesAt, S
 use Rattle.audit_findings.specs.Frames.{AreGoodFrames}
 use Rattle.audit_findings.specs.Kept.{places_of}
 use Rattle.audit_findings.proofs.FrameLaws.{events-append, events_after, events_before, first_same}
-use Rattle.capture_frame.proofs.Pairs.{pairs_head}
-use Rattle.audit_findings.proofs.Rising.{pairs_before}
+use Rattle.capture_frame.proofs.Pairs.{pairs_before, pairs_head}
 use Rattle.summary_law.specs.Fits.{all_halves, pairs_halves}
 
 -- how many attachment bytes a frame has

@@ -8,7 +8,6 @@ use Rattle.event_core.specs.Events.{EventRead, events_of, events_of_frames, proc
 use Rattle.event_core.specs.Reading.{event_text}
 use Rattle.event_core.specs.declared.event.Event.{Event}
 use Rattle.summary_law.proofs.ReadLaws.{items_rise}
-use Rattle.process_ledgers.specs.EachProcess.{SumsOrder, order_item}
 use Rattle.process_ledgers.specs.Processes.{process_of_placed}
 use Rattle.summary_law.specs.InOrder.{SumsInOrder}
 use Rattle.summary_law.specs.declared.nothing.Nothing.{Nothing}
@@ -21,6 +20,7 @@ use Rattle.summary_law.specs.declared.in_order.InOrder.{InOrder}
 use Rattle.summary_law.proofs.ReadLaws.{length-read, rising_read}
 use Rattle.summary_law.specs.ByKey.{EachFits, under}
 use Rattle.summary_law.specs.Fits.{PlacesRise}
+use Rattle.audit_findings.specs.EachProcess.{SumsOrder, order_item}
 use Rattle.audit_findings.specs.Ledgers.{AreFewEvents, AreFewGiven}
 use Rattle.audit_findings.proofs.FewLaws.{few_halves}
 use Rattle.audit_findings.proofs.FrameLaws.{events-append, events_with}

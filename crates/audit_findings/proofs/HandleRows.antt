@@ -11,14 +11,14 @@ use Rattle.capture_frame.specs.Process.{same_process}
 use Rattle.capture_frame.specs.declared.process.Process.{Process}
 use Rattle.capture_frame.specs.Envelope.{PlacedFrame}
 use Rattle.event_core.specs.Events.{EventRead, process_of}
-use Rattle.process_ledgers.specs.declared.processes.Processes.{Processes}
-use Rattle.process_ledgers.specs.EachProcess.{SumsEach}
 use Rattle.process_ledgers.specs.Processes.{events_in, processes_of}
 use Rattle.summary_law.specs.Readings.{chosen}
 use Rattle.summary_law.specs.declared.nothing.Nothing.{Nothing}
 use Rattle.summary_law.proofs.GatherLaws.{in_any}
 use Rattle.summary_law.proofs.Members.{In, Rises, in_middle, rises_from_pairs, same_lists}
 use Rattle.summary_law.proofs.ReadingLaws.{chosen-is, read-at, read-rises}
+use Rattle.audit_findings.specs.EachProcess.{SumsEach}
+use Rattle.audit_findings.specs.declared.processes.Processes.{Processes}
 use Rattle.audit_findings.specs.Entries.{AreChosen}
 use Rattle.audit_findings.specs.Places.{EventTest, RiseInPlace, passing_in, places_in}
 use Rattle.audit_findings.proofs.EventLists.{place_of_event}

@@ -1,3 +1,4 @@
+mod EachProcess
 mod Kept
 pub mod ObjectWalk
 pub mod FewLaws

@@ -19,10 +19,10 @@ use Rattle.summary_law.specs.Fed.{SumsPicked}
 use Rattle.summary_law.specs.InOrder.{SumsInOrder, firsts}
 use Rattle.summary_law.specs.declared.nothing.Nothing.{Nothing}
 use Rattle.process_ledgers.specs.Concerns.{concerned, concerns}
-use Rattle.process_ledgers.specs.EachProcess.{SumsOrder, order_item}
 use Rattle.process_ledgers.specs.ProcessLedgers.{SumsProcess}
 use Rattle.process_ledgers.specs.Processes.{process_of_placed, processes_of}
 use Rattle.process_ledgers.specs.declared.process_ledgers.ProcessLedgers.{ProcessLedgers}
+use Rattle.audit_findings.specs.EachProcess.{SumsOrder, order_item}
 use Rattle.audit_findings.proofs.GivenLaws.{order_next}
 use Rattle.audit_findings.proofs.EventLists.{IsKnown, each_known}
 

@@ -4,19 +4,12 @@ use Rattle.std.specs.Prelude.{All, AllPairs, filter}
 use Rattle.std.specs.List.{flat_map}
 use Rattle.std.specs.List.Sorted.{IsStrictlyIncreasing}
 use Rattle.std.proofs.lemmas.List.Concat.{flat_map-cons}
-use Rattle.std.proofs.lemmas.List.Elements.{All-append, All-cons, All-head, All-nil, All-tail}
+use Rattle.std.proofs.lemmas.List.Elements.{All-append, All-head, All-nil, All-tail}
 use Rattle.std.proofs.lemmas.List.Kept.{AllPairs-filter}
 use Rattle.capture_frame.proofs.Pairs.{pairs_append, pairs_head, pairs_map, pairs_nil, pairs_tail}
-use Rattle.summary_law.specs.Fits.{PlacesRise, all_halves}
+use Rattle.summary_law.specs.Fits.{PlacesRise}
 
 -- ---- each element, and every later one
-
--- an element, and each one before it
-pub pairs_before : {X : Type 0} (R : X → X → Type 0) (xs : List X) (y : X) (ys : List X) → AllPairs R (xs ++ y ∷ ys) → All (λ x. R x y) xs
-pairs_before R [] y ys all = All-nil (λ x. R x y)
-pairs_before R (x ∷ xs) y ys all =
-    All-cons (λ a. R a y) x xs (All-head (R x) y ys (all_halves (R x) xs (y ∷ ys) (pairs_head R x (xs ++ y ∷ ys) all)).1)
-    (pairs_before R xs y ys (pairs_tail R x (xs ++ y ∷ ys) all))
 
 -- what holds of each list holds in all of them
 pub all_flat : {X Y : Type 0} (P : Y → Type 0) (of : X → List Y) (xs : List X) → All (λ x. All P (of x)) xs → All P (flat_map of xs)

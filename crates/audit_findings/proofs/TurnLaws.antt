@@ -7,10 +7,11 @@ use Rattle.std.proofs.lemmas.List.{append-nil, map-append}
 use Rattle.capture_frame.specs.declared.process.Process.{Process}
 use Rattle.capture_frame.specs.Envelope.{PlacedFrame}
 use Rattle.event_core.specs.Events.{EventRead, events_of_frames}
-use Rattle.process_ledgers.specs.declared.processes.Processes.{Processes}
 use Rattle.summary_law.specs.declared.nothing.Nothing.{Nothing}
-use Rattle.process_ledgers.specs.EachProcess.{AreLedgersOf, SumsEach, ledgers_in}
+use Rattle.process_ledgers.specs.EachProcess.{AreLedgersOf}
 use Rattle.process_ledgers.specs.Processes.{processes_of}
+use Rattle.audit_findings.specs.EachProcess.{SumsEach, ledgers_in}
+use Rattle.audit_findings.specs.declared.processes.Processes.{Processes}
 use Rattle.audit_findings.specs.InTurn.{in_turn, process_row, rows_in}
 use Rattle.audit_findings.specs.declared.in_turn.ProcessRow.{ProcessRow}
 use Rattle.std.proofs.lemmas.List.Folds.{flat_map-map}

@@ -1,3 +1,4 @@
+pub mod EachProcess
 pub mod Frames
 pub mod Places
 pub mod Codes

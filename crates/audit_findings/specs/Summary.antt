@@ -5,8 +5,8 @@ use Rattle.capture_frame.specs.declared.process.Process.{Process}
 use Rattle.event_core.specs.Events.{events_of_frames}
 use Rattle.event_core.specs.Reading.{event_text}
 use Rattle.event_core.specs.declared.event.Event.{Event}
-use Rattle.process_ledgers.specs.EachProcess.{SumsOrder}
 use Rattle.process_ledgers.specs.Processes.{process_of_placed}
+use Rattle.audit_findings.specs.EachProcess.{SumsOrder}
 use Rattle.audit_findings.specs.Ledgers.{SumsFrames, SumsGiven}
 use Rattle.audit_findings.specs.declared.piece_summary.PieceSummary.{PieceSummary}
 

@@ -25,6 +25,13 @@ pub struct Sections<E> {
     pub processes: ProcessSections<E>,
 }
 
+impl Sections<u64> {
+    /// Drops them. What drops them itself has to prove once more that each part is dropped.
+    pub fn discard(self) {
+        drop(self);
+    }
+}
+
 /// What the report says of a capture: its frames, its numbers and its rows. Of a listed record the
 /// place is kept; the rest of its row is read again from the frames. Contracts see findings as their
 /// frames, which determine all else.
@@ -59,6 +66,11 @@ impl<'c> Findings<'c> {
         ensures { result ≡ frames.entry }
     {
         Findings { frames, sections }
+    }
+
+    /// Drops them, as `Sections::discard` does.
+    pub fn discard(self) {
+        drop(self);
     }
 
     /// The frames of the capture, in order.

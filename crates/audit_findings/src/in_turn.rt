@@ -3,12 +3,14 @@
 ghost use Rattle.std.specs.Prelude.{◌≡◌, ◌++◌, List, map, IfOk, OnOk};
 ghost use Rattle.capture_frame.specs.Envelope.{PlacedFrame};
 ghost use Rattle.event_core.specs.Events.{EventRead, events_of_frames};
-ghost use Rattle.process_ledgers.specs.EachProcess.{AreLedgersOf, SumsEach};
+ghost use Rattle.process_ledgers.specs.EachProcess.{AreLedgersOf};
 ghost use Rattle.process_ledgers.specs.Processes.{processes_of};
+ghost use Rattle.audit_findings.specs.EachProcess.{SumsEach};
 ghost use Rattle.audit_findings.specs.InTurn.{in_turn, process_row};
 
+use crate::processes::Processes;
 use capture_frame::Process;
-use process_ledgers::{ProcessLedgers, Processes};
+use process_ledgers::ProcessLedgers;
 use std::alloc::{AllocError, Global};
 
 /// A row of one process, as its ledger gives it.

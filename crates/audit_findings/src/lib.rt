@@ -28,6 +28,7 @@ mod pairs;
 mod piece_summary;
 mod places;
 mod process_sections;
+mod processes;
 mod record_counts;
 mod references;
 mod refused;

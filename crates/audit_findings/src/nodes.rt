@@ -2,13 +2,14 @@
 
 ghost use Rattle.std.specs.Prelude.{◌≡◌, List, IfOk};
 ghost use Rattle.capture_frame.specs.Envelope.{PlacedFrame};
-ghost use Rattle.process_ledgers.specs.EachProcess.{SumsEach};
+ghost use Rattle.audit_findings.specs.EachProcess.{SumsEach};
 ghost use Rattle.audit_findings.specs.Nodes.{node_references};
 
 use crate::in_turn::{ByProcess, rows_in_turn};
+use crate::processes::Processes;
 use crate::references::{Balance, References, references_of};
 use handle_ledger::NodeRow;
-use process_ledgers::{ProcessLedgers, Processes};
+use process_ledgers::ProcessLedgers;
 use std::alloc::{AllocError, Global};
 
 /// The rows of the nodes of a process.

@@ -2,16 +2,17 @@
 
 ghost use Rattle.std.specs.Prelude.{◌≡◌, List, IfOk};
 ghost use Rattle.capture_frame.specs.Envelope.{PlacedFrame};
-ghost use Rattle.process_ledgers.specs.EachProcess.{SumsEach};
 ghost use Rattle.event_core.specs.Events.{events_of_frames};
 ghost use Rattle.process_ledgers.specs.Processes.{processes_of};
+ghost use Rattle.audit_findings.specs.EachProcess.{SumsEach};
 ghost use Rattle.audit_findings.specs.InTurn.{in_turn};
 ghost use Rattle.audit_findings.specs.Oneway.{oneway_of};
 
 use crate::in_turn::{ByProcess, ProcessRow, rows_in_turn};
+use crate::processes::Processes;
 use crate::rows::Rows;
 use event_core::OnewayKey;
-use process_ledgers::{ProcessLedgers, Processes};
+use process_ledgers::ProcessLedgers;
 use std::alloc::{AllocError, Global};
 
 /// The oneway transactions that a process sends to a handle, or those that it receives: the key,

@@ -3,15 +3,16 @@
 ghost use Rattle.std.specs.Prelude.{◌≡◌, List, IfOk};
 ghost use Rattle.capture_frame.specs.Envelope.{PlacedFrame};
 ghost use Rattle.event_core.specs.Events.{events_of_frames};
-ghost use Rattle.process_ledgers.specs.EachProcess.{SumsEach};
+ghost use Rattle.audit_findings.specs.EachProcess.{SumsEach};
 ghost use Rattle.audit_findings.specs.Kept.{pairs_at_places};
 ghost use Rattle.audit_findings.specs.Places.{RiseInPlace, open_and_stray};
 
 use crate::open_and_stray::OpenAndStray;
 use crate::places::{ListsPlaces, places_of};
+use crate::processes::Processes;
 use crate::rows::Rows;
 use pending_ledger::Pending;
-use process_ledgers::{ProcessLedgers, Processes};
+use process_ledgers::ProcessLedgers;
 use std::alloc::{AllocError, Global};
 use std::marker::PhantomData;
 

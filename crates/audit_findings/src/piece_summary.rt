@@ -3,10 +3,10 @@
 ghost use Rattle.std.specs.Prelude.{List, [], OnOk};
 ghost use Rattle.capture_frame.specs.Cut.{shown_by};
 ghost use Rattle.capture_frame.specs.Envelope.{PlacedFrame, placed_frame};
-ghost use Rattle.process_ledgers.specs.EachProcess.{SumsEach};
 ghost use Rattle.process_ledgers.specs.ProcessLedgers.{SumsProcess};
 ghost use Rattle.summary_law.specs.Summary.{CanAdd, Adds};
 ghost use Rattle.transaction_view.specs.Grammar.{IsGood};
+ghost use Rattle.audit_findings.specs.EachProcess.{SumsEach};
 ghost use Rattle.audit_findings.specs.Frames.{AreGoodFrames, good_views_halves};
 ghost use Rattle.audit_findings.specs.Ledgers.{AreFewFrames};
 ghost use Rattle.audit_findings.specs.Summary.{SumsPiece, SumsSome, NamesProcess};
@@ -14,10 +14,11 @@ ghost use Rattle.audit_findings.specs.Summary.{SumsPiece, SumsSome, NamesProcess
 use crate::both::both;
 use crate::event_sums::EventSums;
 use crate::guesses::Guesses;
+use crate::processes::Processes;
 use crate::sequences::Sequences;
 use capture_frame::{Frame, Process, Thread};
 use event_core::Events;
-use process_ledgers::{ProcessLedgers, Processes};
+use process_ledgers::ProcessLedgers;
 use std::alloc::{AllocError, Global};
 use summary_law::{InOrder, Nothing, Summary};
 
@@ -34,6 +35,11 @@ pub struct PieceSummary<'c> {
 }
 
 impl<'c> PieceSummary<'c> {
+    /// Drops it, as `Sections::discard` does.
+    pub fn discard(self) {
+        drop(self);
+    }
+
     /// The processes of the frames, with their ledgers. A process without an event that concerns a
     /// ledger has `none`.
     pub(crate) fn processes<'a>(&'a self, none: &'a ProcessLedgers<'c>) -> Processes<'a, 'c>

@@ -3,13 +3,14 @@
 ghost use Rattle.std.specs.Prelude.{◌≡◌, List, map, IfOk};
 ghost use Rattle.capture_frame.specs.Envelope.{PlacedFrame};
 ghost use Rattle.event_core.specs.Events.{events_of_frames};
-ghost use Rattle.process_ledgers.specs.EachProcess.{SumsEach};
 ghost use Rattle.process_ledgers.specs.Processes.{processes_of};
+ghost use Rattle.audit_findings.specs.EachProcess.{SumsEach};
 ghost use Rattle.audit_findings.specs.Kept.{places_of};
 ghost use Rattle.audit_findings.specs.Places.{RiseInPlace, passing_events, places_in};
 
 use crate::joined::joined;
-use process_ledgers::{ProcessLedgers, Processes};
+use crate::processes::Processes;
+use process_ledgers::ProcessLedgers;
 use std::alloc::{AllocError, Global};
 
 /// A list of places that the ledgers of a process have.

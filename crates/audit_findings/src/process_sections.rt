@@ -3,7 +3,7 @@
 ghost use Rattle.std.specs.Prelude.{◌≡◌, List, map, IfOk};
 ghost use Rattle.capture_frame.specs.Envelope.{PlacedFrame};
 ghost use Rattle.event_core.specs.Events.{events_of_frames};
-ghost use Rattle.process_ledgers.specs.EachProcess.{SumsEach};
+ghost use Rattle.audit_findings.specs.EachProcess.{SumsEach};
 ghost use Rattle.audit_findings.specs.Findings.{process_sections};
 ghost use Rattle.audit_findings.specs.Handles.{handles_of_each};
 ghost use Rattle.audit_findings.specs.Kept.{processes_at_places};
@@ -19,10 +19,10 @@ use crate::open_and_stray::OpenAndStray;
 use crate::paired::{Strays, Unclosed, open_and_stray_of};
 use crate::pairs::{BufferPairs, ClearPairs, DeathPairs, Standing};
 use crate::places::{gathered, places_of};
+use crate::processes::Processes;
 use crate::references::References;
 use crate::rows::Rows;
 use handle_ledger::{HeldRow, NodeRow};
-use process_ledgers::Processes;
 use std::alloc::{AllocError, Global};
 
 /// What the report says of each process: the sections from `handles` to `clears`, and the rows of

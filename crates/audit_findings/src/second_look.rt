@@ -78,6 +78,11 @@ impl<'f, 'c> SecondLook<'f, 'c> {
         }
     }
 
+    /// Drops it, as `Sections::discard` does.
+    pub fn discard(self) {
+        drop(self);
+    }
+
     /// How many processes the frames have.
     pub fn process_count(&self) -> usize
         ensures { result ≡ length (processes_of self.now) }

@@ -9,8 +9,13 @@ use Rattle.summary_law.specs.Summary.{Adds, CanAdd, CanJoin, Joins}
 use Rattle.audit_findings.specs.Frames.{AreGoodFrames, good_frames_halves}
 use Rattle.audit_findings.specs.Summary.{SumsPiece}
 use Rattle.audit_findings.specs.declared.piece_summary.PieceSummary.{PieceSummary}
+use Rattle.audit_judge.specs.Jobs.{AreCut, AreSound}
+use Rattle.audit_judge.proofs.FaultLaws.{first_more}
 use Rattle.audit_join.specs.Shares.{SumsShare}
-use Rattle.audit_join.proofs.FaultLaws.{first_more}
+
+-- frames as they are cut, if their records and entries have no fault, are good frames
+pub good_cut : (frames : List PlacedFrame) → AreCut frames → AreSound frames → AreGoodFrames frames
+good_cut frames cut sound = record { few = cut.few; good = sound; apart = cut.apart }
 
 -- good frames that are split at a number are good on both sides
 pub good_sides : (frames : List PlacedFrame) (n : ℕ) → AreGoodFrames frames → AreGoodFrames (take n frames) × AreGoodFrames (drop n frames)

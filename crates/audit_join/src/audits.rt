@@ -1,27 +1,22 @@
 //! From a capture, or from its parts, to its findings or its first fault.
 
-ghost use Rattle.std.specs.Prelude.{◌≡◌, ◌<◌, ◌≤◌, ◌^◌, ◌∷◌, [], List, length, map, IfErr, IfOk, Ok, Err, Some};
+ghost use Rattle.std.specs.Prelude.{◌≡◌, ◌<◌, ◌≤◌, ◌^◌, ◌∷◌, [], List, length, map, IfErr, IfOk, Ok};
 ghost use Rattle.std.specs.List.{sum_by};
-ghost use Rattle.capture_frame.specs.declared.fault.Fault.{Fault};
 ghost use Rattle.capture_frame.specs.Envelope.{FrameText};
 ghost use Rattle.capture_frame.specs.Parts.{joined_frames};
-ghost use Rattle.transaction_view.specs.Grammar.{first_content_fault, frames_of_parts};
+ghost use Rattle.transaction_view.specs.Grammar.{frames_of_parts};
 ghost use Rattle.audit_findings.specs.Frames.{AreGoodFrames};
 ghost use Rattle.audit_findings.specs.Handles.{handles_of_each};
 ghost use Rattle.audit_findings.specs.Kept.{AreSectionsOf};
-ghost use Rattle.audit_join.specs.Audit.{AreMalformed, IsMalformed};
-ghost use Rattle.audit_join.specs.Jobs.{AreCut, AreSound};
-ghost use Rattle.audit_join.specs.Parts.{IsInPart, in_part};
+ghost use Rattle.audit_judge.specs.Audit.{AreMalformed, IsMalformed};
+ghost use Rattle.audit_judge.specs.Jobs.{AreCut, AreSound};
 ghost use Rattle.audit_join.specs.declared.limits.TheConstants.{CAPTURE_LIMIT};
 
-use crate::audit_error::{AuditError, PartsError};
-use crate::judging::judge;
 use crate::limits::CAPTURE_LIMIT;
 use crate::look_work::LookWork;
-use crate::part_places::part_of;
-use crate::piece::Piece;
 use crate::shares::sum_shares;
 use audit_findings::{Findings, ProcessHandles, SecondLook, Sections};
+use audit_judge::{AuditError, PartsError, Piece, judge_parts};
 use capture_frame::{FrameList, FrameSlice, PartCut, cut_parts};
 use claim_board::{Gate, NoGate, Stop, Workers, run_all};
 use std::alloc::{AllocError, Global};
@@ -55,32 +50,6 @@ pub fn audit_parts<'c, T: Threads + Sync, G: Gate + Sync>(
             judge_parts(rt, alloc, parts, &before.as_slice(), workers, piece, gate)?;
             Err(PartsError::Malformed(found))
         }
-    }
-}
-
-/// Judges frames of parts. The error is the first fault of the parts, or want of memory.
-fn judge_parts<T: Threads + Sync, G: Gate + Sync>(
-    rt: &T,
-    alloc: Global,
-    parts: &[&[u8]],
-    frames: &FrameSlice<'_, '_>,
-    workers: Workers,
-    piece: Piece,
-    gate: &G,
-) -> Result<(), PartsError>
-    requires few { length parts.now < 2 ^ 32 }
-    requires cut { AreCut frames.now }
-    requires there { (fault : Fault) → first_content_fault frames.now ≡ Some fault →
-        IsInPart (map (λ part. part.now) parts.now) fault.place
-        × (frames_of_parts (map (λ part. part.now) parts.now)
-        ≡ Err (in_part (map (λ part. part.now) parts.now) fault)) }
-    ensures sound { IfOk result (λ _. AreSound frames.now) }
-    ensures malformed { IfErr result (AreMalformed (map (λ part. part.now) parts.now)) }
-{
-    match judge(rt, alloc, frames, workers, piece, gate) {
-        Ok(()) => Ok(()),
-        Err(AuditError::Memory) => Err(PartsError::Memory),
-        Err(AuditError::Malformed(fault)) => Err(PartsError::Malformed(part_of(parts, fault))),
     }
 }
 
@@ -147,7 +116,7 @@ fn sections_of<'c, T: Threads + Sync>(
     match look_again(rt, alloc, &look, workers) {
         Ok(handles) => look.sections(handles.as_slice()),
         Err(error) => {
-            drop(look);
+            look.discard();
             Err(error)
         }
     }

@@ -44,6 +44,9 @@ pub(crate) trait Share: Sized {
             × ((front back : Self) × halved self.now front back × sums front first
             × sums back second) }
         ensures { IfOk result (sums self.now) };
+
+    /// Drops a sum.
+    fn discard(sum: Self::Sum);
 }
 
 /// The sum of this share. The share and the workers are halved as long as there are two of each.
@@ -55,7 +58,7 @@ pub(crate) fn sum_shares<R: Threads + Sync, S: Share + Sync + Drop>(
     workers: u64,
 ) -> Result<S::Sum, AllocError>
 where
-    S::Sum: Send + Drop,
+    S::Sum: Send,
     requires { S.fits share.now }
     ensures { IfOk result (S.sums share.now) }
 {
@@ -87,16 +90,19 @@ fn join_halves<S: Share>(
     first: Result<S::Sum, AllocError>,
     second: Result<S::Sum, AllocError>,
 ) -> Result<S::Sum, AllocError>
-where
-    S::Sum: Drop,
     requires { S.fits share.now
         × ((front back : S) × S.halved share.now front back
         × IfOk first (S.sums front) × IfOk second (S.sums back)) }
     ensures { IfOk result (S.sums share.now) }
 {
-    let first = first?;
-    let second = second?;
-    share.join(first, second)
+    match (first, second) {
+        (Ok(first), Ok(second)) => share.join(first, second),
+        (Ok(sum), Err(error)) | (Err(error), Ok(sum)) => {
+            S::discard(sum);
+            Err(error)
+        }
+        (Err(error), Err(_)) => Err(error),
+    }
 }
 
 impl<'f, 'c> Share for FrameSlice<'f, 'c> {
@@ -126,6 +132,10 @@ impl<'f, 'c> Share for FrameSlice<'f, 'c> {
     ) -> Result<PieceSummary<'c>, AllocError> {
         first.join(second)
     }
+
+    fn discard(sum: PieceSummary<'c>) {
+        sum.discard();
+    }
 }
 
 /// How many frames are in the first half: those that begin at or before the middle between the
@@ -150,7 +160,7 @@ fn sum_share<'c>(alloc: Global, frames: &FrameSlice<'_, 'c>) -> Result<PieceSumm
     match add_frames(&mut summary, frames) {
         Ok(()) => Ok(summary),
         Err(error) => {
-            drop(summary);
+            summary.discard();
             Err(error)
         }
     }

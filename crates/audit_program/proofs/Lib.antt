@@ -1,4 +1,1 @@
-pub mod RequestLemmas
 pub mod ProgramLemmas
-pub mod WordWalk
-pub mod WordLaws

@@ -5,8 +5,9 @@ use Rattle.audit_streams.specs.declared.failure.Failure.TheVariants.{Run}
 use Rattle.audit_streams.specs.declared.run_error.RunError.{RunError}
 use Rattle.audit_streams.specs.declared.run_error.RunError.TheVariants.{Memory, TooLarge, Read, Write, Open}
 use Rattle.audit_run.specs.Run.{given, none_given}
-use Rattle.audit_run.specs.declared.answers.Request.{Request}
-use Rattle.audit_program.specs.Program.{Ask, FailureLeaves, RunsOnFiles}
+use Rattle.audit_words.specs.declared.request.Request.{Request}
+use Rattle.audit_words.specs.CommandLine.{Ask}
+use Rattle.audit_program.specs.Program.{FailureLeaves, RunsOnFiles}
 
 pub failed_on_files : (bytes_of : Text → Option (List ℕ)) (words : List Text) (asked : Request) (old new : Option (List ℕ)) (error : RunError) → Ask words asked
     → RunsOnFiles bytes_of asked old new (Err error) → FailureLeaves bytes_of words old new (Run error)

@@ -1,4 +1,2 @@
-pub mod CommandLine
 pub mod Failure
 pub mod Program
-pub mod Words

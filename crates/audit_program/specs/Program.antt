@@ -12,24 +12,17 @@ use Rattle.audit_streams.specs.declared.run_error.RunError.{RunError}
 use Rattle.audit_streams.specs.declared.run_error.RunError.TheVariants.{Memory}
 use Rattle.audit_streams.specs.KnownBytes.{AppendsPrefix}
 use Rattle.transaction_view.specs.Grammar.{frames_of_parts}
-use Rattle.audit_run.specs.Question.{answer_to, names_of, reading_status}
+use Rattle.audit_words.specs.Request.{names_of}
+use Rattle.audit_words.specs.CommandLine.{Ask, AskForNothing}
+use Rattle.audit_run.specs.Question.{answer_to, reading_status}
 use Rattle.audit_run.specs.PartRuns.{FilesGive}
 use Rattle.audit_run.specs.Run.{RunEnds}
 use Rattle.audit_run.specs.Store.{unknown}
-use Rattle.audit_run.specs.declared.answers.Request.{Request}
+use Rattle.audit_words.specs.declared.request.Request.{Request}
 use Rattle.audit_streams.specs.declared.failure.Failure.{Failure}
 use Rattle.audit_streams.specs.declared.failure.Failure.TheVariants.{Usage, Run}
-use Rattle.audit_program.specs.CommandLine.{AreTaken, WordsAskFor}
 use Rattle.audit_streams.specs.Failure.{line_of, status_of}
 use Rattle.audit_program.specs.Failure.{failure_of_words}
-
--- clap takes the words, and they ask for this request
-abbrev pub Ask : List Text → Request → Type 0
-Ask words asked = AreTaken words × WordsAskFor words asked
-
--- the words ask for nothing, or clap does not take them
-abbrev pub AskForNothing : List Text → Type 0
-AskForNothing words = (asked : Request) → ¬ Ask words asked
 
 -- A run on the files of a request, in the order in which it names them, ends so (`RunEnds`). `bytes_of` gives the bytes
 -- of the file of a name, if it is known which these are.

@@ -2,9 +2,9 @@
 ghost use Rattle.std.specs.Prelude.{map, string_bytes, IfErr, IfOk};
 ghost use Rattle.audit_program.specs.Program.{AnswersWords, FailureLeaves};
 
-use crate::command_line::{matches_of, request_of};
 use audit_run::{Store, answer_files};
 use audit_streams::Failure;
+use audit_words::{free, matches_of, request_of};
 use std::alloc::Global;
 use std::io::Write;
 use std::thread::Threads;
@@ -26,8 +26,10 @@ pub(crate) fn answer_words<T: Threads + Sync, S: Store, W: Write>(
 {
     let matches = matches_of(alloc, words)?;
     let Some(request) = request_of(&matches) else {
+        free(matches);
         return Err(Failure::Usage);
     };
-    let status = answer_files(rt, alloc, store, request, out)?;
-    Ok(status)
+    let status = answer_files(rt, alloc, store, request, out);
+    free(matches);
+    Ok(status?)
 }

@@ -2,8 +2,6 @@
 #![tactic(auto)]
 
 mod answers;
-mod command_line;
-pub mod laws;
 mod status;
 
 pub use crate::status::{Ending, ended, program, program_on};

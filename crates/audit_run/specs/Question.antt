@@ -1,15 +1,12 @@
 -- The answer to a question about the parts of a capture, and the status that goes with it (docs/REPORT.md).
-use Rattle.std.specs.Prelude.{◌≡◌, ◌≢◌, ℕ, List, [], ◌∷◌, map, Result, Ok, Err}
+use Rattle.std.specs.Prelude.{◌≡◌, ◌≢◌, ℕ, List, [], ◌∷◌, Result, Ok, Err}
 use Rattle.report_text.specs.Answers.{answer, first_fault_line}
-use Rattle.audit_join.specs.declared.piece.Piece.{Piece}
+use Rattle.audit_judge.specs.declared.piece.Piece.{Piece}
 use Rattle.claim_board.specs.declared.workers.Workers.{Workers}
-use Rattle.audit_run.specs.declared.answers.Question.{Question}
-use Rattle.audit_run.specs.declared.answers.Question.TheVariants.{Report, FirstFault}
-use Rattle.audit_run.specs.declared.answers.Request.{Request}
-
--- the names of the files of a request, in order
-abbrev pub names_of : Request → List (List ℕ)
-names_of request = map (λ file. file.now) request.files.now
+use Rattle.audit_words.specs.declared.request.Question.{Question}
+use Rattle.audit_words.specs.declared.request.Question.TheVariants.{Report, FirstFault}
+use Rattle.audit_words.specs.declared.request.Request.{Request}
+use Rattle.audit_words.specs.Request.{names_of}
 
 -- the request is for the report on the one file of this name, by more than one worker
 pub record IsByAll (request : Request) (name : List ℕ) : Type 0 where

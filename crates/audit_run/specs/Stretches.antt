@@ -1,7 +1,7 @@
 -- What becomes of an error where a capture is read and reported on in stretches. Any other one is told.
 use Rattle.std.specs.Prelude.{Option, Some, None, Result, Ok, Err}
-use Rattle.audit_join.specs.declared.audit_error.AuditError.{AuditError}
-use Rattle.audit_join.specs.declared.audit_error.AuditError.TheVariants.{Memory as WasMemory, Malformed}
+use Rattle.audit_judge.specs.declared.audit_error.AuditError.{AuditError}
+use Rattle.audit_judge.specs.declared.audit_error.AuditError.TheVariants.{Memory as WasMemory, Malformed}
 use Rattle.audit_streams.specs.declared.run_error.RunError.{RunError}
 use Rattle.audit_streams.specs.declared.run_error.RunError.TheVariants.{Memory, Open}
 

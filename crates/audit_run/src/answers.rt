@@ -4,9 +4,10 @@ ghost use Rattle.std.specs.List.{AllZip};
 ghost use Rattle.transaction_view.specs.Grammar.{frames_of_parts};
 ghost use Rattle.audit_join.specs.declared.limits.TheConstants.{CAPTURE_LIMIT};
 ghost use Rattle.audit_streams.specs.Stretches.{AreStretchesOf, IsStretchError};
+ghost use Rattle.audit_words.specs.Request.{names_of};
 ghost use Rattle.audit_run.specs.PartRuns.{AreOfOneFile, FilesGive, IsOpeningError, ReadersGive};
 ghost use Rattle.audit_run.specs.Stretches.{unless_not_opened};
-ghost use Rattle.audit_run.specs.Question.{IsByAll, answer_to, names_of, reading_status};
+ghost use Rattle.audit_run.specs.Question.{IsByAll, answer_to, reading_status};
 ghost use Rattle.audit_run.specs.Run.{RunEnds};
 ghost use Rattle.audit_run.specs.Store.{HasLeft};
 
@@ -16,26 +17,11 @@ use crate::stretch_runs::report_stretches;
 use crate::written::PartsWritten;
 use audit_join::{CAPTURE_LIMIT, Piece};
 use audit_streams::{RunError, SharedFiles, read_stretches};
+use audit_words::{Question, Request};
 use claim_board::{NoGate, Workers};
 use std::alloc::Global;
 use std::io::{Read, Write};
 use std::thread::Threads;
-
-/// What is asked of a capture.
-#[derive(Clone, Copy)]
-pub enum Question {
-    /// The report, made by this many workers, each of which takes this many frames at a time.
-    Report { workers: Workers, piece: Piece },
-    /// The first fault, or that there is none.
-    FirstFault,
-}
-
-/// What is asked, and the names of the files that hold the parts of the capture, in order.
-#[derive(Clone, Copy)]
-pub struct Request<'a> {
-    pub question: Question,
-    pub files: &'a [&'a str],
-}
 
 /// Opens the files that the request names, in order and all before the first is read, and answers
 /// its question as `answer` does.

@@ -9,7 +9,7 @@ mod store;
 mod stretch_runs;
 mod written;
 
-pub use crate::answers::{Question, Request, answer, answer_files};
+pub use crate::answers::{answer, answer_files};
 pub use crate::part_runs::{run_first_fault_parts, run_parts};
 pub use crate::runs::{run, run_first_fault, run_gated, write_first_fault};
 pub use crate::store::{HostFiles, Store};
@@ -18,4 +18,5 @@ pub use audit_join::{CAPTURE_LIMIT, Piece};
 pub use audit_streams::{
     FoundFile, RunError, SharedFiles, read_capture, read_parts, read_stretches, write_text,
 };
+pub use audit_words::{Question, Request};
 pub use claim_board::{Gate, NoGate, Workers};

@@ -6,7 +6,7 @@ ghost use Rattle.std.specs.Result.{result_err};
 ghost use Rattle.capture_frame.specs.Units.{IsBytes};
 ghost use Rattle.transaction_view.specs.Grammar.{frames_of_parts};
 ghost use Rattle.audit_findings.specs.Findings.{findings_of};
-ghost use Rattle.audit_join.specs.Audit.{AreMalformed};
+ghost use Rattle.audit_judge.specs.Audit.{AreMalformed};
 ghost use Rattle.audit_join.specs.declared.limits.TheConstants.{CAPTURE_LIMIT};
 ghost use Rattle.report_text.specs.Fault.{part_fault_line};
 ghost use Rattle.report_text.specs.Answers.{answer, first_fault_line};
@@ -179,7 +179,7 @@ fn report_of<T: Threads + Sync>(
     ensures { IfOk result (λ text. string_bytes text ≡ report_text (findings_of found.entry)) }
 {
     let text = text(rt, alloc, &found);
-    drop(found);
+    found.discard();
     text
 }
 

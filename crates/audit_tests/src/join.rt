@@ -38,7 +38,7 @@ fn two_pieces_meet(rt: HostRuntime) -> Result<(), Fail> {
     let found = audit(&rt, rt.alloc(), capture, two, one, &gate)?;
     // The handle is released before it is acquired.
     expect_handle(&rt, &found, 3, Count { sum: 0, low: -1 });
-    drop(found);
+    found.discard();
     assert!(rt; gate.was_held());
     Ok(())
 }

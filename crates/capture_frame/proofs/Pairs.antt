@@ -3,7 +3,7 @@ use Rattle.std.proofs.Common.{◌≡◌, ℕ, suc, ◌<◌, ◌≤◌, inl, inr,
 use Rattle.std.specs.List.Sorted.{IsNonDecreasingBy}
 use Rattle.std.proofs.lemmas.Bool.{cases_lt}
 use Rattle.std.proofs.lemmas.List.{get_or-map, length-map}
-use Rattle.std.proofs.lemmas.List.Elements.{All-append, All-head, All-map, All-tail}
+use Rattle.std.proofs.lemmas.List.Elements.{All-append, All-cons, All-head, All-map, All-nil, All-tail}
 use Rattle.std.proofs.lemmas.List.Kept.{AllPairs-cons}
 
 module _ {X : Type 0} (R : X → X → Type 0) where
@@ -24,6 +24,18 @@ module _ {X : Type 0} (R : X → X → Type 0) where
   pairs_append (x ∷ xs) ys first second between =
       AllPairs-cons R x (xs ++ ys) (All-append (R x) xs ys (pairs_head x xs first) (All-head (λ a. All (R a) ys) x xs between))
       (pairs_append xs ys (pairs_tail x xs first) second (All-tail (λ a. All (R a) ys) x xs between))
+
+-- what holds of each element holds of one after others
+all_after : {X : Type 0} (P : X → Type 0) (xs : List X) (y : X) (ys : List X) → All P (xs ++ y ∷ ys) → P y
+all_after P [] y ys all = All-head P y ys all
+all_after P (x ∷ xs) y ys all = all_after P xs y ys (All-tail P x (xs ++ y ∷ ys) all)
+
+-- an element, and each one before it
+pub pairs_before : {X : Type 0} (R : X → X → Type 0) (xs : List X) (y : X) (ys : List X) → AllPairs R (xs ++ y ∷ ys) → All (λ x. R x y) xs
+pairs_before R [] y ys all = All-nil (λ x. R x y)
+pairs_before R (x ∷ xs) y ys all =
+    All-cons (λ a. R a y) x xs (all_after (R x) xs y ys (pairs_head R x (xs ++ y ∷ ys) all))
+    (pairs_before R xs y ys (pairs_tail R x (xs ++ y ∷ ys) all))
 
 -- what is made of each element
 pub pairs_map : {X Y : Type 0} (R : Y → Y → Type 0) (f : X → Y) (xs : List X) → AllPairs (λ a b. R (f a) (f b)) xs → AllPairs R (map f xs)

@@ -1,30 +1,22 @@
 -- The ledgers over those events of a process that concern a ledger are the ledgers of the process among all events.
 use Rattle.std.proofs.Common.{◌≡◌, Bool, true, false, cond, List, [], ◌∷◌, map, Option, Some, None, refl, sym, ap, subst, ◌∙◌}
 use Rattle.std.specs.List.{filter_map, cons_option}
-use Rattle.std.specs.Map.{lookup}
-use Rattle.std.specs.Option.{unwrap_or}
-use Rattle.std.proofs.lemmas.Simd.{map-map}
-use Rattle.capture_frame.specs.Envelope.{PlacedFrame}
 use Rattle.std.specs.Ordering.{nat_cmp}
-use Rattle.std.specs.Prelude.{⊤}
 use Rattle.binder_code.specs.declared.record_kind.Kind.{Kind}
 use Rattle.binder_code.specs.declared.record_kind.Kind.TheVariants.{BcTransaction, BcTransactionSg, BcFreeBuffer, BcIncrefs, BcAcquire, BcRelease, BcDecrefs, BcIncrefsDone, BcAcquireDone, BcRequestDeathNotification, BcClearDeathNotification, BcDeadBinderDone, BrTransaction, BrTransactionSecCtx, BrReply, BrIncrefs, BrAcquire, BrRelease, BrDecrefs, BrDeadBinder, BrClearDeathNotificationDone}
 use Rattle.capture_frame.specs.Process.{same_process}
 use Rattle.capture_frame.specs.declared.process.Process.{Process}
-use Rattle.event_core.specs.Events.{EventRead, process_of, events_of_frames}
+use Rattle.event_core.specs.Events.{EventRead, process_of}
 use Rattle.event_core.specs.Reading.{event_text}
 use Rattle.event_core.specs.declared.event.Event.{Event}
 use Rattle.handle_ledger.specs.Handles.{HandleLedgerSums}
 use Rattle.handle_ledger.specs.Nodes.{NodeLedgerSums}
 use Rattle.pending_ledger.specs.Sums.{PendingSums, RequestsSums}
-use Rattle.summary_law.specs.ByKey.{items_of, IsOwn}
-use Rattle.summary_law.specs.Fed.{SumsPicked}
-use Rattle.summary_law.specs.InOrder.{SumsInOrder, firsts}
-use Rattle.process_ledgers.specs.declared.processes.Processes.{Processes}
+use Rattle.summary_law.specs.ByKey.{items_of}
 use Rattle.process_ledgers.specs.declared.process_ledgers.ProcessLedgers.{ProcessLedgers}
 use Rattle.process_ledgers.specs.Concerns.{concerns, concerned}
 use Rattle.process_ledgers.specs.Items.{buffer_pending_of, clear_item_of, death_item_of, handle_item_of, node_item_of, oneway_item_of, request_item_of}
-use Rattle.process_ledgers.specs.EachProcess.{AreLedgersOf, SumsEach, SumsOrder, ledgers_in, order_item}
+use Rattle.process_ledgers.specs.EachProcess.{AreLedgersOf}
 use Rattle.process_ledgers.specs.Oneway.{OnewaySums}
 use Rattle.process_ledgers.specs.ProcessLedgers.{SumsProcess, picked_by}
 use Rattle.process_ledgers.specs.Processes.{events_in, items_of_process}
@@ -108,22 +100,4 @@ own_ledgers ledgers q events sums = record {
   deaths = subst (PendingSums nat_cmp ledgers.deaths.own) (own_items death_item_of (λ e is. (none_else e is).deaths) q events) sums.deaths;
   clears = subst (PendingSums nat_cmp ledgers.clears.own) (own_items clear_item_of (λ e is. (none_else e is).clears) q events) sums.clears;
   oneway = subst (OnewaySums ledgers.oneway.own) (own_items oneway_item_of (λ e is. (none_else e is).oneway) q events) sums.oneway;
-}
-
-part_sums : {S I : Type 0} (Sums : S → List I → Type 0) (none : S) (part : Option S) (items : List I) → Sums none [] → IsOwn Sums part items → Sums (unwrap_or part none) items
-part_sums Sums none None items sums is = subst (Sums none) (sym is) sums
-part_sums Sums none (Some part) items sums is = is.1
-
--- if the order is that of the processes of these frames, and the ledgers are those of their events, these are the
--- processes of the frames
-pub sums_each : (processes : Processes) (frames : List PlacedFrame) (events : List Event) → map event_text events ≡ events_of_frames frames
-    → SumsOrder processes.order.now.entries.entries frames → SumsPicked concerned (SumsInOrder same_process SumsProcess) processes.own.now.entries.entries events
-    → SumsProcess processes.none.now [] → SumsEach processes frames
-sums_each processes frames events is order own none = record {
-  order = order.order ∙ ap (firsts same_process) (map-map (λ (e : Process × ⊤). e.0) order_item frames);
-  each = λ q.
-      subst (λ texts. AreLedgersOf (ledgers_in processes q) texts q) is
-      (own_ledgers (ledgers_in processes q) q events
-      (part_sums SumsProcess processes.none.now (lookup (same_process q) processes.own.now.entries.entries) (items_of same_process q (filter_map concerned events)) none
-      (own.parts q)));
 }

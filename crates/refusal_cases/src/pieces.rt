@@ -4,7 +4,7 @@ ghost use Rattle.std.specs.Prelude.{◌∷◌, [], None, IfOk, OnOk};
 ghost use Rattle.capture_frame.specs.Cut.{CutsTo};
 ghost use Rattle.audit_findings.specs.Frames.{AreGoodFrames};
 ghost use Rattle.audit_findings.specs.Summary.{SumsPiece};
-ghost use Rattle.audit_join.specs.Jobs.{AreSound};
+ghost use Rattle.audit_judge.specs.Jobs.{AreSound};
 
 use crate::told;
 use audit_findings::{PieceSummary, ProcessHandles, SecondLook, Sections};
@@ -82,7 +82,7 @@ fn tell_look<W: Write>(alloc: Global, look: SecondLook<'_, '_>, out: &mut W) -> 
     match handles_of(alloc, &look) {
         Ok(handles) => tell_sections(look, handles.as_slice(), out),
         Err(AllocError) => {
-            drop(look);
+            look.discard();
             Err(NoAnswer::Memory)
         }
     }
@@ -112,7 +112,7 @@ fn tell_sections<W: Write>(
 /// Prints sections, and drops them.
 fn tell_whole<W: Write>(sections: Sections<u64>, out: &mut W) -> Printed {
     let printed = told::sections(&sections, out);
-    drop(sections);
+    sections.discard();
     printed
 }
 

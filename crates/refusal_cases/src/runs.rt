@@ -58,7 +58,7 @@ impl<T: Threads + Sync> Given<'_, T> {
         out: &mut W,
     ) -> Printed {
         let printed = self.tell_of(&found, shown, out);
-        drop(found);
+        found.discard();
         printed
     }
 

@@ -1,8 +1,8 @@
 use Rattle.std.proofs.Common.{Ok, sym, ap, subst, ◌∙◌}
 use Rattle.transaction_view.specs.Grammar.{first_content_fault}
-use Rattle.audit_join.specs.Jobs.{AreCut, AreSound}
-use Rattle.audit_join.proofs.CutLaws.{all_sound, cut_so, first_bad}
-use Rattle.audit_join.proofs.PlaceLaws.{bytes_of}
+use Rattle.audit_judge.specs.Jobs.{AreCut, AreSound}
+use Rattle.audit_judge.proofs.CutLaws.{all_sound, cut_so, first_bad}
+use Rattle.audit_judge.proofs.PlaceLaws.{bytes_of}
 use Rattle.audit_join.proofs.audits.audit_parts.Goals as goal
 
 pub judge_parts-requires-clause-cut : goal.judge_parts-requires-clause-cut

@@ -1,7 +1,7 @@
 use Rattle.std.proofs.Common.{List, sym, subst}
 use Rattle.capture_frame.specs.Envelope.{PlacedFrame}
 use Rattle.audit_findings.specs.Kept.{AreSectionsOf}
-use Rattle.audit_join.specs.Jobs.{AreCut, AreSound}
+use Rattle.audit_judge.specs.Jobs.{AreCut, AreSound}
 use Rattle.audit_join.proofs.audits.findings_of.Goals as goal
 
 pub sections_of-requires-clause-cut : goal.sections_of-requires-clause-cut

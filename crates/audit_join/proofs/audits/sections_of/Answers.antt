@@ -3,7 +3,7 @@ use Rattle.std.proofs.lemmas.Result.{IfOk-weaker}
 use Rattle.audit_findings.specs.Frames.{AreGoodFrames}
 use Rattle.audit_findings.specs.Kept.{AreSectionsOf}
 use Rattle.audit_findings.proofs.HandleRows.{lists_of}
-use Rattle.audit_join.proofs.CutLaws.{good_cut}
+use Rattle.audit_join.proofs.SumLaws.{good_cut}
 use Rattle.audit_join.proofs.audits.sections_of.Goals as goal
 
 pub sum_shares-requires-after_bounds : goal.sum_shares-requires-after_bounds

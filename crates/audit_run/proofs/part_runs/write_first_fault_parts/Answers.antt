@@ -4,7 +4,7 @@ use Rattle.std.proofs.lemmas.Result.{err_from_is_err_and}
 use Rattle.capture_frame.specs.declared.fault.PartFault.{PartFault}
 use Rattle.transaction_view.specs.Grammar.{frames_of_parts}
 use Rattle.report_text.specs.Answers.{first_fault_line}
-use Rattle.audit_join.proofs.CutLaws.{bad_read, good_read}
+use Rattle.audit_judge.proofs.CutLaws.{bad_read, good_read}
 use Rattle.audit_run.proofs.AnswerLaws.{line_of, line_of_slices}
 use Rattle.audit_run.proofs.RunLaws.{line_begun, line_written}
 use Rattle.audit_run.proofs.part_runs.write_first_fault_parts.Goals as goal

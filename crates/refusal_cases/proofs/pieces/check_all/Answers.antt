@@ -1,7 +1,7 @@
 use Rattle.std.proofs.Common.{◌≡◌, None, sym, subst, arith}
 use Rattle.std.proofs.lemmas.List.{take_all}
 use Rattle.transaction_view.specs.Grammar.{first_content_fault}
-use Rattle.audit_join.proofs.FaultLaws.{none_more, sound_of}
+use Rattle.audit_judge.proofs.FaultLaws.{none_more, sound_of}
 use Rattle.refusal_cases.proofs.pieces.check_all.Goals as goal
 
 pub loop-number-preserved : goal.loop-number-preserved

@@ -1,7 +1,8 @@
 use Rattle.std.proofs.Common.{◌≤◌, ◌^◌, [], ◌∷◌, length, sym, subst, arith}
 use Rattle.std.specs.List.{sum_by}
-use Rattle.audit_join.specs.Jobs.{AreCut, AreSound}
-use Rattle.audit_join.proofs.CutLaws.{are_cut, good_cut}
+use Rattle.audit_judge.specs.Jobs.{AreCut, AreSound}
+use Rattle.audit_judge.proofs.CutLaws.{are_cut}
+use Rattle.audit_join.proofs.SumLaws.{good_cut}
 use Rattle.refusal_cases.proofs.pieces.good_frames.Goals as goal
 
 pub returns : goal.returns

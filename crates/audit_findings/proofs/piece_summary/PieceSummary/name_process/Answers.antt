@@ -5,11 +5,11 @@ use Rattle.capture_frame.specs.declared.process.Process.{Process}
 use Rattle.event_core.specs.declared.event.Event.{Event}
 use Rattle.process_ledgers.specs.Concerns.{concerned}
 use Rattle.process_ledgers.specs.ProcessLedgers.{SumsProcess}
-use Rattle.process_ledgers.specs.EachProcess.{order_item}
 use Rattle.process_ledgers.specs.declared.process_ledgers.ProcessLedgers.{ProcessLedgers}
 use Rattle.summary_law.specs.Fed.{SumsPicked}
 use Rattle.summary_law.specs.InOrder.{SumsInOrder}
 use Rattle.summary_law.specs.declared.in_order.InOrder.{InOrder}
+use Rattle.audit_findings.specs.EachProcess.{order_item}
 use Rattle.audit_findings.specs.Ledgers.{SumsGiven}
 use Rattle.audit_findings.specs.declared.event_sums.EventSums.{EventSums}
 use Rattle.audit_findings.proofs.GivenLaws.{order_next}

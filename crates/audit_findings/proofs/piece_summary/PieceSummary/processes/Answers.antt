@@ -1,4 +1,4 @@
-use Rattle.process_ledgers.proofs.EachProcess.{sums_each}
+use Rattle.audit_findings.proofs.EachProcess.{sums_each}
 use Rattle.audit_findings.proofs.piece_summary.PieceSummary.processes.Goals as goal
 
 pub returns : goal.returns

@@ -3,7 +3,7 @@ use Rattle.std.proofs.Common.{[], ◌∷◌, ◌++◌, map, refl, sym, ap, ap₂
 use Rattle.std.proofs.lemmas.List.{append-nil, map-append}
 use Rattle.event_core.specs.Events.{EventRead}
 use Rattle.event_core.specs.Reading.{event_text}
-use Rattle.process_ledgers.specs.EachProcess.{SumsOrder}
+use Rattle.audit_findings.specs.EachProcess.{SumsOrder}
 use Rattle.audit_findings.specs.Ledgers.{AreFewGiven, SumsFrames, SumsGiven}
 use Rattle.audit_findings.proofs.FrameLaws.{events_with}
 use Rattle.audit_findings.proofs.GivenLaws.{few_given, few_with, given_next}

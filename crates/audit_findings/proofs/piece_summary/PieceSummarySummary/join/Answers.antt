@@ -3,7 +3,7 @@ use Rattle.std.proofs.lemmas.List.{map-append}
 use Rattle.std.proofs.lemmas.Result.{IfOk-at_ok}
 use Rattle.capture_frame.specs.Cut.{shown_by}
 use Rattle.capture_frame.specs.Envelope.{placed_frame}
-use Rattle.process_ledgers.specs.EachProcess.{order_item}
+use Rattle.audit_findings.specs.EachProcess.{order_item}
 use Rattle.audit_findings.specs.Ledgers.{AreFewEvents}
 use Rattle.audit_findings.specs.Summary.{SumsPiece}
 use Rattle.audit_findings.proofs.FrameLaws.{few_shown}

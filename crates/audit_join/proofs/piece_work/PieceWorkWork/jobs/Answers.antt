@@ -1,7 +1,0 @@
-use Rattle.std.proofs.Common.{sym}
-use Rattle.std.proofs.lemmas.List.{length-map}
-use Rattle.audit_join.specs.Jobs.{job_of}
-use Rattle.audit_join.proofs.piece_work.PieceWorkWork.jobs.Goals as goal
-
-pub returns : goal.returns
-returns c = sym (length-map c.args.self.now.pieces.now job_of)

@@ -1,0 +1,4 @@
+pub mod Request
+pub mod CommandLine
+pub mod Failure
+pub mod Words
