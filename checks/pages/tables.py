@@ -7,13 +7,13 @@ from typing import Iterator
 from checks.kit.programs import ROOT
 
 PAGE = ROOT / "docs/DATABASE.md"
-NAMES = ROOT / "crates/listing_tables/src/tables.rt"
+TABLES = ROOT / "crates/listing_fields/src/table.rt"
 
 
 def written() -> list[str]:
     """The names of the tables in the listing's own list."""
-    listed = NAMES.read_text("utf-8").partition("pub const NAMES: ")[2].partition("];\n")[0]
-    return re.findall(r'\("(\w+)", Name::', listed)
+    listed = TABLES.read_text("utf-8").partition("pub const TABLES: ")[2].partition("];\n")[0]
+    return re.findall(r'\("(\w+)", Table::', listed)
 
 
 def wrong(page: pathlib.Path) -> Iterator[tuple[int, str]]:

@@ -12,6 +12,7 @@ mod named;
 mod newer;
 mod service;
 mod stopped;
+mod table;
 mod text;
 
 pub use attached::{Attached, EachObject, has_named, offset_of};
@@ -24,4 +25,5 @@ pub use named::{Named, named_of, number_of};
 pub use newer::{NEWER_LINES, NewerKind, NewerLine, is_unnamed, name_of, newer_line};
 pub use service::{ServiceName, service_of};
 pub use stopped::Stopped;
+pub use table::{TABLES, Table, table_of};
 pub use text::{push_decimal, push_digits, push_hexadecimal, push_place, push_signed};

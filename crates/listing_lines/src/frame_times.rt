@@ -1,9 +1,9 @@
 //! The times of frames in a side list: `TIME frame NUMBER`, or for frames without another line between
 //! them `TIME frames NUMBER LATER LATER ..`.
 
-use crate::number::number_of;
 use crate::side::first_word;
 use listing_fields::push_decimal;
+use listing_words::number_of;
 use std::alloc::{AllocError, Global};
 
 /// The latest frame of the list, and its time. A line of several frames is taken frame by frame.

@@ -2,7 +2,6 @@
 
 ghost use Rattle.std.specs.Prelude.{◌+◌, ◌<◌, ◌^◌, length};
 
-use crate::asked::{Asked, Form, Sought, covers};
 use crate::calls::{Followed, event_of, is_opener};
 use crate::columns::push_columns;
 use crate::line::{push_counted, push_line};
@@ -12,6 +11,7 @@ use crate::whole::{write_objects, write_whole};
 use audit_streams::{read_capture, write_text};
 use capture_frame::{FILE_HEADER, Fault, Frame, Frames, PartFault};
 use listing_fields::{Content, Item, ListingError, Stopped};
+use listing_words::{Asked, Form, Sought, covers};
 use std::alloc::{AllocError, Global};
 use std::io::{Read, Write};
 use transaction_view::check_frame;

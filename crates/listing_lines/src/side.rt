@@ -2,10 +2,10 @@
 //! and names of processes and threads.
 
 use crate::frame_times::FrameTimes;
-use crate::number::number_of;
 use capture_frame::{Frame, Process, Thread};
 use indexmap::IndexMap;
 use listing_fields::{ListingError, read_error, thread_of};
+use listing_words::number_of;
 use std::alloc::{AllocError, Global};
 use std::io::{BufRead, BufReader, Read};
 use std::str;

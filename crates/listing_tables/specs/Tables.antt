@@ -5,13 +5,13 @@ use Rattle.listing_tables.specs.Columns.{WritesRows}
 use Rattle.listing_tables.specs.Generations.{generation_rows}
 use Rattle.listing_tables.specs.Messages.{delivery_rows, send_rows}
 use Rattle.listing_tables.specs.Spans.{process_rows, thread_rows}
-use Rattle.listing_tables.specs.declared.tables.Name.{Name}
-use Rattle.listing_tables.specs.declared.tables.Name.TheVariants.{Capture, Process, Thread, Frame, Record, Interface, Service, Object, Call, Generation, Send, Delivery, Slice, Level}
+use Rattle.listing_fields.specs.declared.table.Table.{Table}
+use Rattle.listing_fields.specs.declared.table.Table.TheVariants.{Capture, Process, Thread, Frame, Record, Interface, Service, Object, Call, Generation, Send, Delivery, Slice, Level}
 use Rattle.listing_tables.specs.declared.tables.Tables.{Tables}
 
 -- Each process, thread, generation, send and delivery in the walk's lists has its row, in order, and nothing else is
 -- written. Nothing is written of a table that is written while the walk goes on. Of the others nothing is said.
-abbrev pub WritesTable : Tables → Name → Option (List ℕ) → Option (List ℕ) → Type 0
+abbrev pub WritesTable : Tables → Table → Option (List ℕ) → Option (List ℕ) → Type 0
 WritesTable tables Capture old new = ⊤
 WritesTable tables Process old new = WritesRows old new (process_rows tables.spans.processes.entries)
 WritesTable tables Thread old new = WritesRows old new (thread_rows tables.spans.threads.entries)

@@ -22,7 +22,7 @@ const FILE_HEADER_2: &[u8] = b"BNDRCAP2\x08\0\0\0\0\0\0\0";
 /// frames that count, each at its place in the joined capture, and the last one without the record
 /// or the attachment entry that is the fault, and without all that comes after. The frames are
 /// written from the parts themselves.
-pub fn write_before_fault<W: Write + Drop>(
+pub(crate) fn write_before_fault<W: Write + Drop>(
     alloc: Global,
     parts: &[&[u8]],
     file: W,

@@ -22,6 +22,7 @@ mod messages;
 mod names;
 mod numbered;
 mod origin;
+mod outputs;
 mod pairs;
 mod records;
 mod replies;
@@ -36,8 +37,5 @@ mod traffic;
 mod waiting;
 mod walk;
 
-pub use before_fault::write_before_fault;
 pub use ending::Ending;
-pub use rows::RowWriter;
-pub use tables::{NAMES, Name, Tables, name_of};
-pub use walk::{Writers, walk_to};
+pub use outputs::{write_all, write_one};

@@ -19,7 +19,7 @@ const PIECE: usize = 65_536;
 /// Collects the rows of a table, and writes many of them at a time. In contracts the value is what
 /// the writer has together with what is still to be written, where that is known.
 #[derive(Drop)]
-pub struct RowWriter<W: Write + Drop> {
+pub(crate) struct RowWriter<W: Write + Drop> {
     /// What is not written yet.
     bytes: Vec<u8>,
     /// Where a row is made.
@@ -37,7 +37,7 @@ impl<W: Write + Drop> Model for RowWriter<W> {
 }
 
 impl<W: Write + Drop> RowWriter<W> {
-    pub fn new(alloc: Global, writer: W) -> RowWriter<W>
+    pub(crate) fn new(alloc: Global, writer: W) -> RowWriter<W>
         ensures { Keeps (W.contents writer) result }
     {
         RowWriter {
@@ -69,7 +69,7 @@ impl<W: Write + Drop> RowWriter<W> {
     }
 
     /// Writes what is not written yet, and gives the writer back.
-    pub fn finish(self) -> Result<W, ListingError>
+    pub(crate) fn finish(self) -> Result<W, ListingError>
         ensures { IfOk result (λ writer. Keeps self (W.contents writer)) }
     {
         let RowWriter {

@@ -20,69 +20,15 @@ use crate::spans::{Owner, Spans};
 use crate::steps::{Steps, add_step};
 use crate::traffic::Traffic;
 use capture_frame::Frame;
-use listing_fields::{Item, ListingError, Named, Outcome};
+use listing_fields::{Item, ListingError, Named, Outcome, Table};
 use std::alloc::Global;
 use std::io::Write;
 use std::mem;
 use summary_law::Summary;
 
-/// The tables.
-#[derive(Clone, Copy)]
-pub enum Name {
-    Capture,
-    Process,
-    Thread,
-    Frame,
-    Record,
-    Interface,
-    Service,
-    Object,
-    Call,
-    Generation,
-    Send,
-    Delivery,
-    Slice,
-    Level,
-}
-
-/// The tables by name.
-pub const NAMES: [(&str, Name); 14] = [
-    ("capture", Name::Capture),
-    ("process", Name::Process),
-    ("thread", Name::Thread),
-    ("frame", Name::Frame),
-    ("record", Name::Record),
-    ("interface", Name::Interface),
-    ("service", Name::Service),
-    ("object", Name::Object),
-    ("call", Name::Call),
-    ("generation", Name::Generation),
-    ("send", Name::Send),
-    ("delivery", Name::Delivery),
-    ("slice", Name::Slice),
-    ("level", Name::Level),
-];
-
-/// The table of this name.
-pub fn name_of(word: &str) -> Option<Name> {
-    for (name, table) in &NAMES {
-        if *name == word {
-            return Some(*table);
-        }
-    }
-    None
-}
-
-impl Name {
-    /// Whether the table is written while the walk goes on.
-    pub fn is_streamed(self) -> bool {
-        matches!(self, Name::Frame | Name::Record | Name::Object | Name::Call)
-    }
-}
-
 /// What the walk keeps for the tables that are written after it.
 #[derive(Drop)]
-pub struct Tables {
+pub(crate) struct Tables {
     spans: Spans,
     pub(crate) names: Names,
     steps: Steps,
@@ -94,7 +40,7 @@ pub struct Tables {
 
 impl Tables {
     /// Nothing yet.
-    pub fn new(alloc: Global) -> Tables
+    pub(crate) fn new(alloc: Global) -> Tables
         ensures { HasNoSteps result }
     {
         Tables {
@@ -167,34 +113,34 @@ impl Tables {
 
     /// Writes a table of the capture that was walked through, and that goes this far. Nothing is
     /// written of a table that is written while the walk goes on.
-    pub fn write<W: Write + Drop>(
+    pub(crate) fn write<W: Write + Drop>(
         &mut self,
-        name: Name,
+        table: Table,
         ending: Ending,
         rows: &mut RowWriter<W>,
     ) -> Outcome
-        ensures written { OnOk result (WritesTable self.old name rows.old rows.new) }
+        ensures written { OnOk result (WritesTable self.old table rows.old rows.new) }
         ensures kept { KeepsLists self.old self.new }
     {
-        match name {
-            Name::Frame | Name::Record | Name::Object | Name::Call => Ok(()),
-            Name::Capture => ending.write(self.records, rows),
-            Name::Process => self.spans.write_processes(rows),
-            Name::Thread => self.spans.write_threads(rows),
-            Name::Interface => self.names.write_interfaces(rows),
-            Name::Service => self.names.write_services(rows),
-            Name::Generation => self.traffic.handles.generations.write(rows),
-            Name::Send => self.traffic.messages.write_sends(rows),
-            Name::Delivery => {
+        match table {
+            Table::Frame | Table::Record | Table::Object | Table::Call => Ok(()),
+            Table::Capture => ending.write(self.records, rows),
+            Table::Process => self.spans.write_processes(rows),
+            Table::Thread => self.spans.write_threads(rows),
+            Table::Interface => self.names.write_interfaces(rows),
+            Table::Service => self.names.write_services(rows),
+            Table::Generation => self.traffic.handles.generations.write(rows),
+            Table::Send => self.traffic.messages.write_sends(rows),
+            Table::Delivery => {
                 self.traffic
                     .messages
                     .write_deliveries(&self.traffic.buffers, &self.calls, rows)
             }
-            Name::Slice => match ending.span {
+            Table::Slice => match ending.span {
                 Some(span) => Slices::of(span).write(rows),
                 None => Ok(()),
             },
-            Name::Level => self.write_levels(rows),
+            Table::Level => self.write_levels(rows),
         }
     }
 

@@ -24,28 +24,28 @@ use std::io::Write;
 
 /// The writers of the tables that are written while the walk goes on.
 #[derive(Drop)]
-pub struct Writers<F: Write + Drop, R: Write + Drop, O: Write + Drop, C: Write + Drop> {
-    pub frames: F,
-    pub records: R,
-    pub objects: O,
-    pub calls: C,
+pub(crate) struct Writers<W: Write + Drop> {
+    pub(crate) frames: W,
+    pub(crate) records: W,
+    pub(crate) objects: W,
+    pub(crate) calls: W,
 }
 
 /// The rows that are written to these writers.
 #[derive(Drop)]
-pub(crate) struct Streams<F: Write + Drop, R: Write + Drop, O: Write + Drop, C: Write + Drop> {
-    frames: RowWriter<F>,
-    records: RowWriter<R>,
-    objects: RowWriter<O>,
-    calls: RowWriter<C>,
+pub(crate) struct Streams<W: Write + Drop> {
+    frames: RowWriter<W>,
+    records: RowWriter<W>,
+    objects: RowWriter<W>,
+    calls: RowWriter<W>,
 }
 
-impl<F: Write + Drop, R: Write + Drop, O: Write + Drop, C: Write + Drop> Streams<F, R, O, C> {
-    fn new(alloc: Global, writers: Writers<F, R, O, C>) -> Streams<F, R, O, C>
-        ensures frames { Keeps (F.contents writers.frames) result.frames }
-        ensures records { Keeps (R.contents writers.records) result.records }
-        ensures objects { Keeps (O.contents writers.objects) result.objects }
-        ensures calls { Keeps (C.contents writers.calls) result.calls }
+impl<W: Write + Drop> Streams<W> {
+    fn new(alloc: Global, writers: Writers<W>) -> Streams<W>
+        ensures frames { Keeps (W.contents writers.frames) result.frames }
+        ensures records { Keeps (W.contents writers.records) result.records }
+        ensures objects { Keeps (W.contents writers.objects) result.objects }
+        ensures calls { Keeps (W.contents writers.calls) result.calls }
     {
         let Writers {
             frames,
@@ -62,11 +62,11 @@ impl<F: Write + Drop, R: Write + Drop, O: Write + Drop, C: Write + Drop> Streams
     }
 
     /// Writes what is not written yet, and gives the writers back.
-    fn finish(self) -> Result<Writers<F, R, O, C>, ListingError>
-        ensures frames { IfOk result (λ writers. Keeps self.frames (F.contents writers.frames)) }
-        ensures records { IfOk result (λ writers. Keeps self.records (R.contents writers.records)) }
-        ensures objects { IfOk result (λ writers. Keeps self.objects (O.contents writers.objects)) }
-        ensures calls { IfOk result (λ writers. Keeps self.calls (C.contents writers.calls)) }
+    fn finish(self) -> Result<Writers<W>, ListingError>
+        ensures frames { IfOk result (λ writers. Keeps self.frames (W.contents writers.frames)) }
+        ensures records { IfOk result (λ writers. Keeps self.records (W.contents writers.records)) }
+        ensures objects { IfOk result (λ writers. Keeps self.objects (W.contents writers.objects)) }
+        ensures calls { IfOk result (λ writers. Keeps self.calls (W.contents writers.calls)) }
     {
         let Streams {
             frames,
@@ -96,12 +96,12 @@ impl<F: Write + Drop, R: Write + Drop, O: Write + Drop, C: Write + Drop> Streams
 }
 
 /// Finishes two writers of rows, in this order.
-fn finish_both<F: Write + Drop, S: Write + Drop>(
-    first: RowWriter<F>,
-    second: RowWriter<S>,
-) -> Result<(F, S), ListingError>
-    ensures first { IfOk result (λ both. Keeps first (F.contents both.0)) }
-    ensures second { IfOk result (λ both. Keeps second (S.contents both.1)) }
+fn finish_both<W: Write + Drop>(
+    first: RowWriter<W>,
+    second: RowWriter<W>,
+) -> Result<(W, W), ListingError>
+    ensures first { IfOk result (λ both. Keeps first (W.contents both.0)) }
+    ensures second { IfOk result (λ both. Keeps second (W.contents both.1)) }
 {
     match first.finish() {
         Ok(first) => match second.finish() {
@@ -121,23 +121,23 @@ fn finish_both<F: Write + Drop, S: Write + Drop>(
 /// Walks through the capture that has these parts, up to its first fault. The rows of frames,
 /// records, objects and calls are written; of the other tables everything is kept. Gives the writers
 /// back.
-pub fn walk_to<F: Write + Drop, R: Write + Drop, O: Write + Drop, C: Write + Drop>(
+pub(crate) fn walk_to<W: Write + Drop>(
     alloc: Global,
     parts: &[&[u8]],
     tables: &mut Tables,
-    writers: Writers<F, R, O, C>,
-) -> Result<(Ending, Writers<F, R, O, C>), ListingError>
+    writers: Writers<W>,
+) -> Result<(Ending, Writers<W>), ListingError>
     requires few { length parts.now < 2 ^ 32 }
     requires fits { sum_by length (map (λ part. part.now) parts.now) < 2 ^ 64 }
     requires nothing { HasNoSteps tables.old }
     ensures frames { IfOk result (λ done. AddsRows IsFrameRow
-        (F.contents writers.frames) (F.contents done.1.frames)
+        (W.contents writers.frames) (W.contents done.1.frames)
         (counted_frames (map (λ part. part.now) parts.now))) }
     ensures records { IfOk result (λ done. AddsRows BeginsWith
-        (R.contents writers.records) (R.contents done.1.records)
+        (W.contents writers.records) (W.contents done.1.records)
         (flat_map record_begins (counted_frames (map (λ part. part.now) parts.now)))) }
     ensures calls { IfOk result (λ done. WritesCalls
-        (C.contents writers.calls) (C.contents done.1.calls)
+        (W.contents writers.calls) (W.contents done.1.calls)
         (flat_map marked_in (counted_frames (map (λ part. part.now) parts.now)))) }
 {
     let mut streams = Streams::new(alloc, writers);
@@ -152,11 +152,11 @@ pub fn walk_to<F: Write + Drop, R: Write + Drop, O: Write + Drop, C: Write + Dro
 
 /// Walks through the capture. The rows of frames, records and objects are written as they come, and
 /// those of calls at the end.
-fn walk_capture<F: Write + Drop, R: Write + Drop, O: Write + Drop, C: Write + Drop>(
+fn walk_capture<W: Write + Drop>(
     alloc: Global,
     parts: &[&[u8]],
     tables: &mut Tables,
-    streams: &mut Streams<F, R, O, C>,
+    streams: &mut Streams<W>,
 ) -> Result<Ending, ListingError>
     requires few { length parts.now < 2 ^ 32 }
     requires fits { sum_by length (map (λ part. part.now) parts.now) < 2 ^ 64 }
@@ -179,11 +179,11 @@ fn walk_capture<F: Write + Drop, R: Write + Drop, O: Write + Drop, C: Write + Dr
 }
 
 /// Walks through the first `count` frames. The content of all but the last one is good.
-fn walk_frames<F: Write + Drop, R: Write + Drop, O: Write + Drop, C: Write + Drop>(
+fn walk_frames<W: Write + Drop>(
     frames: &FrameSlice<'_, '_>,
     count: usize,
     tables: &mut Tables,
-    streams: &mut Streams<F, R, O, C>,
+    streams: &mut Streams<W>,
 ) -> Outcome
     requires kept { IsKept tables.old.steps.entries.entries }
     requires few { count ≤ length frames.now }
@@ -209,11 +209,11 @@ fn walk_frames<F: Write + Drop, R: Write + Drop, O: Write + Drop, C: Write + Dro
 }
 
 /// Walks through a frame with this content.
-fn walk_frame<F: Write + Drop, R: Write + Drop, O: Write + Drop, C: Write + Drop>(
+fn walk_frame<W: Write + Drop>(
     frame: Frame<'_>,
     content: Content<'_>,
     tables: &mut Tables,
-    streams: &mut Streams<F, R, O, C>,
+    streams: &mut Streams<W>,
 ) -> Outcome
     requires kept { IsKept tables.old.steps.entries.entries }
     requires content { records_left content ≡ (records_of (placed_frame frame)).units }
@@ -233,12 +233,12 @@ fn walk_frame<F: Write + Drop, R: Write + Drop, O: Write + Drop, C: Write + Drop
 }
 
 /// Walks through the records of a frame with this content, and returns how many there are.
-fn walk_items<F: Write + Drop, R: Write + Drop, O: Write + Drop, C: Write + Drop>(
+fn walk_items<W: Write + Drop>(
     frame: Frame<'_>,
     owner: Owner,
     content: Content<'_>,
     tables: &mut Tables,
-    streams: &mut Streams<F, R, O, C>,
+    streams: &mut Streams<W>,
 ) -> Result<u64, ListingError>
     requires kept { IsKept tables.old.steps.entries.entries }
     requires content { records_left content ≡ (records_of (placed_frame frame)).units }
@@ -259,12 +259,12 @@ fn walk_items<F: Write + Drop, R: Write + Drop, O: Write + Drop, C: Write + Drop
     Ok(count)
 }
 
-fn walk_item<F: Write + Drop, R: Write + Drop, O: Write + Drop, C: Write + Drop>(
+fn walk_item<W: Write + Drop>(
     frame: Frame<'_>,
     owner: Owner,
     item: Item<'_>,
     tables: &mut Tables,
-    streams: &mut Streams<F, R, O, C>,
+    streams: &mut Streams<W>,
 ) -> Outcome
     requires { IsKept tables.old.steps.entries.entries }
     ensures frames { streams.new.frames ≡ streams.old.frames }

@@ -1,7 +1,8 @@
 //! Listings of parts by readers, to writers.
 
 use crate::devices::{Refusing, Source};
-use listing_lines::{Asked, Form, ListingError, Sought, list_parts};
+use listing_lines::{ListingError, list_parts};
+use listing_words::{Asked, Form, Sought};
 use std::alloc::{AllocError, Global};
 use std::io::{ErrorKind, Write};
 use std::process::Abort;

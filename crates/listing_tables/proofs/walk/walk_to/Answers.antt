@@ -4,7 +4,7 @@ use Rattle.listing_tables.proofs.walk.walk_to.Goals as goal
 
 pub returns-in_ok-finish-in-Ok-clause-calls : goal.returns-in_ok-finish-in-Ok-clause-calls
 returns-in_ok-finish-in-Ok-clause-calls g c =
-    let at = g.C.Write.contents in
+    let at = g.W.Write.contents in
     let walked = c.in-Ok.ensures.calls in
     record {
       threads = walked.threads;

@@ -1,6 +1,7 @@
 //! What `--help` writes.
 
-pub(crate) const HELP: &str =
+/// What `--help` writes.
+pub const HELP: &str =
     "Lists the records of a capture, a line each: place, sequence, device, process, thread, name,
 and the fields by name; last, the interface that a transaction names at the begin of its data.
 

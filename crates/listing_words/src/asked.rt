@@ -83,7 +83,7 @@ pub struct Asked {
 
 impl Asked {
     /// Whether records of this frame are asked for.
-    pub(crate) fn has_frame(&self, frame: Frame<'_>) -> bool {
+    pub fn has_frame(&self, frame: Frame<'_>) -> bool {
         self.words.is_empty()
             || self.has(Narrowing::Device, Fit::Is(u64::from(frame.device)))
                 && self.has(Narrowing::Process, Fit::Is(u64::from(frame.process)))
@@ -97,7 +97,7 @@ impl Asked {
     }
 
     /// Whether the record is asked for, its place left aside.
-    pub(crate) fn has_item(&self, item: Item<'_>) -> bool {
+    pub fn has_item(&self, item: Item<'_>) -> bool {
         self.has_words(item) && (self.interfaces.is_empty() || self.has_interface(item))
     }
 
@@ -242,7 +242,7 @@ fn is_named(item: Item<'_>, names: [&str; 2], of_object: &str, number: u64) -> b
 }
 
 /// Whether the byte at this place is in the record or in its attachment.
-pub(crate) fn covers(place: u64, item: Item<'_>) -> bool {
+pub fn covers(place: u64, item: Item<'_>) -> bool {
     let record = item.record;
     if record.place <= place && place < record.place + 4 + record.payload.len() as u64 {
         return true;

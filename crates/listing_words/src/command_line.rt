@@ -1,14 +1,15 @@
 //! The words of the command line, and what they ask for.
 
+use crate::asked::{Asked, Form, Narrowing, Sought, Word};
 use crate::kinds::word_named;
+use crate::number::number_of;
+use crate::request::{AskedTables, Question, Request};
 use binder_code::{Kind, TransactionFlags};
 use bitflags::Flags;
 use clap::error::ErrorKind;
 use clap::{Arg, ArgAction, ArgMatches, Command, Error};
-use listing_fields::ListingError;
-use listing_lines::{Asked, Form, Narrowing, Sought, Word, number_of};
-use listing_tables::{Name, name_of};
-use std::alloc::{AllocError, Global};
+use listing_fields::table_of;
+use std::alloc::{AllocError, AllocFailed, Global};
 
 /// The options that narrow what is listed. `code` takes a name or a code word, `direction` and
 /// `flag` take a name, and each of the others takes a number.
@@ -38,13 +39,25 @@ const PLACES: [(&str, Sought); 3] = [
 /// The other options with a value.
 const OTHERS: [&str; 5] = ["interface", "form", "side", "table", "tables"];
 
-/// Why the words are not accepted.
+/// Why the words ask for nothing of a capture.
 #[derive(Clone, Copy)]
-pub(crate) enum WordsError {
+pub enum WordsError {
     Memory,
-    /// The words ask for help.
+    /// They ask for help.
     Help,
     Usage,
+}
+
+impl From<AllocError> for WordsError {
+    fn from(_error: AllocError) -> WordsError {
+        WordsError::Memory
+    }
+}
+
+impl<T: Drop> From<AllocFailed<T>> for WordsError {
+    fn from(_error: AllocFailed<T>) -> WordsError {
+        WordsError::Memory
+    }
 }
 
 // An option with a value, which may be repeated.
@@ -104,11 +117,8 @@ fn refusal(error: &Error) -> WordsError {
     }
 }
 
-/// Reads the words. The first one is the program's own name.
-pub(crate) fn matches_of<'a>(
-    alloc: Global,
-    words: &'a [String],
-) -> Result<ArgMatches<'a>, WordsError> {
+// Has `clap` read the words.
+fn matches_of<'a>(alloc: Global, words: &'a [String]) -> Result<ArgMatches<'a>, WordsError> {
     let Ok(command) = command(alloc) else {
         return Err(WordsError::Memory);
     };
@@ -118,36 +128,65 @@ pub(crate) fn matches_of<'a>(
     }
 }
 
-/// The files that are named.
-pub(crate) fn files_of<'m, 'a>(matches: &'m ArgMatches<'a>) -> Option<&'m [&'a str]> {
-    matches.get_strs("files")
+/// What the words ask for. The first one is the program's own name.
+pub fn request_of<'a>(alloc: Global, words: &'a [String]) -> Result<Request<'a>, WordsError> {
+    let matches = matches_of(alloc, words)?;
+    let request = request_in(alloc, &matches);
+    drop(matches);
+    request
 }
 
-/// Which tables are asked for.
-#[derive(Clone, Copy)]
-pub(crate) enum AskedTables<'a> {
-    One(Name),
-    /// All, into this folder.
-    All(&'a str),
+fn request_in<'a>(alloc: Global, matches: &ArgMatches<'a>) -> Result<Request<'a>, WordsError> {
+    let files = files_of(alloc, matches)?;
+    let question = question_of(alloc, matches)?;
+    Ok(Request { question, files })
+}
+
+/// The files that are named.
+fn files_of<'a>(alloc: Global, matches: &ArgMatches<'a>) -> Result<Vec<&'a str>, WordsError> {
+    let Some(names) = matches.get_strs("files") else {
+        return Err(WordsError::Usage);
+    };
+    let mut files = Vec::new(alloc);
+    for name in names {
+        files.push(*name)?;
+    }
+    Ok(files)
+}
+
+fn question_of<'a>(alloc: Global, matches: &ArgMatches<'a>) -> Result<Question<'a>, WordsError> {
+    if let Some(tables) = tables_of(matches)? {
+        return Ok(Question::Tables(tables));
+    }
+    let side = side_of(matches)?;
+    let asked = asked_of(alloc, matches)?;
+    Ok(Question::Lines { asked, side })
+}
+
+/// The side list that is named, if one is.
+fn side_of<'a>(matches: &ArgMatches<'a>) -> Result<Option<&'a str>, WordsError> {
+    match matches.get_strs("side") {
+        None => Ok(None),
+        Some([name]) => Ok(Some(*name)),
+        Some(_) => Err(WordsError::Usage),
+    }
 }
 
 /// The tables that the words ask for, if any.
-pub(crate) fn tables_of<'a>(
-    matches: &ArgMatches<'a>,
-) -> Result<Option<AskedTables<'a>>, ListingError> {
+fn tables_of<'a>(matches: &ArgMatches<'a>) -> Result<Option<AskedTables<'a>>, WordsError> {
     match (matches.get_strs("table"), matches.get_strs("tables")) {
         (None, None) => Ok(None),
-        (Some([word]), None) => match name_of(word) {
-            Some(name) => Ok(Some(AskedTables::One(name))),
-            None => Err(ListingError::Usage),
+        (Some([word]), None) => match table_of(word) {
+            Some(table) => Ok(Some(AskedTables::One(table))),
+            None => Err(WordsError::Usage),
         },
         (None, Some([folder])) => Ok(Some(AskedTables::All(folder))),
-        _ => Err(ListingError::Usage),
+        _ => Err(WordsError::Usage),
     }
 }
 
 /// What the words ask of the listing.
-pub(crate) fn asked_of(alloc: Global, matches: &ArgMatches<'_>) -> Result<Asked, ListingError> {
+fn asked_of(alloc: Global, matches: &ArgMatches<'_>) -> Result<Asked, WordsError> {
     let mut asked = Asked {
         words: Vec::new(alloc),
         interfaces: Vec::new(alloc),
@@ -160,7 +199,7 @@ pub(crate) fn asked_of(alloc: Global, matches: &ArgMatches<'_>) -> Result<Asked,
     Ok(asked)
 }
 
-fn ask(alloc: Global, asked: &mut Asked, matches: &ArgMatches<'_>) -> Result<(), ListingError> {
+fn ask(alloc: Global, asked: &mut Asked, matches: &ArgMatches<'_>) -> Result<(), WordsError> {
     for (name, narrowing) in NARROWINGS {
         push_words(asked, matches, name, narrowing)?;
     }
@@ -177,13 +216,13 @@ fn push_words(
     matches: &ArgMatches<'_>,
     name: &str,
     narrowing: Narrowing,
-) -> Result<(), ListingError> {
+) -> Result<(), WordsError> {
     let Some(values) = matches.get_strs(name) else {
         return Ok(());
     };
     for value in values {
         let Some(word) = word_of(narrowing, value) else {
-            return Err(ListingError::Usage);
+            return Err(WordsError::Usage);
         };
         asked.words.push(word)?;
     }
@@ -230,17 +269,17 @@ fn push_places(
     matches: &ArgMatches<'_>,
     name: &str,
     sought: Sought,
-) -> Result<(), ListingError> {
+) -> Result<(), WordsError> {
     let Some(values) = matches.get_strs(name) else {
         return Ok(());
     };
     if asked.sought != Sought::Nothing {
-        return Err(ListingError::Usage);
+        return Err(WordsError::Usage);
     }
     asked.sought = sought;
     for value in values {
         let Some(place) = number_of(value) else {
-            return Err(ListingError::Usage);
+            return Err(WordsError::Usage);
         };
         asked.places.push(place)?;
     }
@@ -252,7 +291,7 @@ fn push_interfaces(
     alloc: Global,
     asked: &mut Asked,
     matches: &ArgMatches<'_>,
-) -> Result<(), ListingError> {
+) -> Result<(), WordsError> {
     let Some(names) = matches.get_strs("interface") else {
         return Ok(());
     };
@@ -263,13 +302,13 @@ fn push_interfaces(
 }
 
 /// Sets the form of the lines. Columns show neither a record whole nor objects.
-fn set_form(asked: &mut Asked, matches: &ArgMatches<'_>) -> Result<(), ListingError> {
+fn set_form(asked: &mut Asked, matches: &ArgMatches<'_>) -> Result<(), WordsError> {
     let Some(values) = matches.get_strs("form") else {
         return Ok(());
     };
     for value in values {
         if *value != "tab" || asked.objects || asked.sought == Sought::Record {
-            return Err(ListingError::Usage);
+            return Err(WordsError::Usage);
         }
         asked.form = Form::Tab;
     }
