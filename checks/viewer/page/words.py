@@ -145,14 +145,25 @@ def check_stopped(folder: pathlib.Path, room: pathlib.Path, fail: Fail) -> None:
         compare(f"stopped at {called}", (ended.returncode, list(kept.iterdir())), (143, []), fail)
 
 
+def stopped_midway(words: list, run: dict, kept: pathlib.Path) -> subprocess.Popen:
+    """A run that is stopped while its scratch is there. On a busy machine a run may end before this sees the scratch;
+    then it is the next one."""
+    for _ in range(20):
+        running = subprocess.Popen(words, **run)
+        while not list(kept.glob("view-*/capture.rows")) and running.poll() is None:
+            time.sleep(0.001)
+        running.send_signal(signal.SIGSTOP)
+        if list(kept.glob("view-*/capture.rows")):
+            break
+        running.kill()
+        running.wait()
+    return running
+
+
 def check_killed(words: list, run: dict, kept: pathlib.Path, fail: Fail) -> None:
     """What SIGKILL leaves is removed by the next one, and not what is no scratch, or is in use."""
     (kept / "view-of-mine").mkdir()
-    running = subprocess.Popen(words, **run)
-    until = time.monotonic() + 20
-    while not list(kept.glob("view-*/capture.rows")) and running.poll() is None and time.monotonic() < until:
-        time.sleep(0.001)
-    os.kill(running.pid, signal.SIGSTOP)
+    running = stopped_midway(words, run, kept)
     begun = set(kept.glob("view-*"))
     subprocess.run(words, **run)
     compare("beside one that runs", set(kept.glob("view-*")), begun, fail)
