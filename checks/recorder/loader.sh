@@ -114,13 +114,11 @@ if [[ ! $told =~ ^\ *2\ [0-9]+\ missed\ 3\ what=events\ from=2\ after=103$ ]]; t
 fi
 
 # Of the log of failed transactions all is told that was not there at the beginning, but not what the driver has only
-# begun to write; and if the log has all of its entries since then, that there may have been others. On a busy machine
-# the recorder has looked at the log once before it is filled: then they are from that look, at 103.
+# begun to write; and if the log has all of its entries since then, that there may have been others.
 fails() { # FAILURES DUE
   local told
   FAILURES=$1 "$room/flight" -o "$room/failed-$1" 2>/dev/null
-  told=$(sed -nE 's/ from=103 after=103/ from=0 after=103/; s/^[0-9]+ ((failed|overrun) .*)/\1/p' \
-    "$room/failed-$1.side" | sed -E '3,$!b; $!d')
+  told=$(sed -nE 's/^[0-9]+ ((failed|overrun) .*)/\1/p' "$room/failed-$1.side" | sed -E '3,$!b; $!d')
   if [[ $told != "$2" ]]; then
     printf 'checks/loader: of %s failures: %s\n' "$1" "$told" && failed=1
   fi
