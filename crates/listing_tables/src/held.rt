@@ -1,8 +1,7 @@
 //! How many buffers of each path are held, while the deliveries are gone through in order.
 
-use crate::buffers::Buffers;
-use crate::numbered::{Numbered, one_fewer, one_more};
-use listing_fields::{ListingError, Outcome};
+use listing_base::{ListingError, Outcome};
+use listing_messages::{Buffers, Numbered, one_fewer, one_more};
 use std::alloc::Global;
 
 /// How many buffers of each path, by its index, are not freed so far.

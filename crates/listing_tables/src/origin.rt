@@ -1,6 +1,6 @@
 //! Where a record is, and whose it is.
 
-use crate::spans::{Upid, Utid};
+use listing_messages::{Upid, Utid};
 
 /// Where a record is, and whose it is.
 #[derive(Clone, Copy)]

@@ -1,0 +1,11 @@
+pub mod Buffers
+pub mod Calls
+pub mod Changes
+pub mod Columns
+pub mod Gaps
+pub mod Generations
+pub mod Messages
+pub mod Naming
+pub mod Numbered
+pub mod Spans
+pub mod Steps

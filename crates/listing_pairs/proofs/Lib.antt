@@ -1,0 +1,10 @@
+mod CertaintyLaws
+mod DoubtLaws
+mod FreshLaws
+mod GuessLaws
+mod InLaws
+mod MeaningLaws
+mod NextLaws
+mod PairLaws
+mod TurnLaws
+mod WaitingLaws
