@@ -53,6 +53,7 @@ pub struct Buffers {
 }
 
 impl Buffers {
+    /// None yet.
     pub fn new(alloc: Global) -> Buffers
         ensures { BuffersSum result [] }
     {

@@ -83,6 +83,7 @@ impl Call {
         }
     }
 
+    /// Whether its closer is a BR_REPLY.
     pub fn is_answered(&self) -> bool
         ensures answered { IsTrue result ↔ (self.now.verdict ≡ Answered) }
         ensures value { result ≡ has_answer self.now.verdict }

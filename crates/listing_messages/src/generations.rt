@@ -278,6 +278,7 @@ pub struct Generations {
 impl Generations {
     ghost use Rattle.listing_messages.specs.Naming.{Begins, FindsNamed, HasNone, LetsGo, NamesOne};
 
+    /// None yet.
     pub fn new(alloc: Global) -> Generations
         ensures list { result.list.all.items ≡ [] }
         ensures latest { HasNone result }

@@ -43,6 +43,7 @@ pub struct HandedOver {
 }
 
 impl HandedOver {
+    /// Nothing is handed over yet.
     pub fn new(alloc: Global) -> HandedOver {
         HandedOver {
             list: Vec::new(alloc),

@@ -111,6 +111,7 @@ pub struct Messages {
 }
 
 impl Messages {
+    /// None yet.
     pub fn new(alloc: Global) -> Messages {
         Messages {
             list: Numbered::new(alloc),

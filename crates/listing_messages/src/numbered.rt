@@ -15,6 +15,7 @@ pub struct Numbered<T> {
 }
 
 impl<T: Drop> Numbered<T> {
+    /// None yet.
     pub fn new(alloc: Global) -> Numbered<T>
         ensures { result.all.items ≡ [] }
     {

@@ -37,6 +37,7 @@ impl<W: Write + Drop> Model for RowWriter<W> {
 }
 
 impl<W: Write + Drop> RowWriter<W> {
+    /// Nothing is to be written yet.
     pub fn new(alloc: Global, writer: W) -> RowWriter<W>
         ensures { Keeps (W.contents writer) result }
     {

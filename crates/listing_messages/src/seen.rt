@@ -46,6 +46,7 @@ pub struct Seen {
 }
 
 impl Seen {
+    /// Nothing is seen yet.
     pub fn new(alloc: Global) -> Seen
         ensures frames { result.sequence ≡ None }
         ensures gaps { result.gaps.items ≡ [] }

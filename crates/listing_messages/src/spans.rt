@@ -75,6 +75,7 @@ pub struct Spans {
 }
 
 impl Spans {
+    /// None yet.
     pub fn new(alloc: Global) -> Spans {
         Spans {
             processes: IndexMap::new(alloc),

@@ -70,7 +70,7 @@ pub(crate) struct Fitting {
 }
 
 impl Fitting {
-    pub fn new(alloc: Global) -> Fitting
+    pub(crate) fn new(alloc: Global) -> Fitting
         ensures looked { result.looked.items ≡ [] }
         ensures list { result.list.items ≡ [] }
         ensures rank { result.rank ≡ 255 }
@@ -85,7 +85,7 @@ impl Fitting {
     }
 
     /// Begins with none.
-    pub fn begin(&mut self)
+    pub(crate) fn begin(&mut self)
         ensures { self.new.list.items ≡ [] }
     {
         self.list.clear();
@@ -93,7 +93,7 @@ impl Fitting {
         self.is_whole = true;
     }
 
-    pub fn add(&mut self, rank: u8, fit: Fit) -> Outcome
+    pub(crate) fn add(&mut self, rank: u8, fit: Fit) -> Outcome
         ensures { OnOk result (Adds self.old rank fit self.new) }
     {
         if rank > self.rank {
@@ -118,7 +118,7 @@ impl Fitting {
         }
     }
 
-    pub fn first(&self) -> Option<Fit>
+    pub(crate) fn first(&self) -> Option<Fit>
         ensures { IfSome result (IsIn self.now.list.items) }
     {
         self.list.as_slice().first().copied()
@@ -194,7 +194,7 @@ impl Fitting {
     }
 
     /// How many they are: no more than were looked at.
-    pub fn count(&self) -> Result<u32, ListingError>
+    pub(crate) fn count(&self) -> Result<u32, ListingError>
         ensures { IfOk result (λ count. count ≡ length self.now.list.items) }
     {
         narrow(self.list.len() as u64)

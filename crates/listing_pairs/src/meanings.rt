@@ -47,7 +47,7 @@ pub(crate) struct Meanings {
 }
 
 impl Meanings {
-    pub fn new(alloc: Global) -> Meanings
+    pub(crate) fn new(alloc: Global) -> Meanings
         ensures list { result.list.all.items ≡ [] }
         ensures same { result.same.all.items ≡ [] }
         ensures held { IsEmpty result.held }
@@ -60,7 +60,7 @@ impl Meanings {
     }
 
     /// Nothing is known yet of these generations.
-    pub fn begin(&mut self, generations: &Generations, seen: &Seen) -> Outcome
+    pub(crate) fn begin(&mut self, generations: &Generations, seen: &Seen) -> Outcome
         ensures begins { OnOk result (BeginsEach seen.now self.old.list.all.items
             self.new.list.all.items generations.now.list.all.items) }
         ensures same { self.new.same ≡ self.old.same }
@@ -132,7 +132,7 @@ impl Meanings {
     }
 
     /// Makes known what was learnt. Returns whether that is more than before.
-    pub fn settle(&mut self, generations: &Generations) -> Result<bool, ListingError>
+    pub(crate) fn settle(&mut self, generations: &Generations) -> Result<bool, ListingError>
         ensures { OnOk result (MakesAllKnown self.old.list.all.items self.new.list.all.items
             self.old.same.all.items) }
     {

@@ -58,7 +58,7 @@ pub(crate) struct Waiting {
 }
 
 impl Waiting {
-    pub fn new(alloc: Global) -> Waiting
+    pub(crate) fn new(alloc: Global) -> Waiting
         ensures { HasNone result }
     {
         Waiting {
@@ -70,7 +70,7 @@ impl Waiting {
     }
 
     /// Begins with none.
-    pub fn clear(&mut self)
+    pub(crate) fn clear(&mut self)
         ensures { HasNone self.new }
     {
         self.untaken.clear();
@@ -79,7 +79,7 @@ impl Waiting {
         self.doubts.clear();
     }
 
-    pub fn add(&mut self, send: Listed) -> Outcome
+    pub(crate) fn add(&mut self, send: Listed) -> Outcome
         ensures added { OnOk result (IsTrue (waits self.new (entry_of send))) }
         ensures kept { OnOk result (AllWait self.old self.new) }
         ensures doubted { self.new.doubted ≡ self.old.doubted }
