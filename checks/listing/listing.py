@@ -8,10 +8,10 @@ crates/audit_cases/data and samples/ the listing and the auditor's report must a
 line of the first fault, and in the status. Freeze notifications, which the report counts as opaque, have their names
 and fields. A narrowed listing must be the lines of the whole listing that fit. Several files are one capture, also if
 each capture is cut into a file for each frame. In version 2 a frame has a device. Of the payloads in kit/tokens.py each
-must have the interface and the service that it names, and no other. The columns that listing_messages and
-listing_tables fill are those of viewer/database/schema.sql. Of a malformed capture, with each kind of fault, in one
-part and in a later one, --tables also writes what comes before the fault: a good capture with the same rows. A side
-list of another version is refused; one with many frames in a line is read like one with a line for each frame.
+must have the interface and the service that it names, and no other. The columns that listing_tables fills are those of
+viewer/database/schema.sql. Of a malformed capture, with each kind of fault, in one part and in a later one, --tables
+also writes what comes before the fault: a good capture with the same rows. A side list of another version is
+refused; one with many frames in a line is read like one with a line for each frame.
 """
 
 import argparse
@@ -429,9 +429,8 @@ def check_services(program: pathlib.Path, room: pathlib.Path, fail: Fail) -> Non
 
 
 def check_columns(program: pathlib.Path, room: pathlib.Path, fail: Fail) -> None:
-    """The rows that are made have the columns of the raw tables in schema.sql, by name and in order."""
-    made = "".join(path.read_text("utf-8") for crate in ("listing_messages", "listing_tables")
-                   for path in (ROOT / "crates" / crate / "src").glob("*.rt"))
+    """The rows that listing_tables makes have the columns of the raw tables in schema.sql, by name and in order."""
+    made = "".join(path.read_text("utf-8") for path in (ROOT / "crates/listing_tables/src").glob("*.rt"))
     named = re.findall(r"columns! \{(.*?)\}", made, re.DOTALL)
     compare("columns", {tuple(re.findall(r"(\w+): ", row)) for row in named},
             set(map(tuple, columns_of_tables().values())), fail)

@@ -1,4 +1,4 @@
 pub mod Content
+pub mod Frames
 pub mod Interface
 pub mod Service
-pub use Rattle.listing_base.specs.Frames

@@ -16,8 +16,8 @@ ghost use Rattle.std.specs.Prelude.{◌≡◌, IsTrue, IfSome, All, take, length
 ghost use Rattle.listing_fields.specs.Interface.{may_spell, string_of, IsToken};
 
 use crate::content::Item;
+use crate::frames::is_reply;
 use capture_frame::u32_at;
-use listing_base::is_reply;
 use std::alloc::AllocError;
 use transaction_view::Transaction;
 

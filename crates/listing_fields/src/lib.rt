@@ -4,7 +4,9 @@
 
 mod attached;
 mod content;
+mod error;
 mod fields;
+mod frames;
 mod interface;
 mod named;
 mod newer;
@@ -15,12 +17,10 @@ mod text;
 
 pub use attached::{Attached, EachObject, has_named, offset_of};
 pub use content::{Content, Item};
+pub use error::{ListingError, Outcome, read_error, write_error};
 pub use fields::{Field, Form, Shown, Value, fields_of, has_field, object_fields};
+pub use frames::{direction_number, is_oneway, is_reply, thread_of};
 pub use interface::{InterfaceName, interface_of, reply_name};
-pub use listing_base::{
-    ListingError, Outcome, direction_number, is_oneway, is_reply, read_error, thread_of,
-    write_error,
-};
 pub use named::{Named, named_of, number_of};
 pub use newer::{NEWER_LINES, NewerKind, NewerLine, is_unnamed, name_of, newer_line};
 pub use service::{ServiceName, service_of};

@@ -1,7 +1,7 @@
 //! Why the listing of a part ended early.
 
+use crate::error::ListingError;
 use capture_frame::Fault;
-use listing_base::ListingError;
 use std::alloc::AllocError;
 
 #[derive(Clone, Copy)]

@@ -5,12 +5,12 @@ use Rattle.std.specs.Option.{option_to_list}
 use Rattle.std.specs.VecDeque.{deque_items}
 use Rattle.binder_code.specs.declared.record_kind.Kind.{Kind}
 use Rattle.binder_code.specs.declared.record_kind.Kind.TheVariants.{BrDeadReply, BrTransactionComplete, BrFailedReply, BrFrozenReply, BrOnewaySpamSuspect, BrTransactionPendingFrozen}
-use Rattle.listing_messages.specs.Changes.{Changes, settled_as, with_detail}
-use Rattle.listing_messages.specs.declared.messages.Detail.{Detail}
-use Rattle.listing_messages.specs.declared.messages.Detail.TheVariants.{Failed}
-use Rattle.listing_messages.specs.declared.messages.Message.{Message}
-use Rattle.listing_messages.specs.declared.messages.Settled.{Settled}
-use Rattle.listing_messages.specs.declared.messages.Settled.TheVariants.{Confirmed, Refused}
+use Rattle.listing_tables.specs.Changes.{Changes, settled_as, with_detail}
+use Rattle.listing_tables.specs.declared.messages.Detail.{Detail}
+use Rattle.listing_tables.specs.declared.messages.Detail.TheVariants.{Failed}
+use Rattle.listing_tables.specs.declared.messages.Message.{Message}
+use Rattle.listing_tables.specs.declared.messages.Settled.{Settled}
+use Rattle.listing_tables.specs.declared.messages.Settled.TheVariants.{Confirmed, Refused}
 use Rattle.listing_tables.specs.declared.origin.Origin.{Origin}
 use Rattle.listing_tables.specs.declared.sends.Sends.{Sends}
 use Rattle.listing_tables.specs.declared.traffic.Traffic.{Traffic}

@@ -1,10 +1,10 @@
 -- What is written of each table that is written after the walk (docs/DATABASE.md).
 use Rattle.std.specs.Prelude.{◌≡◌, ℕ, List, Option, ⊤}
 use Rattle.std.specs.Io.KnownBytes.{Keeps}
-use Rattle.listing_messages.specs.Columns.{WritesRows}
-use Rattle.listing_messages.specs.Generations.{generation_rows}
-use Rattle.listing_messages.specs.Messages.{delivery_rows, send_rows}
-use Rattle.listing_messages.specs.Spans.{process_rows, thread_rows}
+use Rattle.listing_tables.specs.Columns.{WritesRows}
+use Rattle.listing_tables.specs.Generations.{generation_rows}
+use Rattle.listing_tables.specs.Messages.{delivery_rows, send_rows}
+use Rattle.listing_tables.specs.Spans.{process_rows, thread_rows}
 use Rattle.listing_fields.specs.declared.table.Table.{Table}
 use Rattle.listing_fields.specs.declared.table.Table.TheVariants.{Capture, Process, Thread, Frame, Record, Interface, Service, Object, Call, Generation, Send, Delivery, Slice, Level}
 use Rattle.listing_tables.specs.declared.tables.Tables.{Tables}

@@ -11,11 +11,11 @@ use Rattle.transaction_view.specs.Transaction.{data_size, flags}
 use Rattle.binder_code.specs.declared.record_kind.Kind.TheVariants.{BrReply}
 use Rattle.listing_fields.specs.declared.content.Item.{Item}
 use Rattle.listing_fields.specs.declared.named.Named.{Named}
-use Rattle.listing_messages.specs.Columns.{column_of}
-use Rattle.listing_messages.specs.declared.rows.Column.{Column}
-use Rattle.listing_messages.specs.declared.rows.Column.TheVariants.{Number}
+use Rattle.listing_tables.specs.Columns.{column_of}
+use Rattle.listing_tables.specs.declared.rows.Column.{Column}
+use Rattle.listing_tables.specs.declared.rows.Column.TheVariants.{Number}
 use Rattle.listing_tables.specs.declared.tables.Tables.{Tables}
-use Rattle.listing_messages.specs.Steps.{KeepsAll}
+use Rattle.listing_tables.specs.Steps.{KeepsAll}
 
 -- these frames, unless there is a fault before them
 abbrev pub unless_fault : Option Fault → List PlacedFrame → List PlacedFrame

@@ -10,7 +10,7 @@ ghost use Rattle.listing_tables.specs.BeforeFault.{before_place, capture_before_
 use crate::ending::frames_of;
 use byteorder::{LittleEndian, WriteBytesExt};
 use capture_frame::{Frame, FrameSlice};
-use listing_base::{ListingError, Outcome, direction_number, write_error};
+use listing_fields::{ListingError, Outcome, direction_number, write_error};
 use std::alloc::Global;
 use std::io::{self, BufWriter, ErrorKind, Write};
 use transaction_view::check_frame;

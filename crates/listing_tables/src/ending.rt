@@ -5,9 +5,11 @@ ghost use Rattle.std.specs.List.{sum_by};
 ghost use Rattle.transaction_view.specs.Grammar.{IsGood};
 ghost use Rattle.listing_tables.specs.Walk.{counted_frames, up_to_fault};
 
+use crate::numbered::sum;
+use crate::rows::{Column, RowWriter, columns};
+use crate::spans::number_at;
 use capture_frame::{FILE_HEADER, FaultKind, FrameList, FrameSlice, PartCut, PartFault, cut_parts};
-use listing_base::{ListingError, Outcome};
-use listing_messages::{Column, RowWriter, columns, number_at, sum};
+use listing_fields::{ListingError, Outcome};
 use std::alloc::Global;
 use std::io::Write;
 use transaction_view::{check_frame, first_fault_parts};

@@ -1,14 +1,17 @@
 //! What follows from the calls, once they are found.
 
 ghost use Rattle.std.specs.Prelude.{◌≡◌};
-ghost use Rattle.listing_messages.specs.Gaps.{is_outermost};
+ghost use Rattle.listing_tables.specs.Gaps.{is_outermost};
 
+use crate::calls::Call;
 use crate::held::HeldCounts;
 use crate::levels::Resource;
+use crate::messages::{Detail, Message, Path};
+use crate::numbered::Numbered;
+use crate::spans::{Spans, Upid};
 use crate::traffic::Traffic;
 use binder_code::Kind;
-use listing_base::{ListingError, Outcome};
-use listing_messages::{Call, Detail, Message, Numbered, Path, Spans, Upid};
+use listing_fields::{ListingError, Outcome};
 use std::alloc::Global;
 
 impl Traffic {

@@ -1,12 +1,13 @@
 //! What processes know of nodes: the generations of their handles, and the objects of messages.
 
+use crate::generations::{Effect, Generations, Reference};
+use crate::handed::{HandedOver, Node, Object};
 use crate::levels::{Levels, Resource};
+use crate::numbered::narrow;
 use crate::origin::Origin;
 use binder_code::Kind;
 use event_core::Strength;
-use listing_base::{ListingError, Outcome};
-use listing_fields::EachObject;
-use listing_messages::{Effect, Generations, HandedOver, Node, Object, Reference, narrow};
+use listing_fields::{EachObject, ListingError, Outcome};
 use object_view::Sort;
 use std::alloc::Global;
 use transaction_view::Entry;

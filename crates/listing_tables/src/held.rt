@@ -1,7 +1,8 @@
 //! How many buffers of each path are held, while the deliveries are gone through in order.
 
-use listing_base::{ListingError, Outcome};
-use listing_messages::{Buffers, Numbered, one_fewer, one_more};
+use crate::buffers::Buffers;
+use crate::numbered::{Numbered, one_fewer, one_more};
+use listing_fields::{ListingError, Outcome};
 use std::alloc::Global;
 
 /// How many buffers of each path, by its index, are not freed so far.

@@ -3,9 +3,8 @@
 ghost use Rattle.std.specs.Prelude.{◌≡◌, IfOk};
 ghost use Rattle.listing_tables.specs.Keys.{IsKey, sum_after, sum_of_numbers};
 
-use listing_base::ListingError;
-use listing_fields::EachObject;
-use listing_messages::sum;
+use crate::numbered::sum;
+use listing_fields::{EachObject, ListingError};
 use transaction_view::{Entry, Transaction};
 
 /// Where a sum begins: FNV-1a of 64 bits.

@@ -2,10 +2,12 @@
 
 ghost use Rattle.std.specs.Prelude.{◌<◌};
 
+use crate::numbered::{Numbered, one_more};
+use crate::rows::{Column, RowWriter, columns};
 use crate::slices::{SLICES, Slices};
+use crate::spans::Upid;
 use indexmap::IndexMap;
-use listing_base::{ListingError, Outcome};
-use listing_messages::{Column, Numbered, RowWriter, Upid, columns, one_more};
+use listing_fields::{ListingError, Outcome};
 use std::alloc::Global;
 use std::io::Write;
 

@@ -1,9 +1,9 @@
 //! The names that records have, of interfaces and of services, and their tables.
 
+use crate::rows::{Column, RowWriter, columns};
+use crate::spans::number_at;
 use indexmap::IndexSet;
-use listing_base::{ListingError, Outcome};
-use listing_fields::{Item, interface_of, reply_name, service_of};
-use listing_messages::{Column, RowWriter, columns, number_at};
+use listing_fields::{Item, ListingError, Outcome, interface_of, reply_name, service_of};
 use std::alloc::Global;
 use std::io::Write;
 

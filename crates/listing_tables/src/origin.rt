@@ -1,6 +1,6 @@
 //! Where a record is, and whose it is.
 
-use listing_messages::{Upid, Utid};
+use crate::spans::{Upid, Utid};
 
 /// Where a record is, and whose it is.
 #[derive(Clone, Copy)]

@@ -6,12 +6,11 @@ ghost use Rattle.listing_tables.specs.Walk.{HasNoSteps};
 
 use crate::before_fault::write_before_fault;
 use crate::ending::Ending;
+use crate::rows::RowWriter;
 use crate::tables::Tables;
 use crate::walk::{Writers, walk_to};
 use either::Either::{self, Left, Right};
-use listing_base::{ListingError, Outcome, write_error};
-use listing_fields::{TABLES, Table};
-use listing_messages::RowWriter;
+use listing_fields::{ListingError, Outcome, TABLES, Table, write_error};
 use std::alloc::{AllocError, Global};
 use std::fs;
 use std::fs::Files;

@@ -7,11 +7,13 @@ ghost use Rattle.listing_fields.specs.Content.{record_of_item};
 ghost use Rattle.listing_tables.specs.Walk.{BeginsWith, HasNames, HasStatus, IsFrameRow};
 ghost use Rattle.listing_tables.specs.Walk.{record_begin};
 
+use crate::rows::{Column, RowWriter, columns, signed};
+use crate::spans::Utid;
 use binder_code::Kind;
 use capture_frame::{Direction, Frame, u32_at};
-use listing_base::{Outcome, direction_number};
-use listing_fields::{Attached, EachObject, Item, Named, is_unnamed, number_of, offset_of};
-use listing_messages::{Column, RowWriter, Utid, columns, signed};
+use listing_fields::{
+    Attached, EachObject, Item, Named, Outcome, direction_number, is_unnamed, number_of, offset_of,
+};
 use object_view::Object;
 use record_view::Record;
 use std::io::Write;

@@ -3,8 +3,9 @@
 ghost use Rattle.std.specs.Prelude.{IfOk, OnOk};
 ghost use Rattle.listing_tables.specs.Settling.{AddsLast, TakesFirst, queues_of};
 
-use listing_base::{ListingError, Outcome};
-use listing_messages::{Numbered, Utid};
+use crate::numbered::Numbered;
+use crate::spans::Utid;
+use listing_fields::{ListingError, Outcome};
 use std::alloc::Global;
 use std::collections::VecDeque;
 

@@ -2,8 +2,8 @@
 
 ghost use Rattle.std.specs.Prelude.{◌<◌, ◌≤◌, ◌^◌};
 
-use listing_base::Outcome;
-use listing_messages::{Column, RowWriter, columns};
+use crate::rows::{Column, RowWriter, columns};
+use listing_fields::Outcome;
 use std::io::Write;
 
 /// How many slices there are.

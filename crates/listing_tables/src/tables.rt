@@ -3,22 +3,24 @@
 ghost use Rattle.std.specs.Prelude.{◌≡◌, List, OnOk};
 ghost use Rattle.capture_frame.specs.Envelope.{placed_frame};
 ghost use Rattle.record_view.specs.State.{placed_record};
-ghost use Rattle.listing_messages.specs.Steps.{AddsMarked, IsKept, KeepsAll, Marked, WritesCalls};
-ghost use Rattle.listing_messages.specs.Steps.{marked_of};
+ghost use Rattle.listing_tables.specs.Steps.{AddsMarked, IsKept, KeepsAll, Marked, WritesCalls};
+ghost use Rattle.listing_tables.specs.Steps.{marked_of};
 ghost use Rattle.listing_tables.specs.Tables.{KeepsLists, WritesTable};
 ghost use Rattle.listing_tables.specs.Walk.{HasNoSteps};
 
+use crate::calls::{Call, all_calls};
 use crate::ending::Ending;
 use crate::names::Names;
+use crate::numbered::{Numbered, narrow, sum};
 use crate::origin::Origin;
+use crate::pairs::pair_all;
+use crate::rows::RowWriter;
 use crate::slices::Slices;
+use crate::spans::{Owner, Spans};
+use crate::steps::{Steps, add_step};
 use crate::traffic::Traffic;
 use capture_frame::Frame;
-use listing_base::{ListingError, Outcome};
-use listing_fields::{Item, Named, Table};
-use listing_messages::{
-    Call, Numbered, Owner, RowWriter, Spans, Steps, add_step, all_calls, narrow, sum,
-};
+use listing_fields::{Item, ListingError, Named, Outcome, Table};
 use std::alloc::Global;
 use std::io::Write;
 use std::mem;
@@ -106,7 +108,7 @@ impl Tables {
         self.calls = calls?;
         self.traffic.messages.write_calls(&self.calls, rows)?;
         self.traffic.follow(alloc, &self.calls, &self.spans)?;
-        self.traffic.pair(alloc, &self.calls)
+        pair_all(alloc, &mut self.traffic, &self.calls)
     }
 
     /// Writes a table of the capture that was walked through, and that goes this far. Nothing is

@@ -1,24 +1,23 @@
 //! What the walk makes of the records, of which the tables from call on are written.
 
 ghost use Rattle.std.specs.Prelude.{◌≡◌, ◌++◌, ◌∷◌, [], length, OnOk};
-ghost use Rattle.listing_tables.specs.Paired.{PairsTraffic};
 ghost use Rattle.listing_tables.specs.Settling.{SettlesFirst, message_at, messages_in, queues_of};
 ghost use Rattle.listing_tables.specs.Settling.{TakesSaid, said_by};
 
+use crate::buffers::{Buffer, Buffers};
+use crate::handed::Node;
 use crate::handles::Handles;
 use crate::keys::key_of;
 use crate::levels::{Levels, Resource};
+use crate::messages::{Detail, Message, Messages, Path, Sent, Settled, unknown_path};
 use crate::origin::Origin;
+use crate::seen::Seen;
 use crate::sends::Sends;
+use crate::spans::{Owner, Upid, Utid};
+use crate::steps::is_oneway;
 use binder_code::Kind;
 use capture_frame::Frame;
-use listing_base::{ListingError, Outcome};
-use listing_fields::{Item, Named};
-use listing_messages::{
-    Buffer, Buffers, Call, Detail, Message, Messages, Node, Numbered, Owner, Path, Seen, Sent,
-    Settled, Upid, Utid, is_oneway, unknown_path,
-};
-use listing_pairs::{Facts, pair_all};
+use listing_fields::{Item, ListingError, Named, Outcome};
 use std::alloc::Global;
 use transaction_view::{Entry, Transaction};
 
@@ -72,19 +71,6 @@ impl Traffic {
         };
         let key = key_of(transaction, item.entry, origin.device)?;
         self.add_message(origin, kind, oneway, key, detail)
-    }
-
-    /// Finds the delivery of each send, and the send of each delivery.
-    pub(crate) fn pair(&mut self, alloc: Global, calls: &Numbered<Call>) -> Outcome
-        ensures { OnOk result (PairsTraffic self.old calls.now self.new) }
-    {
-        let facts = Facts {
-            buffers: &self.buffers,
-            generations: &self.handles.generations,
-            seen: &self.seen,
-            calls,
-        };
-        pair_all(alloc, &mut self.messages, &mut self.handles.handed, facts)
     }
 
     /// The index of the generation of the handle that a record names, if it names one.

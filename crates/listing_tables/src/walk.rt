@@ -7,17 +7,18 @@ ghost use Rattle.capture_frame.specs.Envelope.{placed_frame};
 ghost use Rattle.record_view.specs.Records.{records_of};
 ghost use Rattle.transaction_view.specs.Grammar.{IsGood};
 ghost use Rattle.listing_fields.specs.Content.{record_of_item, records_left};
-ghost use Rattle.listing_messages.specs.Columns.{AddsRows};
+ghost use Rattle.listing_tables.specs.Columns.{AddsRows};
 ghost use Rattle.listing_tables.specs.Walk.{BeginsWith, HasNoSteps, IsFrameRow, counted_frames, record_begin, record_begins};
-ghost use Rattle.listing_messages.specs.Steps.{AddsMarked, IsKept, WritesCalls, marked_in, marked_of};
+ghost use Rattle.listing_tables.specs.Steps.{AddsMarked, IsKept, WritesCalls, marked_in, marked_of};
 
 use crate::ending::{Ending, frames_of};
+use crate::numbered::sum;
 use crate::records::{frame_columns, record_columns, write_objects};
+use crate::rows::RowWriter;
+use crate::spans::Owner;
 use crate::tables::Tables;
 use capture_frame::{Frame, FrameSlice};
-use listing_base::{ListingError, Outcome};
-use listing_fields::{Content, Item, named_of};
-use listing_messages::{Owner, RowWriter, sum};
+use listing_fields::{Content, Item, ListingError, Outcome, named_of};
 use std::alloc::Global;
 use std::io::Write;
 

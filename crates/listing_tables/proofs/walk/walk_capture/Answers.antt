@@ -1,7 +1,7 @@
 use Rattle.std.proofs.Common.{◌≡◌, ℕ, List, [], Option, map, take, sym, ap, subst, ◌∙◌}
 use Rattle.std.specs.List.{flat_map}
-use Rattle.listing_messages.specs.Columns.{AddsRows}
-use Rattle.listing_messages.specs.Steps.{KeepsAll, WritesCalls, marked_in}
+use Rattle.listing_tables.specs.Columns.{AddsRows}
+use Rattle.listing_tables.specs.Steps.{KeepsAll, WritesCalls, marked_in}
 use Rattle.listing_tables.specs.Walk.{BeginsWith, IsFrameRow, counted_frames, record_begins}
 use Rattle.listing_tables.proofs.walk.walk_capture.Goals as goal
 

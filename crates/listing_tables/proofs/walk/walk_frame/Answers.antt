@@ -1,9 +1,9 @@
 use Rattle.std.proofs.Common.{◌∷◌, [], subst}
 use Rattle.std.proofs.lemmas.Result.{on_ok_weaker}
 use Rattle.capture_frame.specs.Envelope.{placed_frame}
-use Rattle.listing_messages.specs.Columns.{AddsRows}
+use Rattle.listing_tables.specs.Columns.{AddsRows}
 use Rattle.listing_tables.specs.Walk.{IsFrameRow}
-use Rattle.listing_messages.proofs.RowsAdded.{one_row}
+use Rattle.listing_tables.proofs.WalkLaws.{one_row}
 use Rattle.listing_tables.proofs.walk.walk_frame.Goals as goal
 
 pub returns-clause-frames : goal.returns-clause-frames

@@ -3,10 +3,10 @@ use Rattle.std.proofs.lemmas.List.{flat_map_more, take_more}
 use Rattle.std.proofs.lemmas.Option.{get_or_from_slice_get, slice_get_within}
 use Rattle.std.specs.List.{flat_map}
 use Rattle.capture_frame.specs.Envelope.{placed_frame}
-use Rattle.listing_messages.specs.Columns.{AddsRows}
-use Rattle.listing_messages.specs.Steps.{KeepsAll, marked_in}
+use Rattle.listing_tables.specs.Columns.{AddsRows}
+use Rattle.listing_tables.specs.Steps.{KeepsAll, marked_in}
 use Rattle.listing_tables.specs.Walk.{BeginsWith, IsFrameRow, record_begins}
-use Rattle.listing_messages.proofs.RowsAdded.{more_rows}
+use Rattle.listing_tables.proofs.WalkLaws.{more_rows}
 use Rattle.listing_tables.proofs.walk.walk_frames.Goals as goal
 
 pub walk_frame-requires-clause-kept : goal.walk_frame-requires-clause-kept

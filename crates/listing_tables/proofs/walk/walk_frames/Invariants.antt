@@ -1,7 +1,7 @@
 use Rattle.std.proofs.Common.{◌≡◌, take}
 use Rattle.std.specs.List.{flat_map}
-use Rattle.listing_messages.specs.Columns.{AddsRows}
-use Rattle.listing_messages.specs.Steps.{AddsMarked, marked_in}
+use Rattle.listing_tables.specs.Columns.{AddsRows}
+use Rattle.listing_tables.specs.Steps.{AddsMarked, marked_in}
 use Rattle.listing_tables.specs.Walk.{BeginsWith, IsFrameRow, record_begins}
 use Rattle.listing_tables.proofs.walk.walk_frames.Given as goal
 

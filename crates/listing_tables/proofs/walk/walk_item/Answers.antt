@@ -2,7 +2,7 @@ use Rattle.std.proofs.lemmas.Result.{on_ok_weaker}
 use Rattle.capture_frame.specs.Envelope.{placed_frame}
 use Rattle.listing_fields.specs.Content.{record_of_item}
 use Rattle.listing_tables.specs.Walk.{BeginsWith, record_begin}
-use Rattle.listing_messages.proofs.RowsAdded.{one_row}
+use Rattle.listing_tables.proofs.WalkLaws.{one_row}
 use Rattle.listing_tables.proofs.walk.walk_item.Goals as goal
 
 pub returns-clause-records : goal.returns-clause-records

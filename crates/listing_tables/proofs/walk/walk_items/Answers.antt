@@ -8,10 +8,10 @@ use Rattle.capture_frame.specs.Envelope.{placed_frame}
 use Rattle.capture_frame.specs.Units.{Placed}
 use Rattle.record_view.specs.Records.{RecordText, records_of}
 use Rattle.listing_fields.specs.Content.{record_of_item, records_left}
-use Rattle.listing_messages.specs.Columns.{AddsRows}
-use Rattle.listing_messages.specs.Steps.{KeepsAll, marked_of}
+use Rattle.listing_tables.specs.Columns.{AddsRows}
+use Rattle.listing_tables.specs.Steps.{KeepsAll, marked_of}
 use Rattle.listing_tables.specs.Walk.{BeginsWith, record_begin}
-use Rattle.listing_messages.proofs.RowsAdded.{more_rows}
+use Rattle.listing_tables.proofs.WalkLaws.{more_rows}
 use Rattle.listing_tables.proofs.walk.walk_items.Goals as goal
 
 pub walk_item-requires : goal.walk_item-requires

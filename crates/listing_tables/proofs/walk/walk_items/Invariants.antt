@@ -2,8 +2,8 @@ use Rattle.std.proofs.Common.{◌≡◌, length, map}
 use Rattle.std.specs.List.{flat_map}
 use Rattle.capture_frame.specs.Envelope.{placed_frame}
 use Rattle.listing_fields.specs.Content.{record_of_item}
-use Rattle.listing_messages.specs.Columns.{AddsRows}
-use Rattle.listing_messages.specs.Steps.{AddsMarked, marked_of}
+use Rattle.listing_tables.specs.Columns.{AddsRows}
+use Rattle.listing_tables.specs.Steps.{AddsMarked, marked_of}
 use Rattle.listing_tables.specs.Walk.{BeginsWith, record_begin}
 use Rattle.listing_tables.proofs.walk.walk_items.Given as goal
 

@@ -1,5 +1,5 @@
-use Rattle.listing_messages.specs.Messages.{IsCallRow}
-use Rattle.listing_messages.proofs.RowsAdded.{kept_rows}
+use Rattle.listing_tables.specs.Messages.{IsCallRow}
+use Rattle.listing_tables.proofs.WalkLaws.{kept_rows}
 use Rattle.listing_tables.proofs.walk.walk_to.Goals as goal
 
 pub returns-in_ok-finish-in-Ok-clause-calls : goal.returns-in_ok-finish-in-Ok-clause-calls

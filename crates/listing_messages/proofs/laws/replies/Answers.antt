@@ -1,5 +1,0 @@
-use Rattle.listing_messages.proofs.ReplyLaws.{each_reply}
-use Rattle.listing_messages.proofs.laws.replies.Goals as goal
-
-pub returns : goal.returns
-returns c = λ steps. each_reply steps

@@ -1,6 +1,0 @@
-use Rattle.std.proofs.Common.{◌≡◌, drop}
-use Rattle.listing_messages.specs.Columns.{mask_of}
-use Rattle.listing_messages.proofs.rows.mask_of.Given as goal
-
-abbrev pub invariant-loop-number : goal.invariant-loop-number
-invariant-loop-number l = l.mask ≡ mask_of (drop l.number l.columns)

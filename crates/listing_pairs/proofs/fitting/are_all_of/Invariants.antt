@@ -1,6 +1,0 @@
-use Rattle.std.proofs.Common.{◌≡◌, ◌<◌, ℕ, Some, slice_get}
-use Rattle.listing_pairs.specs.declared.fitting.Fit.{Fit}
-use Rattle.listing_pairs.proofs.fitting.are_all_of.Given as goal
-
-abbrev pub invariant-loop-fit : goal.invariant-loop-fit
-invariant-loop-fit l = (at : ℕ) → at < l.fit-index → (other : Fit) → slice_get l.fits at ≡ Some other → other.sent.generation ≡ l.generation

@@ -1,8 +1,0 @@
-use Rattle.std.proofs.Common.{◌≡◌, ◌++◌, map, take, drop}
-use Rattle.listing_pairs.specs.Meanings.{made_known}
-use Rattle.listing_pairs.proofs.meanings.Meanings.settle.Given as goal
-
--- the first ones are known
-abbrev pub invariant-loop-index : goal.invariant-loop-index
-invariant-loop-index l =
-    l.self.list.all.items ≡ map made_known (take l.index l.initial.self.list.all.items) ++ drop l.index l.initial.self.list.all.items

@@ -1,5 +1,0 @@
-use Rattle.listing_pairs.specs.Waiting.{AllWait}
-use Rattle.listing_pairs.proofs.pairs.doubt_each.Given as goal
-
-abbrev pub invariant-loop-fit : goal.invariant-loop-fit
-invariant-loop-fit l = AllWait l.fn.waiting l.waiting

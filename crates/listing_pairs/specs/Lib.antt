@@ -1,9 +1,0 @@
-pub mod Certainty
-pub mod Doubts
-pub mod Guesses
-pub mod Learning
-pub mod Meanings
-pub mod OneHandle
-pub mod Pairing
-pub mod Turns
-pub mod Waiting

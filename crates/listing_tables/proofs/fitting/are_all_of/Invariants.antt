@@ -1,0 +1,6 @@
+use Rattle.std.proofs.Common.{◌≡◌, ◌<◌, ℕ, Some, slice_get}
+use Rattle.listing_tables.specs.declared.fitting.Fit.{Fit}
+use Rattle.listing_tables.proofs.fitting.are_all_of.Given as goal
+
+abbrev pub invariant-loop-fit : goal.invariant-loop-fit
+invariant-loop-fit l = (at : ℕ) → at < l.fit-index → (other : Fit) → slice_get l.fits at ≡ Some other → other.sent.generation ≡ l.generation

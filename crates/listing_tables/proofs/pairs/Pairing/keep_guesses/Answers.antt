@@ -1,0 +1,17 @@
+use Rattle.std.proofs.Common.{arith}
+use Rattle.listing_tables.specs.Turns.{KeepsIfGuessed, count_of}
+use Rattle.listing_tables.proofs.TurnLaws.{each_all, each_more}
+use Rattle.listing_tables.proofs.pairs.Pairing.keep_guesses.Goals as goal
+
+pub loop-index-preserved : goal.loop-index-preserved
+loop-index-preserved c =
+    each_more KeepsIfGuessed c.args.self.now c.loop-index.self c.keep_guess.new.self c.loop-index.index c.loop-index.invariant
+    (c.in_ok-keep_guess.ensures.same, c.in_ok-keep_guess.ensures.keeps)
+
+pub returns : goal.returns
+returns c =
+    let past = c.loop-index-test.false in
+    let upto = c.loop-index.auto.index-end in
+    let end = c.in_ok-index-end.ensures in
+    each_all KeepsIfGuessed c.args.self.now c.loop-index.self c.loop-index.index (count_of c.args.self.now)
+    (omega (arith, past, end)) (omega (arith, upto, end)) c.loop-index.invariant

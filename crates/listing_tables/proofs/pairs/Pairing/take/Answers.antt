@@ -1,0 +1,12 @@
+use Rattle.std.proofs.Common.{false, ◌≡◌, ap, sym, subst}
+use Rattle.listing_tables.specs.Waiting.{entry_of, waits}
+use Rattle.listing_tables.specs.declared.pairs.Pairing.{Pairing}
+use Rattle.listing_tables.specs.declared.waiting.Waiting.{Waiting}
+use Rattle.std.proofs.lemmas.Result.{on_ok_weaker}
+use Rattle.listing_tables.proofs.pairs.Pairing.take.Goals as goal
+
+pub returns-clause-gone : goal.returns-clause-gone
+returns-clause-gone c =
+    on_ok_weaker c.keep_pair.result
+    (λ same. subst (λ (w : Waiting). waits w (entry_of c.args.fit.now.listed) ≡ false) (sym (ap (λ (p : Pairing). p.waiting) same)) c.in_ok-take.ensures.gone)
+    c.keep_pair.ensures.same

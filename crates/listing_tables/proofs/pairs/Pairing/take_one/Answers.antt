@@ -1,0 +1,34 @@
+use Rattle.std.proofs.Common.{List, true, sym, ap, subst}
+use Rattle.listing_tables.specs.Pairing.{GuessesFit, MarksFits, messages_of}
+use Rattle.listing_tables.specs.declared.fitting.Fitting.{Fitting}
+use Rattle.listing_tables.specs.declared.marks.Mark.{Mark}
+use Rattle.listing_tables.specs.declared.messages.Message.{Message}
+use Rattle.listing_tables.specs.declared.pairs.Pairing.{Pairing}
+use Rattle.listing_tables.proofs.PairLaws.{guess_from, on_ok_always}
+use Rattle.listing_tables.proofs.pairs.Pairing.take_one.Goals as goal
+
+pub returns-clause-rates : goal.returns-clause-rates
+returns-clause-rates c =
+    let old = c.args.self.now in
+    let mid = c.learn_target.new.self in
+    let same = c.in_ok-learn_target.ensures in
+    let guessed = messages_of c.guess.new.self in
+    let fits = c.in_ok-fits.fits in
+    on_ok_always c.doubt_all.result (
+      fits,
+      subst (λ (l : List Message). GuessesFit c.args.sought.now.message.oneway (messages_of old) l old.fitting fits true) (sym (ap messages_of c.doubt_all.ensures.same))
+          (guess_from c.args.sought.now.message.oneway old mid guessed old.fitting fits true (ap messages_of same) (ap (λ (p : Pairing). p.fitting) same) c.in_ok-guess.ensures.rates),
+    )
+
+pub returns-clause-marks : goal.returns-clause-marks
+returns-clause-marks c =
+    let old = c.args.self.now in
+    let sought = c.args.sought.now in
+    let same = c.in_ok-learn_target.ensures in
+    let guessed = c.guess.new.self.marks.all.items in
+    on_ok_always c.doubt_all.result
+    (subst (λ (l : List Mark). MarksFits sought.message.oneway old.fitting sought.index old.marks.all.items l)
+    (sym (ap (λ (p : Pairing). p.marks.all.items) c.doubt_all.ensures.same))
+    (subst (λ (f : Fitting). MarksFits sought.message.oneway f sought.index old.marks.all.items guessed) (ap (λ (p : Pairing). p.fitting) same)
+    (subst (λ (l : List Mark). MarksFits sought.message.oneway c.learn_target.new.self.fitting sought.index l guessed)
+    (ap (λ (p : Pairing). p.marks.all.items) same) c.in_ok-guess.ensures.marks)))
