@@ -1,10 +1,9 @@
-"""Checks the pages: README.md, CONTRIBUTING.md, docs/, samples/, checks/README.md and the READMEs of the crates.
+"""Checks what the pages say of the programs. texts.py, which takes no program, has the pages and checks all else.
 
     checks/run pages [-- PROGRAM]
 
 What must hold:
 
-- Each link to a file of the repository leads to a file, and the text after # to a heading in it.
 - Each report that a page prints is one that the program writes for a capture of samples/ or of crates/audit_cases/data:
   whole, or without the heads that have no number above 0. In samples/README.md it is the report on the capture in the
   heading, or on the parts in the heading, which are separated by `and`.
@@ -12,19 +11,7 @@ What must hold:
 - An indented line that begins with `$ ` is a command, and the indented lines below it are what it prints, both streams
   together. The commands of a page are run one after another in one folder, which has the repository's files and the
   program as `audit`.
-- docs/DATABASE.md names the tables of `./listing --tables`.
-- The code words, sorts and flags in docs/COMMANDS.md are those of the second reading, the recorder and the database.
-- The files of sources that a page names are there, and docs/ARCHITECTURE.md names every crate.
 - The options that a page names are those of `--help` of the programs, and of the checks.
-- Each crate's page begins with a caller: lines of code that stand in a file of a crate above, or in a file of the crate
-  itself if no other crate uses it.
-- The wrong bodies in a crate's page are those stored for it, each of which names the goal at which it is refused.
-- docs/PROMISES.md names each wrong body of each crate and no others, in its tables only names that are in the sources,
-  the libraries of the toolchain that the auditor stands on, and the sizes of what is trusted, up to a tenth. README.md
-  has the number of wrong bodies.
-- README.md has the figures that docs/MEASURED.md has on the blind test and on the second recorder.
-- docs/DEFINITIONS.md is the page that checks/run definitions makes.
-- What stands in several sources, as the most bytes of a capture, has one value in all of them (owners.py).
 """
 
 import os
@@ -33,44 +20,15 @@ import shutil
 import subprocess
 
 from checks.kit.checking import check
-from checks.kit.programs import ROOT, SMALL, edits_of, folder_of, linked
+from checks.kit.programs import ROOT, SMALL, folder_of, linked
 from checks.kit.runs import answer
-from checks.pages import callers, codes, definitions, figures, named_options, owners, promises, sources, tables
+from checks.pages import named_options
+from checks.pages.texts import pages
 
 TITLE = "BINDER AUDIT "
 
 # How many seconds a command of a page may take: on a loaded machine nine pages were seen to take over two minutes.
 LONGEST = 600
-
-
-def pages():
-    """The pages, README.md first."""
-    return [ROOT / "README.md", ROOT / "CONTRIBUTING.md", *sorted(ROOT.glob("docs/*.md")),
-            *sorted(ROOT.glob("samples/**/*.md")), ROOT / "checks/README.md", *sorted(ROOT.glob("crates/*/README.md"))]
-
-
-def anchors(page):
-    """What a link can have after #: the headings in lower case, without signs, with - for each space."""
-    found = set()
-    for heading in re.findall(r"^#+ (.*)$", page.read_text("utf-8"), re.MULTILINE):
-        plain = re.sub(r"[^\w\- ]", "", heading.strip().lower()).replace(" ", "-")
-        # The second heading of the same text gets a number.
-        found.add(plain if plain not in found else next(
-            numbered for numbered in (f"{plain}-{n}" for n in range(1, 100)) if numbered not in found))
-    return found
-
-
-def wrong_links(page):
-    """The links of a page that lead nowhere, each with its line. A link can span two lines."""
-    text = page.read_text("utf-8")
-    for link in re.finditer(r"\]\(([^)\s]+)\)", text):
-        target = link.group(1)
-        if re.match(r"[a-z]+:", target):
-            continue
-        name, _, anchor = target.partition("#")
-        there = (page.parent / name).resolve() if name else page
-        if not there.exists() or anchor and anchor not in anchors(there):
-            yield text.count("\n", 0, link.start()) + 1, f"no {target}"
 
 
 def blocks(page):
@@ -184,31 +142,6 @@ def wrong_changes(page, program):
                 yield number + at, f"{words}: {told or 'no such change'}"
 
 
-def wrong_bodies(page):
-    """The wrong bodies in a crate's page that do not exist, each with its line; those that the page leaves out; and
-    those that name no goal."""
-    edits = {it.stem: it.read_text("utf-8") for it in edits_of(page.parent)}
-    there, told, section = edits.keys(), set(), ""
-    for number, line in enumerate(page.read_text("utf-8").splitlines(), 1):
-        section = line if line.startswith("## ") else section
-        for name in re.findall(r"`([a-z0-9]+(?:-[a-z0-9]+)+)`", line.split(" | ")[0]) if line.startswith("| `") else ():
-            if section.startswith("## Wrong bodies"):
-                told.add(name)
-                if name not in there:
-                    yield number, f"no {name}.edit"
-    for name in sorted(there - told):
-        yield 1, f"nothing of {name}.edit"
-    for name, text in sorted(edits.items()):
-        if len(re.findall(r"^# goal: \S+ of \S+$", text, re.MULTILINE)) != 1:
-            yield 1, f"{name}.edit does not name one goal: `checks/run wrong -- --fill` writes it"
-
-
-def stale_lines(page):
-    """The first line of docs/DEFINITIONS.md that is not as it is made, if there is one."""
-    if page == definitions.PAGE:
-        yield from definitions.stale()
-
-
 def judge(given, room, _):
     program, asked = given.programs[0], {capture.name: [capture] for capture in SMALL}
     for _, _, heading in blocks(ROOT / "samples/README.md"):
@@ -217,12 +150,9 @@ def judge(given, room, _):
     answers = {name: answer([program, "report", *parts], encoding="utf-8")[1] for name, parts in asked.items()}
     reports = {name: text for name, text in answers.items() if text.startswith(TITLE)}
     options = named_options.Options(room / "options")
-    yield from owners.wrong()
     for page in pages():
-        for number, what in (*wrong_links(page), *wrong_reports(page, reports), *wrong_answers(page, program, room),
-                             *wrong_changes(page, program), *wrong_bodies(page), *callers.wrong(page),
-                             *promises.wrong(page), *named_options.wrong(page, options), *sources.wrong(page),
-                             *tables.wrong(page), *codes.wrong(page), *figures.wrong(page), *stale_lines(page)):
+        for number, what in (*wrong_reports(page, reports), *wrong_answers(page, program, room),
+                             *wrong_changes(page, program), *named_options.wrong(page, options)):
             yield f"{page.relative_to(ROOT)}:{number}: {what}"
 
 
