@@ -29,7 +29,7 @@ sys.dont_write_bytecode |= not (HERE.parent / "crates/build").exists()
 from viewer.whole_python import need_whole_python  # noqa: E402
 need_whole_python("fleet")
 from viewer.files import Stopped  # noqa: E402
-from viewer.program_names import LIBRARY, PACKED  # noqa: E402
+from viewer.program_names import BEHIND, LIBRARY, PACKED  # noqa: E402
 from viewer.terminal import tell, write  # noqa: E402
 
 NAME = re.compile(r"[A-Za-z0-9_+][A-Za-z0-9._+-]*")
@@ -129,7 +129,7 @@ def newest_program() -> int:
     viewer, crates = HERE.parent / "viewer", HERE.parent / "crates"
     files = [path for folder in (viewer / "rules", viewer / "database", HERE) for path in folder.rglob("*")
              if path.suffix in (".sql", ".py")]
-    files += [LIBRARY / name if PACKED else crates / name / "out" / name for name in ("binder_audit", "binder_listing")]
+    files += [LIBRARY / name if PACKED else crates / name / "out" / name for name in BEHIND.values()]
     return max(path.stat().st_mtime_ns for path in files if path.exists())
 
 

@@ -13,6 +13,9 @@ LIBRARY = FOLDER.parents[2] / "lib/binder-audit"
 PROGRAMS = {**{name: f"./{name}" for name in ("audit", "listing", "record", "view", "fleet")},
             "methods": "viewer/methods/table.py"}
 NAMES = {command: name for name, command in PROGRAMS.items()}
+# The proved programs that the viewer asks, by the commands that users call: ./listing runs this one for tables, and
+# another one for lines.
+BEHIND = {"audit": "binder_audit", "listing": "binder_tables"}
 CALL = "|".join(rf"{re.escape(command)}\b" for command in NAMES)
 
 

@@ -10,7 +10,7 @@ from checks.kit.checking import FLAG, check
 from checks.kit.programs import CASES, ROOT
 
 # The crates with copies of some captures.
-COPIES = "audit_changes", "binder_audit", "binder_listing"
+COPIES = "audit_changes", "binder_audit", "binder_listing", "binder_tables"
 
 
 def expected():

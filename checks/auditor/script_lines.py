@@ -19,7 +19,7 @@ import shutil
 from typing import Iterator
 
 from checks.kit.checking import Fail, compare
-from checks.kit.programs import LISTING, ROOT, linked
+from checks.kit.programs import LISTING, ROOT, TABLES, linked
 from checks.kit.runs import answer, at_once
 
 # So many command lines of random words are tried with each script.
@@ -98,7 +98,7 @@ def packed(folder: pathlib.Path, auditor: pathlib.Path) -> pathlib.Path:
     for name in ("audit", "listing", "crates/run", "crates/words.sh"):
         shutil.copy(ROOT / name, scripts / name)
     (folder / "lib").mkdir()
-    linked(folder / "lib/binder-audit", {"binder_audit": auditor, "binder_listing": LISTING})
+    linked(folder / "lib/binder-audit", {"binder_audit": auditor, "binder_listing": LISTING, "binder_tables": TABLES})
     return scripts
 
 
@@ -126,14 +126,21 @@ class Scripts:
     def __init__(self, room: pathlib.Path, auditor: pathlib.Path, fail: Fail) -> None:
         self.room, self.fail = room, fail
         self.folder = packed(room / "package", auditor)
-        self.programs = {"audit": auditor, "listing": LISTING}
+        self.programs = {"audit": (auditor,), "listing": (LISTING, TABLES)}
         make_files(room)
+
+    def answer(self, path: pathlib.Path, words: list) -> tuple[int, bytes, bytes]:
+        return answer([path, *words], cwd=self.room, timeout=60)
+
+    def alone(self, script: str, words: list) -> tuple[int, bytes, bytes]:
+        """What the programs of a script answer: of two, that which takes the words."""
+        first, *others = (self.answer(path, words) for path in self.programs[script])
+        return next((came for came in others if first[0] == 64), first)
 
     def line(self, script: str, words: list) -> tuple[int, bytes, bytes]:
         """The status of a script, the program's line on standard error, and what the script said before it. All else
         is compared with the program."""
-        alone, both = (answer([path, *words], cwd=self.room, timeout=60)
-                       for path in (self.programs[script], self.folder / script))
+        alone, both = self.alone(script, words), self.answer(self.folder / script, words)
         what = f"{script} {words}"[:300]
         compare(f"{what}: status and standard output", both[:2], alone[:2], self.fail)
         if not both[2].endswith(alone[2]):
@@ -158,7 +165,7 @@ class Scripts:
             self.fail(f"listing {words}: it says {said!r}, and the program {told!r}, with status {status}")
 
     def check_pipes(self) -> None:
-        due = answer([self.programs["audit"], "report", "reply.cap"], cwd=self.room)
+        due = self.alone("audit", ["report", "reply.cap"])
         for shell in PIPES:
             compare(shell, answer(["bash", "-c", shell, "bash", self.folder / "audit"], cwd=self.room), due, self.fail)
 

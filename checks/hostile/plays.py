@@ -19,15 +19,16 @@ import traceback
 import types
 from typing import NamedTuple, NoReturn
 
-from checks.kit.programs import AUDITOR, LISTING, ROOT
+from checks.kit.programs import AUDITOR, LISTING, ROOT, TABLES
 
 # The limits of a run: seconds of the processor, bytes of address space, and seconds by the clock.
 PROCESSOR, SPACE, CLOCK = 30, 4 << 30, 120
 
-# The scripts in Python, and the proved programs behind other scripts, by the names that messages give them.
+# The scripts in Python, and the proved programs behind other scripts, by the names that messages give them. What is
+# played of ./listing asks for lines, or for tables by its first word.
 SCRIPTS = {"./view": "view", "./fleet": "fleet",
            **{name: name for name in ("viewer/methods/table.py", "lab/sessions.py")}}
-PROVED = {"./audit": AUDITOR, "./listing": LISTING}
+PROVED = {"./audit": AUDITOR, "./listing": LISTING, "./listing --tables": TABLES}
 
 
 class Play(NamedTuple):
@@ -102,8 +103,13 @@ class Player:
             self.run_script(play)
         if "/" not in play.program:
             os.execvp(play.program, [play.program, *play.words])
-        path = ROOT / play.program if play.in_full else PROVED.get(play.program, ROOT / play.program)
+        path = ROOT / play.program if play.in_full else self.path_of(play)
         os.execv(path, [str(path), *play.words])
+
+    def path_of(self, play: Play) -> pathlib.Path:
+        """The program behind a script, or the script."""
+        begin = " ".join((play.program, *play.words[:1]))
+        return PROVED.get(begin) or PROVED.get(play.program) or ROOT / play.program
 
     def run_script(self, play: Play) -> NoReturn:
         """Does what Python does from the first line of a script on."""

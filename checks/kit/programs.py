@@ -11,7 +11,9 @@ CHECKS = pathlib.Path(__file__).resolve().parents[1]
 ROOT = CHECKS.parent
 AUDITOR = ROOT / "crates/binder_audit/out/binder_audit"
 BY_RATTLE = AUDITOR.with_suffix(".by-rattle")
+# ./listing runs the one for lines, and the other one for tables.
 LISTING = ROOT / "crates/binder_listing/out/binder_listing"
+TABLES = ROOT / "crates/binder_tables/out/binder_tables"
 # The programs that a package has, by their names there.
 PACKAGED = {f"binder-{name}": ROOT / command for name, command in PROGRAMS.items()}
 
@@ -69,7 +71,7 @@ def folder_of(folder: pathlib.Path, auditor: pathlib.Path) -> pathlib.Path:
     """A folder in place of the repository, with an auditor of its own."""
     linked(folder, {"viewer": ROOT / "viewer", "lab": ROOT / "lab", "listing": ROOT / "listing", "audit": auditor})
     linked(folder / "crates", {"run": ROOT / "crates/run"})
-    for name, built in (("binder_audit", auditor), ("binder_listing", LISTING)):
+    for name, built in (("binder_audit", auditor), ("binder_listing", LISTING), ("binder_tables", TABLES)):
         (folder / "crates" / name).mkdir()
         linked(folder / "crates" / name / "out", {name: built})
     for name in ("view", "fleet"):  # copies, since they call what is in their own folder

@@ -32,7 +32,7 @@ from checks.kit.captures import (BC_ACQUIRE, BC_CLEAR_FREEZE_NOTIFICATION, BC_FR
 from checks.kit.cases import Part, parts_of, play
 from checks.kit.checking import FLAG, Fail, check, compare
 from checks.kit.frames import frames_of
-from checks.kit.programs import CHECKS, DRIVER, LISTING, ROOT, SMALL
+from checks.kit.programs import CHECKS, DRIVER, LISTING, ROOT, SMALL, TABLES
 from checks.kit.rows import columns_of_tables, rows_of
 from checks.kit.second_reading import NEWER
 from checks.kit.side_lists import LONGEST, packed
@@ -52,7 +52,7 @@ def answer(program: pathlib.Path, *words: object) -> tuple[int, list[str]]:
 
 def check_alone(table: str, capture: pathlib.Path, folder: pathlib.Path, fail: Fail) -> None:
     """A table that is written alone is the same as among all tables."""
-    compare(f"--table {table}", runs.answer([LISTING, "--table", table, capture], timeout=120),
+    compare(f"--table {table}", runs.answer([TABLES, "--table", table, capture], timeout=120),
             (0, (folder / f"{table}.rows").read_bytes(), b""), fail)
 
 
@@ -227,7 +227,7 @@ def check_freezes(program: pathlib.Path, room: pathlib.Path, fail: Fail) -> None
              for it in map(str.split, lines)], fail)
     compare("freezes, is_frozen", [line[24] for line in columns if line[24]], ["1", str(MAX_32)], fail)
     folder.mkdir()
-    compare("freezes, --tables", answer(LISTING, "--tables", folder, capture), (0, []), fail)
+    compare("freezes, --tables", answer(TABLES, "--tables", folder, capture), (0, []), fail)
     compare("freezes, record", [[row.get(name) for name in ("kind", "handle", "cookie", "value")]
                                 for row in rows_of(folder / "record.rows")],
             [[19, 7, 0x70, None], [19, MAX_32, MAX_64, None], [5, 7, None, None], [268, None, None, None],
@@ -373,7 +373,7 @@ def check_names(room: pathlib.Path, what: str, payloads: list[tuple[int, int, by
     capture.write_bytes(carrying(payloads))
     status, lines = answer(LISTING, capture)
     _, columns = answer(LISTING, capture, "--form", "tab")
-    compare(f"{what}, status", (status, answer(LISTING, "--tables", folder, capture)), (0, (0, [])), fail)
+    compare(f"{what}, status", (status, answer(TABLES, "--tables", folder, capture)), (0, (0, [])), fail)
     found = [interface_in(line) for line in lines]
     for kind, came, wanted in (("lines", found, due), ("tables", names_in(folder), in_tables),
                                ("columns", [line.split("\t")[25] or None for line in columns], due),
@@ -417,7 +417,7 @@ def check_services(program: pathlib.Path, room: pathlib.Path, fail: Fail) -> Non
     sent += [(BC_REPLY, 1, hello), (BR_REPLY, 1, hello), (BC_TRANSACTION, PNG, hello), (BC_TRANSACTION, 0, hello)]
     folder.mkdir()
     capture.write_bytes(carrying(sent))
-    compare("services, status", answer(LISTING, "--tables", folder, capture), (0, []), fail)
+    compare("services, status", answer(TABLES, "--tables", folder, capture), (0, []), fail)
     found = names_in(folder, "service")
     compare("services, how many", len(found), len(sent), fail)
     for (word, code, data), came, due in zip(sent, found, [*made.values(), *made.values(), *[None] * 4]):
@@ -438,7 +438,7 @@ def check_columns(program: pathlib.Path, room: pathlib.Path, fail: Fail) -> None
 
 def check_tables(program: pathlib.Path, room: pathlib.Path, capture: pathlib.Path, fail: Fail) -> None:
     """Compares the raw tables of a stored capture with the listing and the stored report."""
-    compare(f"--tables of {capture}", answer(LISTING, "--tables", room, capture), (0, []), fail)
+    compare(f"--tables of {capture}", answer(TABLES, "--tables", room, capture), (0, []), fail)
     tables = {path.stem: list(rows_of(path)) for path in room.iterdir()}
     report = capture.with_name("report.txt").read_text("utf-8").splitlines()
     totals = report[1].split()
@@ -553,7 +553,7 @@ def check_cut(program: pathlib.Path, room: pathlib.Path, at: int, parts: list[by
     for number, part in enumerate(parts):
         files.append(room / f"{number}.cap")
         files[-1].write_bytes(part)
-    status, told = answer(LISTING, "--tables", folder, *files)
+    status, told = answer(TABLES, "--tables", folder, *files)
     cut = folder / "before-fault.cap"
     compare(f"{what}: is there what comes before a fault", cut.exists(), status == 2, fail)
     if status != 2:
@@ -563,7 +563,7 @@ def check_cut(program: pathlib.Path, room: pathlib.Path, at: int, parts: list[by
     due = HEADER_2 + b"".join(one[16:] for one in parts[:part - 1]) + good_of(parts[part - 1], kind, int(place))
     compare(f"{what}: what comes before {told}", cut.read_bytes(), due, fail)
     compare(f"{what}: is that good", answer(program, "first-fault", cut), (0, ["no malformed record"]), fail)
-    compare(f"{what}: its tables", answer(LISTING, "--tables", again, cut), (0, []), fail)
+    compare(f"{what}: its tables", answer(TABLES, "--tables", again, cut), (0, []), fail)
     for path in sorted(again.iterdir()):
         # What is there of the frame with the fault, and what the capture has, differ.
         if path.stem not in ("capture", "frame"):
@@ -590,6 +590,9 @@ def check_words(program: pathlib.Path, room: pathlib.Path, fail: Fail) -> None:
                   f"{capture} --form tab --objects", f"{capture} --direction up", f"{capture} --flag TF_NONE",
                   f"{capture} --table none"):
         compare(f"words '{words}'", answer(LISTING, *words.split()), (64, [usage]), fail)
+    for one, words in (LISTING, f"{capture} --table call"), (TABLES, capture), (TABLES, f"{capture} --table none"):
+        compare(f"{one.name} '{words}'", answer(one, *words.split()), (64, [usage]), fail)
+    compare("--help of both", answer(TABLES, "--help"), (status, told), fail)
     compare("--at=156", answer(LISTING, "--at=0x9c", capture)[1][:1], answer(LISTING, capture)[1][3:], fail)
     compare("the script", answer(ROOT / "listing", capture), answer(LISTING, capture), fail)
     compare("a place without a record", answer(LISTING, capture, "--at", 20)[0], 1, fail)

@@ -31,7 +31,7 @@ from checks.kit.captures import (BC_REPLY, BC_TRANSACTION, BR_FAILED_REPLY, BR_R
 from checks.kit.checking import FLAG, Fail, check
 from checks.kit.frames import frames_of
 from checks.kit.pair_cases import PAIR_CASES
-from checks.kit.programs import LISTING, ROOT
+from checks.kit.programs import ROOT, TABLES
 from checks.kit.rows import columns_of_tables, encoded, rows_of
 from checks.kit.small_traffic import small_capture
 from checks.kit.tables.reading import Row, tables_of
@@ -166,7 +166,7 @@ def written(room: pathlib.Path, parts: list[bytes]) -> tuple[int, pathlib.Path]:
     for number, part in enumerate(parts):
         files.append(room / f"{number}.cap")
         files[-1].write_bytes(part)
-    return subprocess.run([LISTING, "--tables", folder, *files], stdout=subprocess.DEVNULL, stderr=subprocess.DEVNULL,
+    return subprocess.run([TABLES, "--tables", folder, *files], stdout=subprocess.DEVNULL, stderr=subprocess.DEVNULL,
                           timeout=120).returncode, folder
 
 

@@ -10,6 +10,7 @@ from viewer.program_names import PROGRAMS
 FACTS = {
     "the most bytes of a capture": (
         ("crates/audit_join/src/limits.rt", r"CAPTURE_LIMIT: usize = ([\d_]+);"),
+        ("crates/listing_fields/src/limit.rt", r"FILE_LIMIT: usize = ([\d_]+);"),
         ("recorder/parts.h", r"#define MOST_TOGETHER (\d+)u"),
         ("recorder/options.c", r"--size BYTES .* 65536 to (\d+);"),
         ("recorder/adb/next_command.py", r"MOST_TOGETHER = ([\d_]+)"),

@@ -124,7 +124,7 @@ take_programs() { # CHECKOUT
   local name from to began
   began=$(date +%s.%N)
   [[ $(sums_of "$1") == "$(sums_of "$root")" ]] || stop "$1 has other sources"
-  for name in binder_audit binder_listing; do
+  for name in binder_audit binder_listing binder_tables; do
     from=$1/crates/$name/out/$name to=$root/crates/$name/out/$name
     [[ -x $from ]] || stop "$from is missing"
     [[ -z $(sources_of "$1" -newer "$from") ]] || stop "$from is older than a source"
@@ -276,7 +276,7 @@ if [[ -n $blind ]]; then
   exit "$status"
 fi
 if [[ -n $built ]]; then take_programs "$(readlink -f -- "$built")"; fi
-"$root/crates/run" checks/driver binder_audit binder_listing || stop './audit and ./listing were not built'
+"$root/crates/run" checks/driver binder_audit binder_listing binder_tables || stop './audit and ./listing were not built'
 if [[ -z $auditor ]]; then auditor=$root/crates/binder_audit/out/binder_audit; fi
 build_programs
 build_clients || stop 'the clients on libgbinder were not built'

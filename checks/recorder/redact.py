@@ -32,7 +32,7 @@ from checks.kit import captures
 from checks.kit.captures import BC_REPLY, BC_TRANSACTION, BR_REPLY, BR_TRANSACTION, HEADER_2
 from checks.kit.checking import Fail, check
 from checks.kit.frames import entries_of, frames_of
-from checks.kit.programs import CHECKS, LISTING, ROOT
+from checks.kit.programs import CHECKS, ROOT, TABLES
 from checks.kit.rows import rows_of
 from checks.kit.tokens import GATHER, MANAGER, NO_SOURCE, PARTITIONS, marked, numbers, partition, string16
 
@@ -288,7 +288,7 @@ def check_secrets(programs: Programs, room: pathlib.Path, fail: Fail) -> None:
 
 
 def judge(given: argparse.Namespace, room: pathlib.Path, fail: Fail) -> None:
-    programs = Programs(build(room), given.programs[0], LISTING)
+    programs = Programs(build(room), given.programs[0], TABLES)
     for part in (check_key, check_tokens, check_secrets, check_random, check_samples):
         part(programs, room, fail)
 

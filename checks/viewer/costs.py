@@ -20,7 +20,7 @@ from concurrent.futures import ProcessPoolExecutor
 from typing import Iterator
 
 from checks.kit.checking import Fail, check, row
-from checks.kit.programs import AUDITOR, LISTING, ROOT
+from checks.kit.programs import AUDITOR, ROOT, TABLES
 from checks.kit.runs import measured_run
 from checks.viewer.costly import COSTLY, write_costly
 from viewer.database import loading, raw_tables
@@ -59,7 +59,7 @@ def instructions(name: str, size: int, room: pathlib.Path) -> int:
         rows.mkdir()
         with open(report, "wb") as out:
             subprocess.run([AUDITOR, "report", capture], stdout=out, check=True)
-        subprocess.run([LISTING, "--tables", rows, capture], stdout=subprocess.DEVNULL, check=True)
+        subprocess.run([TABLES, "--tables", rows, capture], stdout=subprocess.DEVNULL, check=True)
         raw_tables.load_rows(made, rows, None)
         database = open_database(made)
         loading.fill(database, [str(capture)], None, report, None)

@@ -20,7 +20,7 @@ from concurrent.futures import ProcessPoolExecutor
 from itertools import product, repeat
 
 from checks.kit.checking import Fail, check
-from checks.kit.programs import LISTING, ROOT
+from checks.kit.programs import ROOT, TABLES
 from checks.kit.second_reading import (DELIVERIES, NEWER, Event, address_of, cookie_behind_handle, cookie_of, grouped,
                                        handle_of, objects_of, number, read_parts, reading)
 from checks.kit.simulated import Driver, Habits, Truth, began, capture_of
@@ -178,7 +178,7 @@ def database_of(room: pathlib.Path, capture: bytes) -> sqlite3.Connection:
     file, rows, report, made = (room / name for name in ("capture.cap", "rows", "report", "made.db"))
     file.write_bytes(capture)
     rows.mkdir()
-    subprocess.run([LISTING, "--tables", rows, file], check=True, stdout=subprocess.DEVNULL)
+    subprocess.run([TABLES, "--tables", rows, file], check=True, stdout=subprocess.DEVNULL)
     report.write_text("".join(f"{line}\n" for line in reading(capture)[1]), "utf-8")
     raw_tables.load_rows(made, rows, None)
     database = open_database(made)

@@ -22,7 +22,7 @@ from itertools import repeat
 from typing import NamedTuple
 
 from checks.kit.checking import Fail, check, row
-from checks.kit.programs import LISTING, ROOT
+from checks.kit.programs import ROOT, TABLES
 from checks.kit.rows import rows_of
 from checks.kit.simulated import Driver, Habits, Truth, began, capture_of
 from viewer.database.programs import build_programs
@@ -93,7 +93,7 @@ def listed(room: pathlib.Path, capture: bytes) -> tuple[dict[int, Pair], dict[in
     room.mkdir()
     rows.mkdir()
     file.write_bytes(capture)
-    subprocess.run([LISTING, "--tables", rows, file], check=True, stdout=subprocess.DEVNULL)
+    subprocess.run([TABLES, "--tables", rows, file], check=True, stdout=subprocess.DEVNULL)
     process = {it["utid"]: it["upid"] for it in rows_of(rows / "thread.rows")}
     sends = {it["place"]: Pair(it["place"], process[it["utid"]], *map(it.get, ("generation", "certain", "fits")))
              for it in rows_of(rows / "send.rows")}

@@ -28,7 +28,7 @@ from itertools import repeat
 from typing import Callable, Iterable, Iterator
 
 from checks.kit.checking import FLAG, Fail, check
-from checks.kit.programs import DRIVER, LISTING, ROOT
+from checks.kit.programs import DRIVER, ROOT, TABLES
 from checks.viewer.heads import faults_of_heads
 from checks.viewer.rule_page import faults_of_page
 from checks.viewer.sessions.every import CASES, Case
@@ -139,7 +139,7 @@ def scenario(room: pathlib.Path, folder: pathlib.Path) -> bytes:
     rows, base = room / f"{folder.name}.rows", room / f"{folder.name}.db"
     rows.mkdir()
     capture, side = folder / "capture-1.cap", folder / "capture.side"
-    subprocess.run([LISTING, "--tables", rows, capture], check=True, stdout=subprocess.DEVNULL)
+    subprocess.run([TABLES, "--tables", rows, capture], check=True, stdout=subprocess.DEVNULL)
     raw_tables.load_rows(base, rows, str(side))
     database = open_database(base)
     loading.fill(database, [str(capture)], str(side), folder / "report.txt", None)

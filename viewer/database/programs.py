@@ -5,21 +5,20 @@ import pathlib
 from typing import Iterator
 
 from viewer.files import Stopped
-from viewer.program_names import LIBRARY, PACKED, called
+from viewer.program_names import BEHIND, LIBRARY, PACKED, called
 from viewer.started import Started, other
 
 # Large pages, as in crates/run.
 LARGE_PAGES = {"GLIBC_TUNABLES": "glibc.malloc.hugetlb=1"}
 
 
-# The programs, and the endings and folders of their sources.
-BUILT = ("binder_audit", "binder_listing")
+# The endings and folders of their sources.
 ENDINGS, FOLDERS, OTHERS = (".rt", ".antt"), ("src", "specs", "proofs"), ("out", "must-fail")
 
 
 def crates_of(root: pathlib.Path) -> set[str]:
     """The crates that the programs are made of. In crates.txt a crate comes after the crates that it uses."""
-    below = set(BUILT)
+    below = set(BEHIND.values())
     for line in reversed((root / "crates.txt").read_text("utf-8").splitlines()):
         name, _, others = line.partition(":")
         if name in below:
@@ -45,7 +44,7 @@ def are_fresh(root: pathlib.Path) -> bool:
     """Whether the programs are there, and no source is newer. crates/run finds that by several programs, which takes
     longer than to read a small capture."""
     try:
-        made = [(root / "crates" / name / "out" / name).stat() for name in BUILT]
+        made = [(root / "crates" / name / "out" / name).stat() for name in BEHIND.values()]
         oldest = min(it.st_mtime_ns for it in made)
         return (all(it.st_mode & 0o100 for it in made) and (root / "crates.txt").stat().st_mtime_ns <= oldest
                 and all(time <= oldest for name in crates_of(root) for time in times_in(str(root / "crates" / name))))
@@ -54,14 +53,13 @@ def are_fresh(root: pathlib.Path) -> bool:
 
 
 def build_programs(root: pathlib.Path) -> None:
-    """Builds the auditor and the listing in one go if they are missing or older than a source: they share most crates.
-    A package has them."""
+    """Builds the auditor, and the program of the listing for tables, if they are missing or older than a source: in one
+    go, since they share most crates. A package has them."""
     if PACKED or are_fresh(root):
         return
     import subprocess
     try:
-        built = subprocess.run([root / "crates/run", "view", *BUILT],
-                               stdin=subprocess.DEVNULL)
+        built = subprocess.run([root / "crates/run", "view", *BEHIND.values()], stdin=subprocess.DEVNULL)
     except OSError as error:
         raise Stopped(1, f"crates/run: {error.strerror}") from error
     if built.returncode:
@@ -69,13 +67,13 @@ def build_programs(root: pathlib.Path) -> None:
 
 
 class Asked:
-    """A program at work that is built. Its standard output goes into a file, since a report may be as long as the
-    capture. Its standard error is not redirected. The scripts by which users call it would take more time than it does
-    on a small capture."""
+    """A program at work that is built, by the name of its command. Its standard output goes into a file, since a report
+    may be as long as the capture. Its standard error is not redirected. The scripts by which users call it would take
+    more time than it does on a small capture."""
 
     def __init__(self, root: pathlib.Path, to: pathlib.Path, name: str, *words: object) -> None:
         self.name = name
-        built = f"binder_{name}"
+        built = BEHIND[name]
         path = LIBRARY / built if PACKED else root / "crates" / built / "out" / built
         try:
             out = other(os.open(to, os.O_WRONLY | os.O_CREAT | os.O_TRUNC | os.O_CLOEXEC, 0o666))

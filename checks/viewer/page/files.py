@@ -131,7 +131,7 @@ def check_names(folder: pathlib.Path, room: pathlib.Path, fail: Fail) -> None:
 def changing(folder: pathlib.Path, room: pathlib.Path, how: str) -> pathlib.Path:
     """The folder of programs, with a listing that does something to the capture and goes on."""
     made = shutil.copytree(folder, room / "changing", symlinks=True)
-    listing = made / "crates/binder_listing/out/binder_listing"
+    listing = made / "crates/binder_tables/out/binder_tables"
     built = listing.resolve()
     listing.unlink()
     listing.write_text(f'#!/bin/sh\n{how}\nexec {built} "$@"\n', "utf-8")

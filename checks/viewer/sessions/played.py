@@ -6,7 +6,7 @@ import sqlite3
 import subprocess
 import tempfile
 
-from checks.kit.programs import LISTING
+from checks.kit.programs import TABLES
 from checks.kit.second_reading import reading
 from checks.viewer.heads import keep_raw
 from checks.viewer.sessions.session import Session
@@ -24,7 +24,7 @@ def base_of(room: pathlib.Path, session: Session) -> bytes:
         for name, text in session.copies.items():
             side.with_suffix(f".{name}").write_text(text, "utf-8")
         rows.mkdir()
-        subprocess.run([LISTING, "--tables", rows, capture], check=True, stdout=subprocess.DEVNULL)
+        subprocess.run([TABLES, "--tables", rows, capture], check=True, stdout=subprocess.DEVNULL)
         status, lines = reading(session.capture())
         if status:
             raise ValueError(lines[0])

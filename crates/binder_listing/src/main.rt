@@ -1,12 +1,15 @@
 //! Lists the records of a capture of Android Binder traffic.
 #![tactic(auto)]
 
+mod lines;
+
+use lines::Lines;
 use listing_program::ended;
 use std::env;
 use std::process::ExitCode;
 
 fn main(rt: HostRuntime) -> ExitCode {
-    ended(
+    ended::<Lines, _, _, _>(
         &rt,
         rt.alloc(),
         env::args(&rt),

@@ -16,6 +16,12 @@ pub fn push_decimal(text: &mut String, number: u64) -> Result<(), AllocError> {
     text.push_str(buffer.format(number))
 }
 
+/// Pushes a word, and a number in decimal.
+pub fn push_counted(text: &mut String, word: &str, number: u64) -> Result<(), AllocError> {
+    text.push_str(word)?;
+    push_decimal(text, number)
+}
+
 /// Pushes a number in decimal, with `-` before a negative one.
 pub fn push_signed(text: &mut String, number: i64) -> Result<(), AllocError> {
     let mut buffer = Buffer::new();

@@ -1,9 +1,9 @@
 //! The line of a record in columns.
 
-use crate::line::{push_counted, push_interface, push_value};
+use crate::line::{push_interface, push_value};
 use crate::whole::direction_name;
 use capture_frame::Frame;
-use listing_fields::{Field, Item, fields_of, name_of, push_decimal, push_digits};
+use listing_fields::{Field, Item, fields_of, name_of, push_counted, push_decimal, push_digits};
 use record_view::Record;
 use std::alloc::AllocError;
 

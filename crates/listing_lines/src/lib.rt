@@ -13,4 +13,4 @@ mod side;
 mod whole;
 
 pub use listing_fields::ListingError;
-pub use parts::{FILE_LIMIT, list_parts, push_fault};
+pub use parts::list_parts;

@@ -3,8 +3,8 @@
 use crate::flags::push_flags;
 use capture_frame::Frame;
 use listing_fields::{
-    Field, Item, Value, fields_of, interface_of, is_unnamed, name_of, push_decimal, push_digits,
-    push_hexadecimal, push_signed,
+    Field, Item, Value, fields_of, interface_of, is_unnamed, name_of, push_counted, push_decimal,
+    push_digits, push_hexadecimal, push_signed,
 };
 use record_view::Record;
 use std::alloc::AllocError;
@@ -53,12 +53,6 @@ pub(crate) fn push_interface(
         }
         None => Ok(()),
     }
-}
-
-/// Pushes a word, and a number in decimal.
-pub(crate) fn push_counted(text: &mut String, word: &str, number: u64) -> Result<(), AllocError> {
-    text.push_str(word)?;
-    push_decimal(text, number)
 }
 
 /// Pushes the listed fields of these bytes, each by its name.

@@ -4,20 +4,17 @@ ghost use Rattle.std.specs.Prelude.{◌+◌, ◌<◌, ◌^◌, length};
 
 use crate::calls::{Followed, event_of, is_opener};
 use crate::columns::push_columns;
-use crate::line::{push_counted, push_line};
+use crate::line::push_line;
 use crate::output::Output;
 use crate::side::Side;
 use crate::whole::{write_objects, write_whole};
 use audit_streams::{read_capture, write_text};
 use capture_frame::{FILE_HEADER, Fault, Frame, Frames, PartFault};
-use listing_fields::{Content, Item, ListingError, Stopped};
+use listing_fields::{Content, FILE_LIMIT, Item, ListingError, Stopped, push_counted, push_fault};
 use listing_words::{Asked, Form, Sought, covers};
 use std::alloc::{AllocError, Global};
 use std::io::{Read, Write};
 use transaction_view::check_frame;
-
-/// The most bytes that a part may have.
-pub const FILE_LIMIT: usize = 1_073_741_824;
 
 /// The most bytes that the parts before one may have together.
 const LIMIT: u64 = 1_099_511_627_776;
@@ -185,19 +182,6 @@ fn list_all<S: Read + Drop, R: Read + Drop, W: Write>(
         base += part.len().saturating_sub(FILE_HEADER) as u64;
     }
     Ok(Ended::Listed)
-}
-
-/// Pushes the line that names a fault, in the auditor's form. If the capture has several parts, the
-/// line has the number of the part.
-pub fn push_fault(text: &mut String, found: PartFault, parts: u64) -> Result<(), AllocError> {
-    let PartFault { part, fault } = found;
-    let kind = fault.kind;
-    write!(text, "malformed {kind:?}")?;
-    push_counted(text, " at ", fault.place)?;
-    if parts > 1 {
-        push_counted(text, " in part ", u64::from(part))?;
-    }
-    text.push_str("\n")
 }
 
 /// Lists a part, and returns the sequence of the last frame so far.

@@ -1,12 +1,12 @@
 //! A record shown whole: its frame, its fields with their places, its bytes, and its attachment.
 
-use crate::line::{push_counted, push_line, push_value};
+use crate::line::{push_line, push_value};
 use crate::objects::push_object;
 use crate::output::Output;
 use capture_frame::{Direction, Frame};
 use listing_fields::{
-    Attached, EachObject, Field, Item, ListingError, Value, fields_of, offset_of, push_digits,
-    push_place,
+    Attached, EachObject, Field, Item, ListingError, Value, fields_of, offset_of, push_counted,
+    push_digits, push_place,
 };
 use record_view::Record;
 use std::alloc::AllocError;

@@ -1,6 +1,9 @@
-//! The program of `./listing`: from the words of a command line to two streams and a status.
+//! What both programs of `./listing` share: from the words of a command line to two streams and a
+//! status.
 #![tactic(auto)]
 
+mod files;
 mod status;
 
-pub use status::{ended, program};
+pub use files::{open_file, open_files};
+pub use status::{Answer, ended};

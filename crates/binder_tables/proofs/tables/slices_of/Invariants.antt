@@ -1,5 +1,5 @@
 use Rattle.std.proofs.Common.{◌≡◌, length, map, take}
-use Rattle.listing_program.proofs.status.slices_of.Given as goal
+use Rattle.binder_tables.proofs.tables.slices_of.Given as goal
 
 -- the slices so far are those of the first parts
 abbrev pub invariant-loop-part : goal.invariant-loop-part
