@@ -15,6 +15,7 @@
 
 enum {
 	ENTRIES = 30000,	/* of one frame */
+	TURNS = 3,		/* of such frames: on a busy machine one may take twice as long as another */
 	LINES = 200000,		/* of the side list, while a frame waits */
 	FRAMES = 500,		/* of 1 MiB each, while another one waits */
 	KEPT = 100,		/* of these before a write ends that they wait for */
@@ -68,8 +69,8 @@ static void hear_much(void)
 	window_settle();
 }
 
-/* One frame of very many entries is put together in a moment. */
-static void many_entries(void)
+/* Puts together one frame of very many entries. Returns the seconds that it takes. */
+static double seconds_for_entries(void)
 {
 	double began = processor_seconds();
 	hear_commands(++last, 1, ENTRIES, 8);
@@ -77,9 +78,19 @@ static void many_entries(void)
 		hear_data(last, 1, i * RECORD, 8);
 	hear_written(last, 1, (u64)ENTRIES * RECORD);
 	window_settle();
-	double took = processor_seconds() - began;
-	should(frame_entries_written() == ENTRIES, "entries of one frame", (double)frame_entries_written());
-	should(took < 0.2, "seconds for the entries of one frame", took);
+	return processor_seconds() - began;
+}
+
+/* One frame of very many entries is put together in a moment. */
+static void many_entries(void)
+{
+	double least = seconds_for_entries();
+	for (u32 turn = 1; turn < TURNS; turn++) {
+		double took = seconds_for_entries();
+		least = took < least ? took : least;
+	}
+	should(frame_entries_written() == (u64)TURNS * ENTRIES, "entries of all turns", (double)frame_entries_written());
+	should(least < 0.2, "seconds for the entries of one frame", least);
 }
 
 /* Processes that end while a write waits: each has a line that waits with it. */
@@ -112,7 +123,7 @@ static void much_memory(void)
 	should(window_waiting() == 0 && window_last() == last, "frames that wait", (double)window_waiting());
 	should(window_lost() == 1 && window_lost_because(REASON_HELD_TOO_LONG) == 1, "frames lost",
 	       (double)window_lost());
-	should(window_frames() == FRAMES + 2, "frames", (double)window_frames());
+	should(window_frames() == FRAMES + TURNS + 1, "frames", (double)window_frames());
 }
 
 /* When a write ends after which many frames wait, the ring is looked at again before all of them are written. */
