@@ -1,13 +1,11 @@
 #include "codes.h"
 #include "messages.h"
-#include <linux/android/binder.h>
-#include <stdlib.h>
-#include <string.h>
 
 #define COUNT(array) (sizeof(array) / sizeof *(array))
 
 /* A code word that docs/COMMANDS.md lists. The words are not those of linux/android/binder.h: the header of the machine
- * that builds may be older than the driver, and then lists fewer. */
+ * that builds may be older than the driver, and then lists fewer. In a table they are by number, from 0 on, and each
+ * number has a word. After them come words that have a number too. */
 struct listed {
 	u32 word;
 	int carries;	/* a transaction or a reply */
@@ -33,14 +31,12 @@ static const struct listed commands_listed[] = {
 	{ 0x40086310, 0 }, /* BC_DEAD_BINDER_DONE */
 	{ 0x40486311, 1 }, /* BC_TRANSACTION_SG */
 	{ 0x40486312, 1 }, /* BC_REPLY_SG */
-	{ 0, 0 },
 };
 
 static const struct listed returns_listed[] = {
 	{ 0x80047200, 0 }, /* BR_ERROR */
 	{ 0x00007201, 0 }, /* BR_OK */
 	{ 0x80407202, 1 }, /* BR_TRANSACTION */
-	{ 0x80487202, 1 }, /* BR_TRANSACTION_SEC_CTX */
 	{ 0x80407203, 1 }, /* BR_REPLY */
 	{ 0x80047204, 0 }, /* BR_ACQUIRE_RESULT */
 	{ 0x00007205, 0 }, /* BR_DEAD_REPLY */
@@ -59,71 +55,40 @@ static const struct listed returns_listed[] = {
 	{ 0x00007212, 0 }, /* BR_FROZEN_REPLY */
 	{ 0x00007213, 0 }, /* BR_ONEWAY_SPAM_SUSPECT */
 	{ 0x00007214, 0 }, /* BR_TRANSACTION_PENDING_FROZEN */
-	{ 0, 0 },
+	{ 0x80487202, 1 }, /* BR_TRANSACTION_SEC_CTX */
 };
 
-/* The first listed word that has the letter and the number of this one, or one after which there is none; 0 ends them.
- * The numbers rise from 0 on, and each one has a word: so none of the first N words has the number N. */
-static const struct listed *listed_from(u32 word)
+/* A number that is listed must have a listed size; any other number may have any size. The table has so many numbers, and
+ * so many rows. */
+static enum word_is is_listed(const struct listed *table, u32 numbers, u32 rows, u32 word)
 {
-	u32 number = _IOC_NR(word), is_command = _IOC_TYPE(word) == 'c';
-	u32 count = is_command ? COUNT(commands_listed) : COUNT(returns_listed);
-	const struct listed *row = is_command ? commands_listed : returns_listed;
-	row += number < count ? number : count - 1;
-	while (row->word && _IOC_NR(row->word) < number)
-		row++;
-	return row;
+	u32 row = _IOC_NR(word);
+	if (row >= numbers)
+		return WORD_GOOD;
+	if (table[row].word != word)
+		for (row = numbers; row < rows && table[row].word != word; row++)
+			continue;
+	return row == rows ? WORD_BAD : table[row].carries ? WORD_CARRIES : WORD_GOOD;
 }
 
-/* A number that is listed must have a listed size; any other number may have any size. */
-static int is_listed_or_opaque(u32 word)
-{
-	const struct listed *row = listed_from(word);
-	int is_number = row->word && _IOC_NR(row->word) == _IOC_NR(word);
-	for (; row->word && _IOC_NR(row->word) == _IOC_NR(word); row++)
-		if (row->word == word)
-			return 1;
-	return !is_number;
-}
-
-static int is_good(u32 word, u32 direction)
+enum word_is word_is(u32 word, u32 direction)
 {
 	int is_write = direction == DIRECTION_WRITE;
 	u32 bits = _IOC_SIZE(word) == 0 ? _IOC_NONE : is_write ? _IOC_WRITE : _IOC_READ;
-	return _IOC_TYPE(word) == (is_write ? 'c' : 'r') && _IOC_DIR(word) == bits && is_listed_or_opaque(word);
+	if (_IOC_TYPE(word) != (is_write ? 'c' : 'r') || _IOC_DIR(word) != bits)
+		return WORD_BAD;
+	return is_write ? is_listed(commands_listed, COUNT(commands_listed), COUNT(commands_listed), word)
+			: is_listed(returns_listed, COUNT(returns_listed) - 1, COUNT(returns_listed), word);
 }
 
-int records_fill(const u8 *commands, u64 bytes, u32 direction)
+u64 records_with_data(const u8 *commands, u64 bytes, u64 at, u32 direction)
 {
-	u64 at = 0;
-	while (bytes - at >= 4) {
-		u32 word = load_u32(commands + at);
-		if (!is_good(word, direction) || _IOC_SIZE(word) > bytes - at - 4)
-			return 0;
-		at += 4 + _IOC_SIZE(word);
-	}
-	return at == bytes;
-}
-
-static int has_data(u32 word, const u8 *payload)
-{
-	struct binder_transaction_data data;
-	const struct listed *row = listed_from(word);
-	while (row->word && row->word != word)
-		row++;
-	if (!row->carries)
-		return 0;
-	memcpy(&data, payload, sizeof data);
-	return data.data_size || data.offsets_size;
-}
-
-u64 records_with_data(const u8 *commands, u64 bytes)
-{
-	u64 at = 0, count = 0;
-	while (bytes - at >= 4) {
-		u32 word = load_u32(commands + at);
-		count += (u64)has_data(word, commands + at + 4);
-		at += 4 + _IOC_SIZE(word);
-	}
+	struct record record;
+	u64 count = 0;
+	for (; record_at(commands, bytes, at, &record); at = record.end)
+		if (word_is(record.word, direction) == WORD_CARRIES) {
+			struct sizes sizes = record_sizes(&record);
+			count += sizes.data || sizes.offsets;
+		}
 	return count;
 }

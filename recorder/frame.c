@@ -1,6 +1,7 @@
 #define _GNU_SOURCE
 #include "frame.h"
 #include "codes.h"
+#include "grammar.h"
 #include "met.h"
 #include "parts.h"
 #include "pool.h"
@@ -196,6 +197,8 @@ void frame_keep(struct frame *frame)
 int frame_add_piece(struct frame *frame, const struct piece *piece, int is_lent)
 {
 	int stays = is_lent && (u64)piece->data + piece->offsets >= LEAST_LENT;
+	if ((u64)piece->data + piece->offsets > MOST_AT_ONCE)
+		return 0;
 	struct entry *entry = piece->at ? find_entry(frame, piece->record)
 					: new_entry(frame, piece->record, piece->data, piece->offsets, stays);
 	if (!entry || entry->got != piece->at || entry->data != piece->data || entry->offsets != piece->offsets)
@@ -240,36 +243,44 @@ void frame_add_note(struct frame *frame, u32 record, u32 reason)
 	frame->memory += pool_room(sizeof *note);
 }
 
-static int is_whole(const struct entry *entry, u64 consumed)
+/* Keeps what the driver consumed: its commands, and of them the attachments that came whole. */
+static void cut(struct frame *frame, u64 consumed)
 {
-	return entry->record < consumed && entry->got == whole_bytes(entry);
+	for (struct entry **place = &frame->entries, *entry; (entry = *place) != NULL;) {
+		if (entry->record < consumed && entry->got == whole_bytes(entry)) {
+			place = &entry->next;
+			continue;
+		}
+		*place = entry->next;
+		frame->memory -= memory_of(entry);
+		free_entry(entry);
+	}
+	for (struct note **place = &frame->notes, *note; (note = *place) != NULL;) {
+		if (note->record < consumed) {
+			place = &note->next;
+			continue;
+		}
+		*place = note->next;
+		frame->memory -= pool_room(sizeof *note);
+		pool_give(note, sizeof *note);
+	}
+	frame->bytes = consumed;
 }
 
-/* Whether the attachment has the sizes that the payload of its record says. */
-static int fits_record(const struct frame *frame, const struct entry *entry)
-{
-	u64 sizes[2];
-	if ((u64)entry->record + 4 + 48 > frame->bytes)
-		return 0;
-	memcpy(sizes, frame->commands + entry->record + 4 + 32, sizeof sizes);
-	return sizes[0] == entry->data && sizes[1] == entry->offsets;
-}
-
-static u64 entry_bytes(const struct frame *frame, u64 consumed)
+static u64 entry_bytes(const struct frame *frame)
 {
 	u64 bytes = 0;
 	for (const struct entry *entry = frame->entries; entry; entry = entry->next)
-		if (is_whole(entry, consumed) && fits_record(frame, entry))
-			bytes += ENTRY_HEAD + entry->got;
+		bytes += ENTRY_HEAD + entry->got;
 	return bytes;
 }
 
-static void write_head(const struct frame *frame, u64 consumed, u64 attached)
+static void write_head(const struct frame *frame, u64 attached)
 {
 	u32 head[8] = { (u32)frame->number, (u32)(frame->number >> 32), frame->who.process, frame->who.thread,
-			frame->direction, (u32)consumed, (u32)attached, frame->who.device };
+			frame->direction, (u32)frame->bytes, (u32)attached, frame->who.device };
 	parts_add(head, sizeof head);
-	parts_add(frame->commands, consumed);
+	parts_add(frame->commands, frame->bytes);
 }
 
 static void write_bytes(const struct entry *entry)
@@ -280,11 +291,9 @@ static void write_bytes(const struct entry *entry)
 		parts_lend(lent->bytes, lent->count);
 }
 
-static void write_entries(struct frame *frame, u64 consumed)
+static void write_entries(struct frame *frame)
 {
 	for (struct entry *entry = frame->entries; entry; entry = entry->next) {
-		if (!is_whole(entry, consumed) || !fits_record(frame, entry))
-			continue;
 		u32 head[3] = { entry->record, entry->data, entry->offsets };
 		if (redact_wants(frame, entry)) {
 			frame_keep(frame);
@@ -297,16 +306,16 @@ static void write_entries(struct frame *frame, u64 consumed)
 }
 
 /* From this record on none has an entry: the call's bound was reached. */
-static void write_left_out(const struct frame *frame, u32 record, u64 consumed)
+static void write_left_out(const struct frame *frame, u32 record)
 {
-	u64 count = records_with_data(frame->commands + record, consumed - record);
+	u64 count = records_with_data(frame->commands, frame->bytes, record, frame->direction);
 	entries_left_out += count;
 	if (count)
 		side_line(frame->time, "unattached %llu from=%u count=%llu why=%s", (unsigned long long)frame->number,
 			  record, (unsigned long long)count, reason_word(REASON_TOO_MANY));
 }
 
-static void write_lines(const struct frame *frame, u64 consumed, int attachments_left_out)
+static void write_lines(const struct frame *frame, int attachments_left_out)
 {
 	unsigned long long number = frame->number;
 	side_frame(frame->time, number);
@@ -315,11 +324,9 @@ static void write_lines(const struct frame *frame, u64 consumed, int attachments
 	if (frame->is_late)
 		side_line(frame->time, "late %llu commands", number);
 	for (const struct note *note = frame->notes; note; note = note->next) {
-		if (note->record >= consumed)
-			continue;
 		entries_left_out += note->reason == REASON_TOO_LARGE;
 		if (note->reason == REASON_TOO_MANY)
-			write_left_out(frame, note->record, consumed);
+			write_left_out(frame, note->record);
 		else if (note->reason)
 			side_line(frame->time, "unattached %llu at=%u why=%s", number, note->record,
 				  reason_word(note->reason));
@@ -327,16 +334,18 @@ static void write_lines(const struct frame *frame, u64 consumed, int attachments
 			side_line(frame->time, "late %llu at=%u", number, note->record);
 	}
 	for (const struct entry *entry = frame->entries; entry && attachments_left_out; entry = entry->next)
-		if (entry->record < consumed)
-			side_line(frame->time, "unattached %llu at=%u why=%s", number, entry->record,
-				  reason_word(REASON_FILE_TOO_SMALL));
+		side_line(frame->time, "unattached %llu at=%u why=%s", number, entry->record,
+			  reason_word(REASON_FILE_TOO_SMALL));
 }
 
 enum reason frame_write(struct frame *frame, u64 consumed)
 {
-	if (consumed > frame->bytes || frame->is_broken || !records_fill(frame->commands, consumed, frame->direction))
+	if (consumed > frame->bytes || frame->is_broken)
 		return REASON_BROKEN;
-	u64 attached = entry_bytes(frame, consumed);
+	cut(frame, consumed);
+	if (!grammar_allows(frame))
+		return REASON_BROKEN;
+	u64 attached = entry_bytes(frame);
 	int left_out = attached && (attached > 0xffffffffu || !parts_have_room(FRAME_HEAD + consumed + attached));
 	if (left_out)
 		attached = 0;
@@ -345,10 +354,10 @@ enum reason frame_write(struct frame *frame, u64 consumed)
 	int error = parts_next_frame(frame->number, frame->time, FRAME_HEAD + consumed + attached);
 	if (error)
 		return error == PARTS_LATER ? REASON_LATER : REASON_NOT_WRITTEN;
-	write_head(frame, consumed, attached);
+	write_head(frame, attached);
 	if (attached)
-		write_entries(frame, consumed);
-	write_lines(frame, consumed, left_out);
-	met_frame(frame, consumed);
+		write_entries(frame);
+	write_lines(frame, left_out);
+	met_frame(frame);
 	return REASON_NONE;
 }

@@ -1,4 +1,5 @@
 #include "met.h"
+#include "codes.h"
 #include "side.h"
 #include "slice.h"
 #include "table.h"
@@ -178,23 +179,20 @@ static void met_objects(const struct who *who, const struct entry *entry)
 	}
 }
 
-void met_frame(const struct frame *frame, u64 consumed)
+void met_frame(const struct frame *frame)
 {
+	struct record record;
 	if (!is_kept)
 		return;
-	for (u64 at = 0; at < consumed;) {
-		u32 word = load_u32(frame->commands + at);
+	for (u64 at = 0; record_at(frame->commands, frame->bytes, at, &record); at = record.end)
 		if (frame->direction == DIRECTION_WRITE)
-			met_command(&frame->who, word, frame->commands + at + 4);
+			met_command(&frame->who, record.word, record.payload);
 		else
-			met_return(&frame->who, word, frame->commands + at + 4);
-		at += 4 + _IOC_SIZE(word);
-	}
+			met_return(&frame->who, record.word, record.payload);
 	if (frame->direction != DIRECTION_READ)
 		return;
 	for (const struct entry *entry = frame->entries; entry; entry = entry->next)
-		if (entry->got == (u64)entry->data + entry->offsets)
-			met_objects(&frame->who, entry);
+		met_objects(&frame->who, entry);
 }
 
 void met_thread_ended(struct who who)

@@ -8,8 +8,8 @@
 /* From now on, remembers what is met, for files of at most so many bytes. Without this the other functions do
  * nothing. */
 void met_keep(u64 most_bytes);
-/* Takes the records of a frame, of which `consumed` command bytes are written. */
-void met_frame(const struct frame *frame, u64 consumed);
+/* Takes the records of a frame that is written. */
+void met_frame(const struct frame *frame);
 /* What ended has nothing open and holds nothing any more. */
 void met_thread_ended(struct who who);
 void met_process_ended(u32 device, u32 process);

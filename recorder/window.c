@@ -14,6 +14,7 @@
 #define LONGEST_WAIT 10000000000u		/* how long a write may hold back later frames, in nanoseconds */
 #define LONGEST_SETTLE 20000000u		/* how long frames are written before the ring is looked at again */
 #define LENT_PART 16u				/* so large a part of the ring may have messages that stay there */
+#define STACK_HEAD offsetof(struct stack, addresses)
 
 enum state { SILENT, WAITING, WHOLE, LOST };
 
@@ -272,6 +273,22 @@ static void hear_chunk(const struct chunk *chunk)
 	}
 }
 
+/* Whether so many bytes are all that a message of this type is, and says to have behind it. */
+static int is_whole(const struct message *head, u32 type, u64 bytes)
+{
+	const struct chunk *chunk = (const void *)head;
+	const struct piece *piece = (const void *)head;
+	const struct stack *stack = (const void *)head;
+	switch (type) {
+	case MESSAGE_CHUNK: return bytes >= sizeof *chunk && chunk->commands <= bytes - sizeof *chunk;
+	case MESSAGE_PIECE: return bytes >= sizeof *piece && piece->bytes <= bytes - sizeof *piece;
+	case MESSAGE_STACK: return bytes >= STACK_HEAD && stack->count <= (bytes - STACK_HEAD) / sizeof *stack->addresses;
+	case MESSAGE_COMMAND: return bytes >= sizeof(struct command);
+	case MESSAGE_WRITTEN: return bytes >= offsetof(struct event, written) + sizeof((struct event *)0)->written;
+	default: return bytes >= sizeof(struct event);
+	}
+}
+
 /* Notes that bytes of this frame are in the ring. Most pieces follow another one of their frame. */
 static void note_lent(u64 number)
 {
@@ -300,11 +317,12 @@ static void hear_piece(const struct piece *piece)
 static void hear_whole_chunk(const struct chunk *chunk, u64 bytes)
 {
 	u64 at = sizeof *chunk + MULTIPLE_OF_8(chunk->commands);
-	while (at + sizeof(struct piece) <= bytes) {
+	while (at < bytes) {
 		const struct piece *piece = (const void *)((const u8 *)chunk + at);
+		if (!is_whole(&piece->head, MESSAGE_PIECE, bytes - at))
+			break;
+		hear_piece(piece);
 		at += MULTIPLE_OF_8(sizeof *piece + piece->bytes);
-		if (at <= MULTIPLE_OF_8(bytes))
-			hear_piece(piece);
 	}
 	hear_chunk(chunk);
 }
@@ -390,7 +408,7 @@ static int is_after_end(const struct message *head)
 void window_hear(const void *message, u64 bytes)
 {
 	const struct message *head = message;
-	if (bytes < sizeof *head || is_after_end(head))
+	if (bytes < sizeof *head || !is_whole(head, head->type, bytes) || is_after_end(head))
 		return;
 	if (head->type == MESSAGE_CHUNK)
 		hear_whole_chunk(message, bytes);
