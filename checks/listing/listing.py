@@ -593,6 +593,8 @@ def check_words(program: pathlib.Path, room: pathlib.Path, fail: Fail) -> None:
     for one, words in (LISTING, f"{capture} --table call"), (TABLES, capture), (TABLES, f"{capture} --table none"):
         compare(f"{one.name} '{words}'", answer(one, *words.split()), (64, [usage]), fail)
     compare("--help of both", answer(TABLES, "--help"), (status, told), fail)
+    lines = iter(answer(ROOT / "listing", "--help")[1])
+    compare("lines of --help that the script's lacks", [line for line in told if line not in lines], [], fail)
     compare("--at=156", answer(LISTING, "--at=0x9c", capture)[1][:1], answer(LISTING, capture)[1][3:], fail)
     compare("the script", answer(ROOT / "listing", capture), answer(LISTING, capture), fail)
     compare("a place without a record", answer(LISTING, capture, "--at", 20)[0], 1, fail)

@@ -10,7 +10,8 @@ What must hold for each of the six commands of the package:
 - The page of the manual names them, its command line no others.
 - If `--version` is one of them, it says what viewer/version.sh does: all programs alike.
 
-Of the recorder it builds only the file with the command line, with cc. It takes some two seconds.
+It needs no proved program: `--help` builds none. Of the recorder it builds only the file with the command line, with
+cc. It takes some two seconds.
 """
 
 import pathlib
