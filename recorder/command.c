@@ -2,6 +2,7 @@
 #include "command.h"
 #include "process.h"
 #include "side.h"
+#include "table.h"
 #include "worker.h"
 #include <stdio.h>
 #include <stdlib.h>
@@ -22,8 +23,7 @@ struct kept {
 	const struct reading *awaited;	/* none if another one came meanwhile */
 };
 
-static struct kept *kept;		/* by opening */
-static u32 room;
+static struct table kept;		/* by opening: the address */
 static int is_redacted;
 static struct worker worker = WORKER;
 
@@ -32,15 +32,20 @@ void command_redact(void)
 	is_redacted = 1;
 }
 
+/* NULL if nothing is kept of it. */
+static struct kept *kept_if(u32 opening)
+{
+	return table_thing(&kept, opening, 0);
+}
+
 static struct kept *kept_of(u32 opening)
 {
-	if (opening >= room) {
-		u32 larger = (opening + 64) * 2;
-		kept = resize(kept, larger * sizeof *kept);
-		memset(kept + room, 0, (larger - room) * sizeof *kept);
-		room = larger;
-	}
-	return kept + opening;
+	struct kept *k = kept_if(opening);
+	if (k)
+		return k;
+	k = allocate(sizeof *k);
+	*table_make(&kept, opening, 0) = (u64)(uintptr_t)k;
+	return k;
 }
 
 /* The part of a command line that is kept. */
@@ -101,7 +106,8 @@ int command_was_read(struct command *command)
 	struct reading *reading;
 	int is_awaited = 0;
 	while (!is_awaited && (reading = (struct reading *)worker_take(&worker)) != NULL) {
-		is_awaited = kept_of(reading->command.head.opening)->awaited == reading;
+		const struct kept *k = kept_if(reading->command.head.opening);
+		is_awaited = k && k->awaited == reading;
 		*command = reading->command;
 		free(reading);
 	}
@@ -113,11 +119,17 @@ u32 command_awaited(void)
 	return worker.awaited;
 }
 
+int command_is_awaited(u32 opening)
+{
+	const struct kept *k = kept_if(opening);
+	return k && k->awaited;
+}
+
 int command_give_up(u32 opening, struct command *command)
 {
-	const struct reading *reading = kept_of(opening)->awaited;
-	if (!reading)
+	if (!command_is_awaited(opening))
 		return 0;
+	const struct reading *reading = kept_if(opening)->awaited;
 	*command = (struct command){ .head = reading->command.head, .user = reading->command.user };
 	return 1;
 }
@@ -140,8 +152,8 @@ int command_keep(const struct command *command)
 const char *command_line(u32 opening, u32 device, u32 process)
 {
 	static char line[4 * COMMAND_BYTES + 128];
-	const struct kept *k = kept_of(opening);
-	if (!k->text)
+	const struct kept *k = kept_if(opening);
+	if (!k || !k->text)
 		return NULL;
 	int head = snprintf(line, sizeof line, "command %u %u after=%llu uid=%u name=", device, process,
 			    (unsigned long long)k->after, k->user);
@@ -151,7 +163,10 @@ const char *command_line(u32 opening, u32 device, u32 process)
 
 void command_forget(u32 opening)
 {
-	struct kept *k = kept_of(opening);
+	struct kept *k = kept_if(opening);
+	if (!k)
+		return;
+	table_drop(&kept, opening, 0);
 	free(k->text);
-	*k = (struct kept){ 0 };
+	free(k);
 }

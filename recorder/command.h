@@ -14,6 +14,8 @@ int command_read(const struct command *command, u32 process, u64 start);
 int command_was_read(struct command *command);
 /* How many are still to be read. */
 u32 command_awaited(void);
+/* Whether that of the opening is. */
+int command_is_awaited(u32 opening);
 /* Gives the one of the opening that is still to be read, as an empty one. Returns 0 if there is none. */
 int command_give_up(u32 opening, struct command *command);
 /* Keeps the command line of an opening. Returns 1 if it is another one than before. */

@@ -83,7 +83,6 @@ static void create_files(const struct options *options)
 	if (error)
 		fail("%s: %s", parts_path(), strerror(error));
 	if (options->files) {
-		names_keep_endings();
 		met_keep(options->size);
 		begin_tell_also(missed_tell_again);
 	}

@@ -1,5 +1,6 @@
 #include "met.h"
 #include "codes.h"
+#include "link.h"
 #include "side.h"
 #include "slice.h"
 #include "table.h"
@@ -14,11 +15,13 @@
 #define BYTES_OF_HANDLE 64u		/* and so many bytes of a file for each: a line takes about half of them */
 #define DEEPEST 62			/* calls of a thread; more are not remembered */
 
-/* The open calls of a thread: a 1, and for each call a bit, the innermost one last: 1 if the thread serves it. */
+/* The open calls of a thread: a 1, and for each call a bit, the innermost one last: 1 if the thread serves it. Without
+ * any they are forgotten. */
 #define NO_CALLS 1u
 #define SERVES 1u
 
 struct met_process {
+	struct link all;
 	u32 device, process;
 	u64 *handles;			/* a bit for each */
 	u32 words, count;
@@ -26,15 +29,14 @@ struct met_process {
 };
 
 static struct table calls;		/* by device, process and thread */
-static struct table processes;		/* by device and process: the place in `met`, plus 1 */
-static struct met_process *met;
-static u32 met_count;
+static struct table processes;		/* by device and process: the address */
+static struct link all_met = LINK_LIST(all_met);
 static int is_kept;
 static u64 most_handles, handle_count;	/* of all processes */
 static u32 most_of_process = LARGEST_HANDLE;
 static struct again {			/* how far met_tell_on is */
-	u64 call;
-	u32 process, word;
+	struct met_process *process;
+	u32 word;
 } again;
 
 void met_keep(u64 most_bytes)
@@ -50,15 +52,22 @@ static u64 key_of(u32 device, u32 process)
 	return (u64)device << 32 | process;
 }
 
+static struct met_process *met_if(u32 device, u32 process)
+{
+	return table_thing(&processes, key_of(device, process), 0);
+}
+
 static struct met_process *met_of(const struct who *who)
 {
-	u64 *place = table_make(&processes, key_of(who->device, who->process), 0);
-	if (!*place) {
-		met = resize(met, (met_count + 1) * sizeof *met);
-		met[met_count++] = (struct met_process){ .device = who->device, .process = who->process };
-		*place = met_count;
-	}
-	return met + *place - 1;
+	struct met_process *m = met_if(who->device, who->process);
+	if (m)
+		return m;
+	m = allocate(sizeof *m);
+	m->device = who->device;
+	m->process = who->process;
+	link_put_before(&all_met, &m->all);
+	*table_make(&processes, key_of(who->device, who->process), 0) = (u64)(uintptr_t)m;
+	return m;
 }
 
 static void drop_handles(struct met_process *m)
@@ -81,9 +90,11 @@ static void make_room(void)
 {
 	while (handle_count > most_handles) {
 		most_of_process /= 2;
-		for (u32 i = 0; i < met_count; i++)
-			if (met[i].count > most_of_process)
-				forget_handles(met + i);
+		for (struct link *link = all_met.next; link != &all_met; link = link->next) {
+			struct met_process *m = LINKED(link, struct met_process, all);
+			if (m->count > most_of_process)
+				forget_handles(m);
+		}
 	}
 }
 
@@ -115,15 +126,14 @@ static void met_handle(const struct who *who, u32 handle)
 
 static u64 *calls_of(const struct who *who)
 {
-	u64 *open = table_make(&calls, key_of(who->device, who->process), who->thread);
-	if (!*open)
-		*open = NO_CALLS;
-	return open;
+	return table_make(&calls, key_of(who->device, who->process), who->thread);
 }
 
 static void begin_call(const struct who *who, u64 serves)
 {
 	u64 *open = calls_of(who);
+	if (!*open)
+		*open = NO_CALLS;
 	if (!(*open >> DEEPEST))
 		*open = *open << 1 | serves;
 }
@@ -132,8 +142,10 @@ static void begin_call(const struct who *who, u64 serves)
 static void end_call(const struct who *who, u64 serves)
 {
 	u64 *open = calls_of(who);
-	if (*open != NO_CALLS && (*open & SERVES) == serves)
+	if (*open > NO_CALLS && (*open & SERVES) == serves)
 		*open >>= 1;
+	if (*open == NO_CALLS)
+		*open = 0;
 }
 
 static void met_transaction(const struct who *who, const u8 *payload, u64 serves)
@@ -195,37 +207,47 @@ void met_frame(const struct frame *frame)
 		met_objects(&frame->who, entry);
 }
 
+/* Goes on to the next process that is told again. */
+static void met_pass(void)
+{
+	struct link *next = again.process->all.next;
+	again = (struct again){ next == &all_met ? NULL : LINKED(next, struct met_process, all), 0 };
+}
+
 void met_thread_ended(struct who who)
 {
-	u64 *open = table_find(&calls, key_of(who.device, who.process), who.thread);
-	if (open)
-		*open = NO_CALLS;
+	table_drop(&calls, key_of(who.device, who.process), who.thread);
 }
 
 void met_process_ended(u32 device, u32 process)
 {
-	u64 *place = table_find(&processes, key_of(device, process), 0);
-	if (!place || !*place)
+	struct met_process *m = met_if(device, process);
+	if (!m)
 		return;
-	drop_handles(met + *place - 1);
-	met[*place - 1].is_forgotten = 0;
+	if (again.process == m)
+		met_pass();
+	drop_handles(m);
+	link_take_out(&m->all);
+	table_drop(&processes, key_of(device, process), 0);
+	free(m);
 }
 
 int met_knows_handles(u32 device, u32 process)
 {
-	u64 *place = table_find(&processes, key_of(device, process), 0);
-	return !place || !*place || !met[*place - 1].is_forgotten;
+	const struct met_process *m = met_if(device, process);
+	return !m || !m->is_forgotten;
 }
 
-static void tell_calls(u64 key, u32 thread, u64 open)
+void met_tell_calls(struct who who)
 {
+	const u64 *calls_open = table_find(&calls, key_of(who.device, who.process), who.thread);
 	u32 made = 0, served = 0;
-	for (; open > NO_CALLS; open >>= 1) {
+	for (u64 open = calls_open ? *calls_open : 0; open > NO_CALLS; open >>= 1) {
 		made += (open & SERVES) == 0;
 		served += (open & SERVES) != 0;
 	}
 	if (made || served)
-		side_line(now(), "calls %u %u %u made=%u served=%u", (u32)(key >> 32), (u32)key, thread, made, served);
+		side_line(now(), "calls %u %u %u made=%u served=%u", who.device, who.process, who.thread, made, served);
 }
 
 static void tell_handles(const struct met_process *m, u32 word)
@@ -242,20 +264,13 @@ static void tell_forgotten(const struct met_process *m)
 
 void met_tell_again(void)
 {
-	again = (struct again){ 0 };
+	again = (struct again){ link_is_alone(&all_met) ? NULL : LINKED(all_met.next, struct met_process, all), 0 };
 }
 
 int met_tell_on(void)
 {
-	for (; again.call < calls.size; again.call++) {
-		const struct table_slot *slot = calls.slots + again.call;
-		if (slice_is_over())
-			return 0;
-		if (slot->used)
-			tell_calls(slot->key, slot->second, slot->value);
-	}
-	for (; again.process < met_count; again.process++, again.word = 0) {
-		const struct met_process *m = met + again.process;
+	for (; again.process; met_pass()) {
+		const struct met_process *m = again.process;
 		for (; again.word < m->words; again.word++) {
 			if (slice_is_over())
 				return 0;

@@ -15,7 +15,9 @@ void met_thread_ended(struct who who);
 void met_process_ended(u32 device, u32 process);
 /* Whether all handles that the process has named are remembered. */
 int met_knows_handles(u32 device, u32 process);
-/* Begins to write a line for each thread with open calls, and one for each handle, */
+/* Writes a line for a thread if it has open calls. */
+void met_tell_calls(struct who who);
+/* Begins to write a line for each handle, */
 void met_tell_again(void);
 /* and writes the next slice of it. Returns 1 if all is written. */
 int met_tell_on(void);

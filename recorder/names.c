@@ -1,6 +1,7 @@
 #include "names.h"
 #include "command.h"
 #include "devices.h"
+#include "known.h"
 #include "met.h"
 #include "side.h"
 #include "slice.h"
@@ -14,82 +15,26 @@
 #define FIRST_OWN_NUMBER 4194304u
 #define LAST_WAIT 1000000000u		/* for the last command lines, in nanoseconds */
 
-struct known_opening {
-	u32 system_device, process_id;
-	u32 space, id_there;		/* the namespace of its ids, if it is not the first one, and its id there */
-	u64 start;
-	enum met met;
-	int known, numbered, closed;
-	u32 device, process;
-	u64 told;			/* when it was met, or numbered */
-	u32 list;			/* the last side list that tells of it */
-	u64 after;			/* if it is closed: the last number before that */
-	char name[NAME_BYTES];
-};
-
-struct known_thread {
-	u32 id, process_id, bits;
-	u64 start;
-	char name[NAME_BYTES];
-	u32 *openings, opening_count;	/* the openings for which it has a number */
-};
-
-/* The number of a thread that has ended, of which a frame may still come. */
-struct ending {
-	u32 opening, thread, number;
-	u64 after;
-};
-
-static struct known_opening *openings;
-static struct known_thread *threads;
-static u32 opening_room, thread_room;
 static u32 *devices, device_count;
-static u32 next_own_number = FIRST_OWN_NUMBER;
-static struct table process_numbers;	/* by device and number: 1 if the number is used */
-static struct table thread_numbers;	/* by device, process and number: 1 if the number is used */
-static struct table threads_of;		/* by opening and thread: the number in the capture, plus 1 */
-static struct ending *endings;		/* only if they are asked for */
-static u32 ending_count, ending_room;
-static int keeps_endings;
-static struct again {			/* how far names_tell_on is in which side list, and from which frame on it tells */
-	u64 number;
-	u32 list, opening, thread, ending, endings_kept;
-} again = { .list = 1 };
+static struct table process_numbers;	/* of each device: that mean a process */
+static struct again {			/* how far names_tell_on is, in which side list */
+	u32 list;
+	struct link opening, use;	/* before the next ones, as long as there are any */
+} again = { .list = 1, .opening = LINK_LIST(again.opening), .use = LINK_LIST(again.use) };
 
-static struct known_opening *opening_of(u32 opening)
-{
-	if (opening >= opening_room) {
-		u32 room = (opening + 64) * 2;
-		openings = resize(openings, room * sizeof *openings);
-		memset(openings + opening_room, 0, (room - opening_room) * sizeof *openings);
-		opening_room = room;
-	}
-	return openings + opening;
-}
+/* ---- openings */
 
-static struct known_thread *thread_of(u32 thread)
+static void tell_met(struct known_opening *o, u64 time)
 {
-	if (thread >= thread_room) {
-		u32 room = (thread + 64) * 2;
-		threads = resize(threads, room * sizeof *threads);
-		memset(threads + thread_room, 0, (room - thread_room) * sizeof *threads);
-		thread_room = room;
-	}
-	return threads + thread;
-}
-
-static void tell_met(u32 opening, u64 time)
-{
-	struct known_opening *o = opening_of(opening);
 	char clean[CLEAN_NAME_BYTES];
 	o->list = again.list;
 	clean_name(clean, o->name, NAME_BYTES);
-	side_line(time, "met opening=%u pid=%u name=%s", opening, o->process_id, clean);
+	side_line(time, "met opening=%u pid=%u name=%s", o->id, o->process_id, clean);
 }
 
 void names_opening(u32 opening, u64 time, u32 device, u32 process, u64 start, const char *name, enum met met)
 {
-	struct known_opening *o = opening_of(opening);
+	struct known_opening *o = known_opening(opening);
 	o->system_device = device;
 	o->process_id = process;
 	o->start = start;
@@ -98,23 +43,14 @@ void names_opening(u32 opening, u64 time, u32 device, u32 process, u64 start, co
 	o->told = time;
 	memcpy(o->name, name, NAME_BYTES);
 	if (met == MET_IN_MID_LIFE)
-		tell_met(opening, time);
+		tell_met(o, time);
 }
 
 void names_space(u32 opening, u32 space, u32 id_there)
 {
-	struct known_opening *o = opening_of(opening);
+	struct known_opening *o = known_opening(opening);
 	o->space = space;
 	o->id_there = id_there;
-}
-
-void names_thread(u32 thread, u32 id, u32 process, u64 start, const char *name)
-{
-	struct known_thread *t = thread_of(thread);
-	t->id = id;
-	t->process_id = process;
-	t->start = start;
-	memcpy(t->name, name, NAME_BYTES);
 }
 
 static void tell_device(u32 device, u64 time)
@@ -123,11 +59,6 @@ static void tell_device(u32 device, u64 time)
 	device_name(devices[device], name);
 	side_line(time, "device %u major=%u minor=%u name=%s", device, device_major(devices[device]),
 		  device_minor(devices[device]), name);
-}
-
-void names_bits(u32 thread, u32 bits)
-{
-	thread_of(thread)->bits = bits;
 }
 
 static u32 device_number(u32 system_device, u64 time)
@@ -142,42 +73,65 @@ static u32 device_number(u32 system_device, u64 time)
 }
 
 /* The wanted number if it means nothing else yet, or one of the recorder's own. A process with ids of its own namespace
- * gets such a one: the driver tells others its id there, which means another process here. */
-static u32 free_number(struct table *used, u64 key, u32 wanted, int is_usable)
+ * gets such a one: the driver tells others its id there, which means another process here. The table has a bit for each
+ * number that means something, 64 of them together. */
+static u32 free_number(struct table *used, u32 key, u32 wanted, int is_usable)
 {
-	u64 *taken = table_make(used, key, wanted);
-	u32 number = *taken || !is_usable ? next_own_number++ : wanted;
-	*taken = 1;
+	static u32 next_own_number = FIRST_OWN_NUMBER;
+	u64 *taken = table_make(used, key, wanted / 64), bit = 1ull << wanted % 64;
+	u32 number = *taken & bit || !is_usable || wanted >= FIRST_OWN_NUMBER ? next_own_number++ : wanted;
+	*taken |= bit;
 	return number;
 }
 
-static void tell_process(u32 opening, const char *met)
+static void tell_process(struct known_opening *o, const char *met)
 {
-	struct known_opening *o = opening_of(opening);
 	char clean[CLEAN_NAME_BYTES], space[64] = "";
 	o->list = again.list;
 	clean_name(clean, o->name, NAME_BYTES);
 	if (o->space)
 		snprintf(space, sizeof space, " pidns=%u nspid=%u", o->space, o->id_there);
 	side_line(o->told, "process %u %u pid=%u start=%llu opening=%u met=%s%s name=%s", o->device, o->process,
-		  o->process_id, (unsigned long long)o->start, opening, met, space, clean);
-	const char *command = command_line(opening, o->device, o->process);
+		  o->process_id, (unsigned long long)o->start, o->id, met, space, clean);
+	const char *command = command_line(o->id, o->device, o->process);
 	if (command)
 		side_line(o->told, "%s", command);
 }
 
+static void number_opening(struct known_opening *o, u64 time)
+{
+	if (o->numbered)
+		return;
+	o->numbered = 1;
+	o->told = time;
+	o->device = device_number(o->system_device, time);
+	o->process = free_number(&process_numbers, o->device, o->process_id, o->known && !o->space);
+	tell_process(o, o->met == MET_FROM_START ? "from-start" : "in-mid-life");
+}
+
+void names_closed(u32 opening, u64 time, u64 after)
+{
+	struct known_opening *o = known_opening(opening);
+	if (known_has_ended(&o->ending))
+		return;
+	known_end(&o->ending, after);
+	if (o->numbered)
+		later_line(time, after, "end opening %u %u after=%llu", o->device, o->process,
+			   (unsigned long long)after);
+}
+
+/* ---- command lines */
+
 static void tell_command(const struct command *command)
 {
-	u32 opening = command->head.opening;
-	const struct known_opening *o = opening_of(opening);
+	const struct known_opening *o = known_opening(command->head.opening);
 	if (command_keep(command) && o->numbered)
-		later_line(command->head.time, command->head.number, "%s",
-			   command_line(opening, o->device, o->process));
+		later_line(command->head.time, command->head.number, "%s", command_line(o->id, o->device, o->process));
 }
 
 void names_command(const struct command *command)
 {
-	const struct known_opening *o = opening_of(command->head.opening);
+	const struct known_opening *o = known_opening(command->head.opening);
 	if (command->bytes || !command_read(command, o->process_id, o->start))
 		tell_command(command);
 }
@@ -196,102 +150,78 @@ void names_end(void)
 	for (u64 began = now(); command_awaited() && now() - began < LAST_WAIT; nanosleep(&moment, NULL))
 		names_look();
 	names_look();
-	for (u32 opening = 0; opening < opening_room; opening++)
-		if (command_give_up(opening, &command))
+	for (struct link *link = known_openings.next; link != &known_openings; link = link->next)
+		if (link != &again.opening && command_give_up(LINKED(link, struct known_opening, all)->id, &command))
 			tell_command(&command);
 }
 
-static struct known_opening *numbered(u32 opening, u64 time)
+/* ---- threads */
+
+void names_thread(u32 thread, u32 id, u32 process, u64 start, const char *name)
 {
-	struct known_opening *o = opening_of(opening);
-	if (o->numbered)
-		return o;
-	o->numbered = 1;
-	o->told = time;
-	o->device = device_number(o->system_device, time);
-	o->process = free_number(&process_numbers, o->device, o->process_id, o->known && !o->space);
-	tell_process(opening, o->met == MET_FROM_START ? "from-start" : "in-mid-life");
-	return o;
+	struct known_thread *t = known_thread(thread);
+	t->thread_id = id;
+	t->process_id = process;
+	t->start = start;
+	memcpy(t->name, name, NAME_BYTES);
 }
 
-static void remember_opening(struct known_thread *t, u32 opening)
+void names_bits(u32 thread, u32 bits)
 {
-	t->openings = resize(t->openings, (t->opening_count + 1) * sizeof *t->openings);
-	t->openings[t->opening_count++] = opening;
+	known_thread(thread)->bits = bits;
 }
 
-static void tell_thread(u32 opening, u32 thread, u32 number, u64 time)
+static void tell_thread(const struct use *use, u64 time)
 {
-	const struct known_opening *o = opening_of(opening);
-	const struct known_thread *t = thread_of(thread);
+	const struct known_thread *t = use->thread;
 	char clean[CLEAN_NAME_BYTES];
 	clean_name(clean, t->name, NAME_BYTES);
-	side_line(time, "thread %u %u %u pid=%u tid=%u start=%llu%s name=%s", o->device, o->process, number,
-		  t->process_id, t->id, (unsigned long long)t->start, t->bits == 32 ? " bits=32" : "", clean);
+	side_line(time, "thread %u %u %u pid=%u tid=%u start=%llu%s name=%s", use->who.device, use->who.process,
+		  use->who.thread, t->process_id, t->thread_id, (unsigned long long)t->start,
+		  t->bits == 32 ? " bits=32" : "", clean);
+}
+
+static struct who name_use(u32 opening, u32 thread, u64 time)
+{
+	struct known_opening *o = known_opening(opening);
+	struct known_thread *t = known_thread(thread);
+	number_opening(o, time);
+	struct who who = { o->device, o->process,
+			   free_number(&o->thread_numbers, 0, t->thread_id, t->thread_id != 0) };
+	tell_thread(known_add_use(o, t, who), time);
+	return who;
 }
 
 struct who names_of(u32 opening, u32 thread, u64 time)
 {
-	struct known_opening *o = numbered(opening, time);
-	struct known_thread *t = thread_of(thread);
-	u64 *known = table_make(&threads_of, opening, thread);
-	if (*known)
-		return (struct who){ o->device, o->process, (u32)(*known - 1) };
-	u32 number = free_number(&thread_numbers, (u64)o->device << 32 | o->process, t->id, t->id != 0);
-	*known = (u64)number + 1;
-	remember_opening(t, opening);
-	tell_thread(opening, thread, number, time);
-	return (struct who){ o->device, o->process, number };
+	const struct use *use = known_use(opening, thread);
+	return use ? use->who : name_use(opening, thread, time);
 }
 
-void names_closed(u32 opening, u64 time, u64 after)
+/* Ends the number of a thread for an opening, unless that has ended itself. */
+static void end_use(struct use *use, u64 time, u64 after, const char *why)
 {
-	struct known_opening *o = opening_of(opening);
-	o->closed = 1;
-	o->after = after;
-	if (o->numbered)
-		later_line(time, after, "end opening %u %u after=%llu", o->device, o->process,
-			   (unsigned long long)after);
-}
-
-static void remember_ending(u32 opening, u32 thread, u32 number, u64 after)
-{
-	if (!keeps_endings)
+	if (known_has_ended(&use->ending) || known_has_ended(&use->opening->ending))
 		return;
-	if (ending_count == ending_room) {
-		ending_room = (ending_room + 64) * 2;
-		endings = resize(endings, ending_room * sizeof *endings);
-	}
-	endings[ending_count++] = (struct ending){ opening, thread, number, after };
-}
-
-/* Ends the thread's number for the opening. The next call of the thread gets another number. */
-static void end_number(u32 opening, u32 thread, u64 time, u64 after, const char *why)
-{
-	struct known_opening *o = opening_of(opening);
-	u64 *known = table_find(&threads_of, opening, thread);
-	if (!known || !*known)
-		return;
-	later_line(time, after, "end thread %u %u %u after=%llu why=%s", o->device, o->process, (u32)(*known - 1),
-		   (unsigned long long)after, why);
-	remember_ending(opening, thread, (u32)(*known - 1), after);
-	*known = 0;
+	later_line(time, after, "end thread %u %u %u after=%llu why=%s", use->who.device, use->who.process,
+		   use->who.thread, (unsigned long long)after, why);
+	known_end(&use->ending, after);
 }
 
 void names_left(u32 opening, u32 thread, u64 time, u64 after)
 {
-	end_number(opening, thread, time, after, "left");
+	struct use *use = known_use(opening, thread);
+	if (use)
+		end_use(use, time, after, "left");
 }
 
 void names_ended(u32 thread, u32 process, int is_last, u64 time, u64 after)
 {
-	if (thread) {
-		struct known_thread *t = thread_of(thread);
-		for (u32 i = 0; i < t->opening_count; i++)
-			end_number(t->openings[i], thread, time, after, "ended");
-		free(t->openings);
-		t->openings = NULL;
-		t->opening_count = 0;
+	struct known_thread *t = known_thread_if(thread);
+	if (t) {
+		for (struct link *link = t->uses.next; link != &t->uses; link = link->next)
+			end_use(LINKED(link, struct use, of_thread), time, after, "ended");
+		known_end(&t->ending, after);
 	}
 	if (is_last)
 		later_line(time, after, "end pid %u after=%llu", process, (unsigned long long)after);
@@ -299,85 +229,69 @@ void names_ended(u32 thread, u32 process, int is_last, u64 time, u64 after)
 
 void names_changed(u32 thread, const char *name, u64 time, u64 after)
 {
-	struct known_thread *t = thread_of(thread);
+	struct known_thread *t = known_thread(thread);
 	char clean[CLEAN_NAME_BYTES];
 	memcpy(t->name, name, NAME_BYTES);
 	clean_name(clean, name, NAME_BYTES);
-	later_line(time, after, "name pid=%u tid=%u after=%llu name=%s", t->process_id, t->id,
+	later_line(time, after, "name pid=%u tid=%u after=%llu name=%s", t->process_id, t->thread_id,
 		   (unsigned long long)after, clean);
 }
 
-void names_keep_endings(void)
+void names_settled(u64 number)
 {
-	keeps_endings = 1;
+	known_forget(number);
 }
 
-/* Of what is closed no frame comes any more from this number on. */
-static void tell_opening_again(u32 opening, u64 number)
+/* ---- the first lines of a later side list */
+
+static void tell_opening_again(struct known_opening *o)
 {
-	struct known_opening *o = openings + opening;
-	if (o->closed && o->after < number) {
-		if (o->numbered)
-			met_process_ended(o->device, o->process);
-		o->known = o->numbered = 0;
-		command_forget(opening);
-	}
 	if (o->list == again.list)
 		return;
 	if (o->numbered)
-		tell_process(opening, met_knows_handles(o->device, o->process) ? "before-file" : "in-mid-life");
+		tell_process(o, met_knows_handles(o->device, o->process) ? "before-file" : "in-mid-life");
 	else if (o->known && o->met == MET_IN_MID_LIFE)
-		tell_met(opening, o->told);
+		tell_met(o, o->told);
 }
 
-static void tell_threads_again(u32 thread)
+static void tell_use_again(const struct use *use)
 {
-	const struct known_thread *t = threads + thread;
-	for (u32 i = 0; i < t->opening_count; i++) {
-		const u64 *known = table_find(&threads_of, t->openings[i], thread);
-		if (known && *known && opening_of(t->openings[i])->numbered)
-			tell_thread(t->openings[i], thread, (u32)(*known - 1), now());
-	}
-}
-
-/* Tells of a thread that has ended while a frame may come from before that, and otherwise forgets it. */
-static void tell_ending_again(struct ending ending)
-{
-	const struct known_opening *o = opening_of(ending.opening);
-	if (ending.after < again.number) {
-		met_thread_ended((struct who){ o->device, o->process, ending.number });
-		return;
-	}
-	tell_thread(ending.opening, ending.thread, ending.number, now());
-	endings[again.endings_kept++] = ending;
+	tell_thread(use, now());
+	met_tell_calls(use->who);
 }
 
 void names_tell_again(u64 number)
 {
-	again = (struct again){ .number = number, .list = again.list + 1 };
+	names_settled(number - 1);
+	again.list++;
 	for (u32 device = 0; device < device_count; device++)
 		tell_device(device, now());
+	link_take_out(&again.opening);
+	link_take_out(&again.use);
+	link_put_before(known_openings.next, &again.opening);
+	link_put_before(known_uses.next, &again.use);
 }
 
-/* An opening that comes meanwhile is told already, after the first lines. A thread may be told twice. One that ends
- * meanwhile is among the endings, which come last. */
+/* The next thing of the list, which is passed then; NULL if there is none. */
+static struct link *pass(const struct link *list, struct link *passed)
+{
+	struct link *next = passed->next;
+	if (next == list || link_is_alone(passed))
+		return NULL;
+	link_take_out(passed);
+	link_put_before(next->next, passed);
+	return next;
+}
+
+/* An opening that comes meanwhile is told already, after the first lines. A thread may be told twice. */
 int names_tell_on(void)
 {
-	for (; again.opening < opening_room; again.opening++) {
-		if (slice_is_over())
-			return 0;
-		tell_opening_again(again.opening, again.number);
-	}
-	for (; again.thread < thread_room; again.thread++) {
-		if (slice_is_over())
-			return 0;
-		tell_threads_again(again.thread);
-	}
-	for (; again.ending < ending_count; again.ending++) {
-		if (slice_is_over())
-			return 0;
-		tell_ending_again(endings[again.ending]);
-	}
-	again.ending = ending_count = again.endings_kept;
-	return 1;
+	struct link *link;
+	for (; !slice_is_over(); tell_opening_again(LINKED(link, struct known_opening, all)))
+		if (!(link = pass(&known_openings, &again.opening)))
+			break;
+	for (; !slice_is_over(); tell_use_again(LINKED(link, struct use, all)))
+		if (!(link = pass(&known_uses, &again.use)))
+			return 1;
+	return 0;
 }

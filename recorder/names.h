@@ -31,8 +31,8 @@ void names_closed(u32 opening, u64 time, u64 after);
 void names_left(u32 opening, u32 thread, u64 time, u64 after);
 void names_ended(u32 thread, u32 process, int is_last, u64 time, u64 after);
 void names_changed(u32 thread, const char *name, u64 time, u64 after);
-/* From now on, remembers what has ended until names_tell_again. */
-void names_keep_endings(void);
+/* All frames up to this number are written or lost: forgets what had ended by then. */
+void names_settled(u64 number);
 /* Begins to write again what the numbers mean that may be in frames from this number on, */
 void names_tell_again(u64 number);
 /* and writes the next slice of it. Returns 1 if all is written. */

@@ -65,12 +65,6 @@ u64 stacks_unmapped(void)
 	return unmapped;
 }
 
-static void empty(struct table *table)
-{
-	free(table->slots);
-	*table = (struct table){ 0 };
-}
-
 static void forget(void)
 {
 	for (u32 i = 0; i < stack_count; i++)
@@ -80,8 +74,8 @@ static void forget(void)
 	first_stack += stack_count;
 	first_memory += memory_count;
 	stack_count = memory_count = map_count = 0;
-	empty(&stack_of);
-	empty(&memory_of);
+	table_empty(&stack_of);
+	table_empty(&memory_of);
 }
 
 /* ---- lines */

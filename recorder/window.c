@@ -4,6 +4,7 @@
 #include "parts.h"
 #include "side.h"
 #include "stacks.h"
+#include "table.h"
 #include <stdarg.h>
 #include <stdio.h>
 #include <stdlib.h>
@@ -37,8 +38,7 @@ static u64 checked;				/* no number up to this one is silent */
 static u64 memory, waiting, frames, lost, lost_because[REASON_END];
 static u64 last_number = UINT64_MAX, last_time = UINT64_MAX;	/* where the recording ends */
 static u64 latest;				/* the latest time of a frame that was written */
-static u64 *waits_of;				/* by thread: its write that waits, or 0 */
-static u32 wait_room;
+static struct table last_writes;		/* by thread: the number of its last write */
 static int is_lent;				/* the message that is heard stays in the ring for a while */
 static u64 *lent;				/* numbers of frames of which something is there */
 static u32 lent_count, lent_room;
@@ -143,7 +143,8 @@ static int settle_slot(struct slot *slot)
 	return 1;
 }
 
-int window_settle(void)
+/* Returns 1 if there is more to write. */
+static int settle(void)
 {
 	u64 began = now();
 	for (u64 first = next; next < end;) {
@@ -160,6 +161,13 @@ int window_settle(void)
 			return 1;
 	}
 	return 0;
+}
+
+int window_settle(void)
+{
+	int has_more = settle();
+	names_settled(next - 1);
+	return has_more;
 }
 
 void window_silent_until(u64 bound)
@@ -222,22 +230,11 @@ static struct frame *frame_of(struct slot *slot, u64 number)
 	return slot->frame;
 }
 
-static u64 *wait_of(u32 thread)
-{
-	if (thread >= wait_room) {
-		u32 larger = (thread + 64) * 2;
-		waits_of = resize(waits_of, larger * sizeof *waits_of);
-		memset(waits_of + wait_room, 0, (larger - wait_room) * sizeof *waits_of);
-		wait_room = larger;
-	}
-	return waits_of + thread;
-}
-
 /* A thread that begins something else has finished its last write, even if the ring had no room to say so. */
 static void end_wait(u32 thread, u64 but_not)
 {
-	u64 *number = wait_of(thread);
-	if (!*number || *number == but_not)
+	u64 *number = table_find(&last_writes, thread, 0);
+	if (!number || !*number || *number == but_not)
 		return;
 	struct slot *slot = slot_of(*number);
 	if (slot && slot->state == WAITING)
@@ -269,7 +266,7 @@ static void hear_chunk(const struct chunk *chunk)
 		slot->state = WAITING;
 		slot->since = now();
 		waiting++;
-		*wait_of(head->thread) = head->number;
+		*table_make(&last_writes, head->thread, 0) = head->number;
 	}
 }
 
@@ -330,7 +327,6 @@ static void hear_whole_chunk(const struct chunk *chunk, u64 bytes)
 static void hear_written(const struct event *event)
 {
 	struct slot *slot = slot_of(event->head.number);
-	*wait_of(event->head.thread) = 0;
 	if (!slot || slot->state != WAITING)
 		return;
 	waiting--;

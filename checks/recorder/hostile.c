@@ -1,5 +1,6 @@
 /* hostile OUT: a flight recorder's loader among processes that name handles which they do not have, and hold many
- * openings. Each file must have room for frames, whatever its side list begins with. See loader. */
+ * openings. Each file must have room for frames, whatever its side list begins with. And no memory is kept for what
+ * processes have opened and closed, and for their threads. See loader. */
 #include "begin.h"
 #include "kit.h"
 #include "met.h"
@@ -10,6 +11,7 @@
 #include "slice.h"
 #include "window.h"
 #include <linux/android/binder.h>
+#include <malloc.h>
 #include <stdio.h>
 #include <stdlib.h>
 #include <string.h>
@@ -26,6 +28,8 @@ enum {
 	MOST_TOLD = SIZE / 64,		/* handles in a side list */
 	OPENINGS = 65536,		/* from before the recording */
 	SILENT = 2 * OPENINGS,		/* the opening of a process that lets its reader wait */
+	FIRST_GONE = 3 * OPENINGS,	/* openings that come and go, */
+	GONE = 100000,			/* so many, each with a thread, a call, a handle and a command line */
 	RETURNS = 2000,			/* codes of a read of the host */
 	SLICE = 1000,			/* steps of the work that is done in slices */
 };
@@ -152,6 +156,31 @@ static void many_liars(void)
 	should_fill("frames of a file beside many processes that name handles");
 }
 
+static void come_and_go(u32 opening)
+{
+	struct command command = { .head = head_of(MESSAGE_COMMAND, 0, last, opening), .user = 10123,
+				   .bytes = COMMAND_BYTES };
+	struct event closed = { .head = head_of(MESSAGE_CLOSED, 0, 0, 0) };
+	struct event ended = { .head = head_of(MESSAGE_ENDED, 0, 0, opening), .ended = { opening, opening, 1 } };
+	open_process(opening, MET_FROM_START);
+	command.head.opening = closed.head.opening = opening;
+	window_hear(&command, sizeof command);
+	hear_handles(opening, 1, 1);
+	closed.head.number = ended.head.number = last;
+	window_hear(&closed, sizeof closed);
+	window_hear(&ended, sizeof ended);
+	settle();
+}
+
+static void comings_and_goings(void)
+{
+	size_t before = mallinfo2().uordblks;
+	for (u32 i = 0; i < GONE; i++)
+		come_and_go(FIRST_GONE + i);
+	double more = ((double)mallinfo2().uordblks - (double)before) / (1 << 20);
+	should(more < 2, "MiB that are kept for openings that were closed", more);
+}
+
 /* While the first lines are written, the ring is looked at. Who comes then is told after them: whoever reads several lists
  * takes the first lines of the first list alone. */
 static void many_openings(void)
@@ -165,7 +194,7 @@ static void many_openings(void)
 	open_process(late, MET_FROM_START);
 	hear_handles(late, 1, 1);
 	int looks = settle();
-	should(looks > OPENINGS / SLICE && looks < 4 * OPENINGS / SLICE, "looks at the ring during the first lines", looks);
+	should(looks + 2 > OPENINGS / SLICE && looks < 4 * OPENINGS / SLICE, "looks at the ring during the first lines", looks);
 	read_list();
 	snprintf(line, sizeof line, "process 0 %u ", 1000 + late);
 	char *came = strstr(list, line), *file = strstr(list, " file ");
@@ -208,12 +237,12 @@ int main(int count, char **words)
 	if (count != 2 || parts_begin(words[1], SIZE, FILES))
 		fail("usage: hostile OUT");
 	redact_begin(0);
-	names_keep_endings();
 	met_keep(SIZE);
 	open_process(HOST, MET_FROM_START);
 	open_process(LIAR, MET_FROM_START);
 	a_liar();
 	many_liars();
+	comings_and_goings();
 	many_openings();
 	a_silent_process();
 	if (parts_end())

@@ -173,7 +173,6 @@ int main(int count, char **words)
 	is_copied = !strcmp(words[2], "copied");
 	made_ring_begin(&ring, is_copied ? MOST_RING : strtoul(words[2], NULL, 10));
 	redact_begin(count == 4);
-	names_keep_endings();
 	met_keep(SIZE);
 	names_opening(1, 1, 0, 1000, 1, "caller\0\0\0\0\0\0\0\0\0", MET_FROM_START);
 	for (u32 thread = 1; thread <= THREADS; thread++)
