@@ -17,7 +17,7 @@ from viewer.started import Started, Word, other
 FOLDER = pathlib.Path(__file__).resolve().parent
 
 # The files that make the tables and the views of a new database, in order.
-SCHEMA = ("schema.sql", "numbers.sql", "views.sql", "joined_views.sql", "about.sql")
+SCHEMA = ("schema.sql", "numbers.sql", "views.sql", "joined_views.sql", "time_views.sql", "about.sql")
 
 # The bytes of a page of a database.
 PAGE = 8192

@@ -8,6 +8,7 @@
 -- book_opening are new; the notifications have their names in record; what the driver in Rust does not tell is NULL.
 -- Since version 9, package, txn, holder, death_request, fd_sent, looper, sender, side_failed, side_overrun, refusal,
 -- no_space and the column bits of thread are new.
+-- Since version 10, send_time, call_tree, queue_holder, method_time and clock are new.
 -- needs: nothing
 -- makes: tables: raw_capture, raw_process, raw_thread, raw_frame, raw_record, raw_interface, raw_service, raw_object,
 --   raw_call, raw_generation, raw_send, raw_delivery, raw_slice, raw_level, side_device, side_process, side_thread,
@@ -16,7 +17,7 @@
 --   book_call, book_process, book_open, book_stats, package, disagreement, side_call, side_pc, side_map,
 --   side_unstacked, symbol, capture, report, finding; indexes: side_process_of_pid, side_thread_of_tid
 
-PRAGMA user_version = 9;
+PRAGMA user_version = 10;
 
 -- ---- raw tables: the rows that `./listing --tables` writes, column by column
 --

@@ -13,7 +13,7 @@ QUERY = pathlib.Path(__file__).resolve().parents[1] / "page/queries/defects.sql"
 RANKS = {verdict: rank for verdict, rank in verdicts.RANKS.items() if verdict != "normal"}
 
 # The version of the database's layout.
-LAYOUT = 9
+LAYOUT = 10
 
 
 class Defect(NamedTuple):
