@@ -122,8 +122,10 @@ LEFT_OUT = (
     "15: check.hand.ILonely has no enum of codes that is certainly its own",
     "16: INamed has a name that is no string")
 
-# What must not keep the reader of C++ for long: much that does not end.
-ENDLESS = ("/* ", 'R"(', "enum {", "enum ", "class A : ", "class A {", "{", '"', "IMPLEMENT_META_INTERFACE(", "#\\\n")
+# What must not keep the reader of C++ for long: much that does not end, and very many interfaces and enums of one name.
+ENDLESS = ("/* ", 'R"(', "enum {", "enum ", "class A : ", "class A {", "{", '"', "IMPLEMENT_META_INTERFACE(", "#\\\n",
+           'IMPLEMENT_META_INTERFACE(A, "a.b") ',
+           'class IA { enum { A = FIRST_CALL_TRANSACTION }; }; IMPLEMENT_META_INTERFACE(A, "a.b") ')
 
 
 def aidl_of(text: str, name: str = "f") -> list[Interface]:
@@ -189,9 +191,9 @@ def slow_by_hand() -> Iterator[str]:
     """What keeps the reader of C++ too long: an effort with the square of the length takes minutes."""
     for what in ENDLESS:
         began = time.process_time()
-        by_hand({"f": what * (100_000 // len(what))})
+        by_hand({"f": what * (280_000 // len(what))})
         if (took := time.process_time() - began) > 5:
-            yield f"100 kB of {what!r} took {took:.1f} s"
+            yield f"280 kB of {what!r} took {took:.1f} s"
 
 
 # ---- the program

@@ -5,6 +5,7 @@ C++ is not parsed: an interface counts only if a few forms are there that leave 
 
 import itertools
 import re
+from collections import defaultdict
 from typing import Iterable, Iterator, NamedTuple
 
 from viewer.methods.sources import LONGEST, Interface, Method
@@ -206,11 +207,31 @@ def is_scope(names: list[str]) -> bool:
     return "".join(names) in ("", "IBinder::", "android::IBinder::", "::android::IBinder::")
 
 
+class Every:
+    """What all sources have: the names of the interfaces by their classes, and the enums of codes by the class around
+    each, with their place in the order of all."""
+
+    def __init__(self, sources: list[Source]) -> None:
+        self.names: dict[str, set[str]] = defaultdict(set)
+        self.within: dict[str, list[tuple[int, Codes]]] = defaultdict(list)
+        for named in (named for one in sources for named in one.named):
+            self.names[named.short].add(named.name)
+        for nth, codes in enumerate(codes for one in sources for codes in one.codes):
+            if codes.around:
+                self.within[codes.around[-1]].append((nth, codes))
+
+    def codes_in(self, *classes: str) -> list[Codes]:
+        """The first two enums of codes in these classes."""
+        found = [one for name in classes for one in self.within.get(name, [])[:2]]
+        return [codes for _, codes in sorted(found, key=lambda one: one[0])[:2]]
+
+
 def interfaces_of(sources: Iterable[Source]) -> tuple[list[Interface], list[str]]:
     """The interfaces whose codes are certain, and a line for each that is left out."""
-    every = list(sources)
+    all_sources = list(sources)
+    every = Every(all_sources)
     found, left_out = [], []
-    for source in every:
+    for source in all_sources:
         for named in source.named:
             answer = codes_of(named, source, every)
             if isinstance(answer, str):
@@ -220,18 +241,16 @@ def interfaces_of(sources: Iterable[Source]) -> tuple[list[Interface], list[str]
     return found, left_out
 
 
-def codes_of(named: Named, source: Source, every: list[Source]) -> list[Method] | str:
+def codes_of(named: Named, source: Source, every: Every) -> list[Method] | str:
     """The methods of an interface, or why they are not certain. An enum belongs to it if it is in the class of the
     interface, or in that of its objects, or else if it is the one of the source that implements it, and nothing
     else."""
     if not named.name:
         return "has a name that is no string"
-    if len({other.name for one in every for other in one.named if other.short == named.short}) > 1:
+    if len(every.names[named.short]) > 1:
         return f"is not the only interface of a class I{named.short}"
-    own = ("I" + named.short, "Bn" + named.short)
-    within = [codes for one in every for codes in one.codes if codes.around and codes.around[-1] in own]
     beside = source.codes if len(source.named) == 1 else []
-    codes = within or [one for one in beside if not one.around]
+    codes = every.codes_in("I" + named.short, "Bn" + named.short) or [one for one in beside if not one.around]
     if not codes:
         return "has no enum of codes that is certainly its own"
     if len(codes) > 1:
