@@ -129,6 +129,7 @@ case $service in
       '(--between --around)--last[show the last time]:5s, 500ms or 2m:' \
       '(--last --around)--between[show from a moment to another one]:begin: :end:' \
       '(--last --between)--around[show what is around a place]:place:' \
+      '--call[print where the time of a call went]:place, or moment and process:' \
       '--slow[how long a call of a main thread takes at least that the page lists]:16ms or 1s:' \
       '--timing[say how long each phase took]' \
       '(- *)--help[say what the options do]' \

@@ -8,6 +8,7 @@ import sqlite3
 import sys
 from typing import TYPE_CHECKING, Iterator, NamedTuple, NoReturn
 
+from viewer.calls import asked as asked_call
 from viewer.command_line import Words
 from viewer.database import loading, raw_tables, side_list
 from viewer.database.side_beside import side_beside
@@ -54,12 +55,15 @@ def add_words(line: Words) -> None:
     line.add_argument("--from", dest="first", type=number, metavar="N")
     line.add_argument("--to", dest="final", type=number, metavar="N")
     windows.add_to(line)
+    line.add_argument("--call", type=asked_call.call, metavar="CALL")
     line.add_argument("--slow", type=windows.length, metavar="TIME")
     line.add_argument("--timing", action="store_true")
 
 
 def why_not(asked: argparse.Namespace) -> Iterator[str]:
     """Which words do not go together."""
+    if asked.call is not None and asked.groups:
+        yield "--call does not go with --groups: each has lines of its own"
     if asked.groups and asked.page:
         yield "-o does not go with --groups, which makes no page"
     if (asked.columns or asked.all) and not asked.groups:
@@ -84,7 +88,7 @@ def asked_by(words: list[str], help_text: str | None) -> argparse.Namespace:
     line = Words("view", "view", help_text)
     add_words(line)
     asked = line.parse_args(words)
-    if asked.page is None and not asked.groups and asked.trace is None and asked.against is None:
+    if asked.page is None and not asked.groups and {asked.trace, asked.against, asked.call} == {None}:
         asked.page = f"{asked.files[0]}.html"
     for why in why_not(asked):
         line.error(why)
@@ -219,6 +223,9 @@ def answer(database: sqlite3.Connection, asked: argparse.Namespace, fault: Fault
     """Writes what is asked for of a database. Returns the lines to print, and what is said at the end."""
     lines: list[str] = []
     window = within.window_of(database, asked)
+    if asked.call is not None:
+        from viewer.calls.lines import lines_of
+        lines += lines_of(database, asked_call.place_of(database, asked.call))
     if asked.groups:
         lines += groups_of(database, asked, fault, window)
     if gate:

@@ -4,7 +4,7 @@
              ms: 60.08 in the queue of system_server, 20 of its work, 299.31 in ISensors code 3 of sensors-hal, of which
              250.13 are IPower code 2 of powerd
     20-22 s  com.spam.logger sends 400 oneway INotes code 9 to com.example.ime, one in 5 ms; it takes 10 ms for each
-    30 s     system_server calls IListener code 1 of 30 listeners, one after another: of each it waits for 1 or 2 ms, and
+    30 s     system_server calls IListener code 1 of 30 listeners, one after another: each works for 1 or 2 ms, and that
              of com.slow.clock for 120
     35-45 s  com.chatty.mail asks IPackageManager code 7 for the same, 200 times, once in 50 ms
     40.217 s com.tools.root calls IPower code 77 once
@@ -20,7 +20,8 @@ from typing import Callable, Iterable, NamedTuple, Sequence
 
 from checks.kit.captures import (BC_ACQUIRE, BC_ENTER_LOOPER, BC_FREE_BUFFER, BC_REGISTER_LOOPER, BC_REPLY,
                                  BC_TRANSACTION, BR_NOOP, BR_REPLY, BR_TRANSACTION, BR_TRANSACTION_COMPLETE, HEADER_2,
-                                 SORTS, changed, entry, frame, of_handle, offsets, places_of, record, transaction, u32, u64)
+                                 SORTS, changed, entry, frame, of_handle, offsets, places_of, record, transaction, u32,
+                                 u64)
 from checks.kit.tokens import MANAGER, marked, string16
 
 MICROSECOND, MILLISECOND, SECOND = 1_000, 1_000_000, 1_000_000_000

@@ -12,6 +12,7 @@ import sqlite3
 import sys
 from typing import Iterator
 
+from viewer.calls.page import Spent
 from viewer.database.report import columns_of
 from viewer.defects.gate import Shown
 from viewer.files import Stopped, for_owner, shown_name, whole_file
@@ -63,7 +64,7 @@ def asked_of(capture: Capture, shown: Shown) -> dict[str, object]:
             "groups": groups.of, "left": groups.left, "most": FINDINGS, "all_verdicts": VERDICTS,
             "columns_of": columns_of, "growths": lambda: growths_of(capture), "axis": lambda: axis_of(capture),
             "has_stacks": groups.stacks.are_there, "gone": shown.gone, "calls": lambda: calls_of(capture),
-            "slow": capture.slow, "slow_calls": lambda: capture.asked("main_thread", ROWS, capture.slow),
+            "spent": Spent(capture), "slow": capture.slow, "slow_calls": lambda: capture.asked("main_thread", ROWS, capture.slow),
             "groups_shown": len(capture.groups)}
 
 
