@@ -1,19 +1,19 @@
-"""Compares the results of a guest: compare.py AUDITOR FOLDER [whole]
+"""Compares the results of a guest.
 
-Each folder in FOLDER is a scenario. The capture must be well formed and end at one moment, and what the recorder lost
+Each folder is a scenario. The capture must be well formed and end at one moment, and what the recorder lost
 must be in the side list. sections.py compares the report with the driver's books. If the witness recorded too, the two
 recordings are compared frame by frame. The list explained.txt has the differences that are explained, with their
-reasons. Any other difference is named, and the status is then 1. To test the comparison itself, one count of each
-section is changed in the books: if that is not found, the status is 1 too.
+reasons. Any other difference is named. To test the comparison itself, one count of each section is changed in the
+books: that must be found too.
 """
 
 import pathlib
 import re
 import sqlite3
 import struct
-import sys
 import tempfile
 from collections import Counter, defaultdict
+from typing import Callable, Iterable, NamedTuple
 
 from checks.kit.captures import BR_TRANSACTION, BR_TRANSACTION_SEC_CTX
 from checks.kit.frames import frames_of
@@ -342,6 +342,96 @@ MOST_AFTER = 200_000_000  # nanoseconds from the last frame to the end, if the s
 MOST_CUT = 8192  # bytes of a last frame of the load that a killed recorder may leave cut
 
 
+def partly_lost(scenario):
+    """What a recorder that does not record all loses is told, and is lost for lack of room where that is small."""
+    recording, why = scenario.recording, {why for _, why in scenario.recording.lost}
+    for item in lost_differences(recording):
+        if item[2] in ("untold", "untimed", "broken", "not-written"):
+            yield item
+    if scenario.how == "full" and "ring-full" not in why:
+        yield "lost", "all", "ring-full", 0, "some"
+    if scenario.how == "narrow" and not why:
+        yield "lost", "all", "frames", 0, "some"
+
+
+def cut_differences(scenario):
+    """A recording that begins late or is cut has frames, and no more than a frame of it is cut."""
+    recording = scenario.recording
+    if scenario.how in ("late", "hidden") and recording.met != OPENINGS_BEFORE:
+        yield "names", "all", "met", recording.met, OPENINGS_BEFORE
+    if recording.cut > MOST_CUT:
+        yield "capture", "all", "cut", recording.cut, 0
+    if not recording.frames:
+        yield "capture", "all", "frames", 0, 1
+    if scenario.how == "late" and (lasted := recording.lasted_after_frames()) > MOST_AFTER:
+        yield "end", "all", "without-frames", lasted, MOST_AFTER
+
+
+def said_differences(scenario):
+    for words in SAYS.get(scenario.how, ()):
+        if words not in scenario.output:
+            yield "status", "all", "unsaid", words, 0
+
+
+def status_differences(scenario):
+    if scenario.status != "0":
+        yield "status", "all", "program", scenario.status, 0
+
+
+class Kind(NamedTuple):
+    """A kind of differences: the sections of the table that it is of, the scenarios of which it is looked for, and how
+    it is found."""
+    sections: str
+    of: Callable[["Scenario"], bool]
+    found: Callable[["Scenario"], Iterable[tuple]]
+
+
+def played(*ways):
+    return lambda scenario: scenario.how in ways
+
+
+def named(*names):
+    return lambda scenario: scenario.name in names
+
+
+def every(_):
+    return True
+
+
+def partial(scenario):
+    return scenario.how in PARTIAL
+
+
+def whole(scenario):
+    return scenario.how not in PARTIAL
+
+
+KINDS = [
+    Kind("capture lost names books end form", partial, partly_lost),
+    Kind("capture names end", partial, cut_differences),
+    Kind("", played("flight"), lambda it: flight_differences(it.recording, it.folder)),
+    Kind("", played("hoard"), lambda it: hoard_differences(it.output, it.folder)),
+    Kind("", played("flight", "hoard", "before"), status_differences),
+    Kind("view", lambda it: partial(it) and it.name == "before", lambda it: view_differences(it.folder)),
+    Kind("purpose capture status names books", whole, lambda it: purpose_differences(it.name, it.report, it.recording)),
+    Kind("lost", whole, lambda it: lost_differences(it.recording)),
+    Kind("senders", whole, lambda it: sender_differences(it.recording)),
+    Kind("names", whole, lambda it: bits_differences(it.how, it.recording)),
+    Kind("status", whole, said_differences),
+    Kind("status", whole, status_differences),
+    Kind("names", named("people", "people-redacted"), lambda it: command_differences(it.recording)),
+    Kind("secret", named("secret", "secret-redacted"), lambda it: secret_differences(it.recording)),
+    Kind("missed", lambda it: whole(it) and it.how != "stored",
+         lambda it: missed_differences(it.name, it.recording, it.output)),
+    Kind("witness", played("both"), lambda it: witness_differences(it.recording, it.folder)),
+    Kind("stacks", lambda it: whole(it) and it.has_stacks,
+         lambda it: stack_differences(it.recording, it.name.endswith("frameless"), it.program)),
+    Kind("books", every, lambda it: copy_differences(it.how, it.recording, it.folder)),
+    Kind("end", every, lambda it: end_differences(it.recording)),
+    Kind("form", every, lambda it: form_differences(it.recording, it.is_stored)),
+]
+
+
 class Scenario:
     def __init__(self, auditor, folder):
         self.name, self.folder = folder.name.removesuffix("-rust"), folder  # as store.py calls some
@@ -372,69 +462,28 @@ class Scenario:
             return None
         return "Rust" if "need_return false" in self.books["state"] else "C"
 
-    def differences(self, texts=None):
-        """The differences, and the sections that were looked at."""
+    def unreadable(self):
+        """What keeps it from being compared."""
         if found := re.search("Sanitizer: [a-z-]*|runtime error", self.output):
-            return [("status", "all", found[0], 1, 0)], {"status"}
+            return "status", "all", found[0], 1, 0
         if self.report is None:
-            return [("capture", "all", self.text.strip(), 0, 0)], {"capture"}
-        if self.how in PARTIAL:
-            found = [item for item in lost_differences(self.recording)
-                     if item[2] in ("untold", "untimed", "broken", "not-written")]
-            if self.how == "full" and "ring-full" not in {why for _, why in self.recording.lost}:
-                found.append(("lost", "all", "ring-full", 0, "some"))
-            if self.how in ("late", "hidden") and self.recording.met != OPENINGS_BEFORE:
-                found.append(("names", "all", "met", self.recording.met, OPENINGS_BEFORE))
-            if self.how == "narrow" and not self.recording.lost:
-                found.append(("lost", "all", "frames", 0, "some"))
-            if self.recording.cut > MOST_CUT:
-                found.append(("capture", "all", "cut", self.recording.cut, 0))
-            if not self.recording.frames:
-                found.append(("capture", "all", "frames", 0, 1))
-            if self.how == "late" and self.recording.lasted_after_frames() > MOST_AFTER:
-                found.append(("end", "all", "without-frames", self.recording.lasted_after_frames(), MOST_AFTER))
-            if self.how == "flight":
-                found += flight_differences(self.recording, self.folder)
-            if self.how == "hoard":
-                found += hoard_differences(self.output, self.folder)
-            if self.how in ("flight", "hoard", "before") and self.status != "0":
-                found.append(("status", "all", "program", self.status, 0))
-            if self.name == "before":
-                found += view_differences(self.folder)
-            found += copy_differences(self.how, self.recording, self.folder)
-            found += end_differences(self.recording)
-            found += form_differences(self.recording, self.is_stored)
-            return found, {"capture", "lost", "names", "books", "end", "form"} | (
-                {"view"} if self.name == "before" else set())
-        if self.books is None:
-            return [("status", "all", "no books", self.status, 0)], {"status"}
-        sides = both(self.recording, self.report, books_of.Books(texts or self.books))
-        found = list(sides.differences())
-        found += purpose_differences(self.name, self.report, self.recording)
-        found += lost_differences(self.recording)
-        found += end_differences(self.recording)
-        found += form_differences(self.recording, self.is_stored)
-        found += sender_differences(self.recording)
-        found += bits_differences(self.how, self.recording)
-        found += [("status", "all", "unsaid", words, 0) for words in SAYS.get(self.how, ()) if words not in self.output]
-        seen = sides.seen | {"purpose", "lost", "end", "form", "capture", "status", "senders", "names", "books"}
-        if self.name in ("people", "people-redacted"):
-            found += command_differences(self.recording)
-        found += copy_differences(self.how, self.recording, self.folder)
-        if self.name in ("secret", "secret-redacted"):
-            found += secret_differences(self.recording)
-            seen.add("secret")
-        if self.how != "stored":
-            found += missed_differences(self.name, self.recording, self.output)
-            seen.add("missed")
-        if self.how == "both":
-            found += witness_differences(self.recording, self.folder)
-            seen.add("witness")
-        if self.has_stacks:
-            found += stack_differences(self.recording, self.name.endswith("frameless"), self.program)
-            seen.add("stacks")
-        if self.status != "0":
-            found.append(("status", "all", "program", self.status, 0))
+            return "capture", "all", self.text.strip(), 0, 0
+        if whole(self) and self.books is None:
+            return "status", "all", "no books", self.status, 0
+        return None
+
+    def differences(self, texts=None):
+        """The differences, also from the driver's books or from other texts of these, and the sections that were looked
+        at."""
+        if wrong := self.unreadable():
+            return [wrong], {wrong[0]}
+        kinds = [kind for kind in KINDS if kind.of(self)]
+        found = [difference for kind in kinds for difference in kind.found(self)]
+        seen = {section for kind in kinds for section in kind.sections.split()}
+        if whole(self):
+            sides = both(self.recording, self.report, books_of.Books(texts or self.books))
+            found += sides.differences()
+            seen |= sides.seen
         return found, seen
 
 
@@ -507,12 +556,14 @@ def unfound(scenarios):
 
 # ---- the table
 
-def main(auditor, folder, whole=""):
-    folder = pathlib.Path(folder)
+def compared(auditor, folder, all_sections):
+    """Prints what differs, and a table. Returns whether nothing differs without a reason, and each change of the books
+    was found; if all sections are wanted, some in each."""
     reasons, table, failed, used = explained(), defaultdict(Counter), False, set()
     scenarios = [Scenario(auditor, path) for path in sorted(folder.iterdir()) if (path / "status").exists()]
     if not scenarios:
-        sys.exit(f"compare.py: {folder} has no scenario")
+        print(f"{folder} has no scenario")
+        return False
     for scenario in scenarios:
         found, seen = scenario.differences()
         verdicts = {section: "agree" for section in seen}
@@ -541,11 +592,7 @@ def main(auditor, folder, whole=""):
               f"{changes.get(section, '-'):>20}")
         if section in changes:
             found, tried = changes[section].split(" of ")
-            if found != tried or whole and tried == "0":
+            if found != tried or all_sections and tried == "0":
                 print("wrong books were not found:", section)
                 failed = True
-    sys.exit(1 if failed else 0)
-
-
-if __name__ == "__main__":
-    main(*sys.argv[1:])
+    return not failed
