@@ -23,7 +23,6 @@ changed since the commit is packed too, under another version. ROOM is where the
 """
 
 import argparse
-import base64
 import filecmp
 import os
 import pathlib
@@ -34,10 +33,15 @@ import subprocess
 from typing import Iterator
 
 from checks.kit.checking import FLAG, Fail, check, compare
-from checks.kit.programs import CHECKS, PACKAGED, ROOT, linked
+from checks.kit.programs import PACKAGED, ROOT, linked
 from checks.kit.runs import output_of
 from checks.package.options import check_options
 from checks.pages.pages import commands_in
+from checks.recorder.driver.play import SOURCES
+from checks.recorder.guest.boot import Guest, boot
+from checks.recorder.guest.kernels import kernel_of
+from checks.recorder.guest.machines import OWN_TIME, X86_64
+from checks.recorder.guest.plans import compiled, first_files
 from packager import manual
 
 SUITE, MIRROR = "bookworm", "http://deb.debian.org/debian"
@@ -167,58 +171,32 @@ def check_answers(what: str, came: pathlib.Path, due: pathlib.Path, fail: Fail) 
 
 # ---- the guest
 
-INIT = """#!/bin/bash
+INIT = """#!/bin/busybox sh
+. /guest.sh
+add_driver
 export PATH=/usr/sbin:/usr/bin:/sbin:/bin
-mount -t proc proc /proc
-mount -t sysfs sys /sys
-mount -t devtmpfs dev /dev
-mount -t debugfs debug /sys/kernel/debug
-insmod /modules/binder_linux.ko devices=binder,hwbinder,vndbinder
-mkdir /recorded
-cd /recorded
-binder-record -- /scenarios leaks . 2>record.err
-echo $? >record.status
-binder-audit report capture-1.cap >report.txt
-binder-view capture-1.cap --side capture.side --groups >groups.txt 2>view.err
-echo '<packed>'
-tar -c . | base64
-echo '</packed>'
+play() {
+  cd $here
+  binder-record -- /scenarios leaks . 2>record.err
+  echo $? >record.status
+  binder-audit report capture-1.cap >report.txt
+  binder-view capture-1.cap --side capture.side --groups >groups.txt 2>view.err
+}
+play_plan play
 """
-
-
-def make_initramfs(system: pathlib.Path, room: pathlib.Path) -> pathlib.Path:
-    """The new system with the installed package, a module of the driver and the scenarios. Returns the kernel."""
-    inside(system, "apt-get install -y --no-install-recommends kmod && cd /tmp && apt-get download"
-                   " $(apt-cache depends linux-image-amd64 | awk '/Depends: linux-image-/ { print $2 }')")
-    output_of(["dpkg-deb", "-x", next((system / "tmp").glob("linux-image-*.deb")), room / "kernel"])
-    module = next((room / "kernel").rglob("binder_linux.ko"))
-    (system / "modules").mkdir()
-    shutil.copy(module, system / "modules")
-    left_out = "gbinder", "witness"
-    sources = [it for it in sorted((CHECKS / "recorder/scenarios").glob("*.c")) if it.stem not in left_out]
-    output_of(["cc", "-O2", "-static", "-o", system / "scenarios", *sources, "-lpthread"])
-    (system / "init").write_text(INIT, "utf-8")
-    (system / "init").chmod(0o755)
-    for name in ("tmp", "var/cache", "var/lib/apt", "usr/share/locale"):  # most of it, and not needed
-        shutil.rmtree(system / name)
-    pack = 'cd "$1" && find . -xdev | cpio -o -H newc | gzip -1 >"$2"'
-    output_of(["bash", "-c", pack, "-", system, room / "initramfs"])
-    return next((room / "kernel/boot").glob("vmlinuz-*"))
+# Most of what a system has, and not needed.
+LEFT_OUT = ("tmp", "var/cache", "var/lib/apt", "usr/share/locale")
 
 
 def recorded(system: pathlib.Path, room: pathlib.Path) -> pathlib.Path:
     """What a guest with the installed package recorded, and said of it."""
-    kernel = make_initramfs(system, room)
-    words = ("timeout 1800 qemu-system-x86_64 -accel tcg,thread=single -cpu max -m 2G -nographic -no-reboot -nodefaults"
-             " -serial stdio").split()
-    # A guest that gets little time fails the timer check.
-    words += ["-append", "console=ttyS0 no_timer_check panic=-1 loglevel=0 rdinit=/init"]
-    said = subprocess.run([*words, "-kernel", kernel, "-initrd", room / "initramfs"], stdin=subprocess.DEVNULL,
-                          capture_output=True, encoding="utf-8", errors="replace").stdout
-    (room / "recorded").mkdir()
-    if packed := re.search(r"<packed>(.*)</packed>", said, re.DOTALL):
-        subprocess.run(["tar", "-x", "-C", room / "recorded"], input=base64.b64decode(packed[1]), check=True)
-    return room / "recorded"
+    for name in LEFT_OUT:
+        shutil.rmtree(system / name)
+    scenarios = compiled(X86_64, room / "scenarios", "-static", *SOURCES, "-lpthread")
+    files = {**{path.name: path for path in system.iterdir()}, **first_files(X86_64, INIT, 600), "scenarios": scenarios,
+             "plan": "leaks leaks\n"}
+    said = boot(Guest(X86_64, kernel_of("6.1", X86_64), files, OWN_TIME), "of the package", 1, room / "recorded")
+    return room / "recorded/leaks" if said is None else room
 
 
 def check_guest(system: pathlib.Path, room: pathlib.Path, fail: Fail) -> None:

@@ -1,6 +1,6 @@
 /* systems FOLDER: says in a line each what a recording lacks on a system of which only some files are there, those
  * below the FOLDER: tracefs, kallsyms, folders of modules, and in `release` the version of the kernel. The status is 1
- * if it lacks something. See systems.sh. */
+ * if it lacks something. See systems.py. */
 #include "drivers.h"
 #include "lack.h"
 #include "needs.h"

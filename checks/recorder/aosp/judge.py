@@ -1,12 +1,9 @@
-"""Judges what a guest left of the plan: judge.py FOLDER ROOM
+"""Judges what a guest left of the plan.
 
-ROOM has the plan, and for each release of Android a folder of what was built, which names functions. Each folder in
-FOLDER is a recording, and is named after its line of the plan; each line of the plan must have one. A test that was
-also played unrecorded must have the same results each time, and may fail only as FAILS says; no frame may be lost but
-for those of LOST and MAY_BE_LOST; the report may not differ from the driver's books; the groups must be those that
-groups.txt expects; and with stacks the page must show the function that groups.txt names. It prints a line for each. If
-something is not so, a line on standard error says what, and the status is 1.
-"""
+Each folder is a recording, and is named after its line of the plan; each line of the plan must have one. A test that
+was also played unrecorded must have the same results each time, and may fail only as FAILS says; no frame may be lost
+but for those of LOST and MAY_BE_LOST; the report may not differ from the driver's books; the groups must be those that
+groups.txt expects; and with stacks the page must show the function that groups.txt names."""
 
 import fnmatch
 import functools
@@ -14,10 +11,9 @@ import os
 import pathlib
 import re
 import sqlite3
-import sys
 import tempfile
 from concurrent.futures import ThreadPoolExecutor
-from typing import Iterator, NamedTuple
+from typing import Iterator, Mapping, NamedTuple, Sequence
 
 from checks.kit.programs import ROOT
 from checks.kit.runs import answer
@@ -210,7 +206,7 @@ def name_of(folder: pathlib.Path) -> str:
     return next((folder.name.removesuffix(way) for way in (*WAYS, RUST) if folder.name.endswith(way)), folder.name)
 
 
-def faults_of(folder: pathlib.Path, told: list[str], room: pathlib.Path | None = None) -> Iterator[str]:
+def faults_of(folder: pathlib.Path, told: list[str], symbols: Mapping[str, pathlib.Path] = {}) -> Iterator[str]:
     """What is wrong with a folder. `told` gets what is said of it in any case."""
     name = name_of(folder)
     status, _, how, *_ = (folder / "status").read_text("utf-8").split()
@@ -231,7 +227,7 @@ def faults_of(folder: pathlib.Path, told: list[str], room: pathlib.Path | None =
     told += [f"{frames[1] if frames else 'no'} frames", f"{len(lost)} lost"]
     if [why for why in lost if why != MAY_BE_LOST.get(line_of(name))] != LOST.get(line_of(name), []):
         yield f"lost: {' '.join(lost)}"
-    came = viewed(folder, room / f"built-{release_of(name)}" if room and how == "--stacks" else None)
+    came = viewed(folder, symbols.get(release_of(name)) if how == "--stacks" else None)
     if isinstance(came, str):
         yield came
         return
@@ -244,24 +240,16 @@ def faults_of(folder: pathlib.Path, told: list[str], room: pathlib.Path | None =
     yield from faults_of_stacks(came, due)
 
 
-def judged(folder: pathlib.Path, room: pathlib.Path) -> tuple[list[str], list[str]]:
+def judged(folder: pathlib.Path, symbols: dict[str, pathlib.Path]) -> tuple[list[str], list[str]]:
     """What is said of a recording, and what is wrong with it."""
     told: list[str] = []
-    return told, list(faults_of(folder, told, room)) if (folder / "status").exists() else ["not played"]
+    return told, list(faults_of(folder, told, symbols)) if (folder / "status").exists() else ["not played"]
 
 
-def main(source: str, room: str) -> int:
-    failed = 0
-    names = [line.split()[0] for line in (pathlib.Path(room) / "plan").read_text("utf-8").splitlines()]
+def judged_all(source: pathlib.Path, names: Sequence[str], symbols: dict[str, pathlib.Path]) -> Iterator[str]:
+    """Prints a line for each recording, and returns what is wrong with them. For each release of Android there is a
+    folder of what was built, which names functions."""
     with ThreadPoolExecutor(os.cpu_count()) as pool:
-        of_all = pool.map(lambda name: judged(pathlib.Path(source) / name, pathlib.Path(room)), names)
-        for name, (told, faults) in zip(names, of_all):
-            failed += len(faults)
+        for name, (told, faults) in zip(names, pool.map(lambda name: judged(source / name, symbols), names)):
             print(f"{name}: {'; '.join(told)}", flush=True)
-            for fault in faults:
-                print(f"checks/aosp: {name}: {fault}", file=sys.stderr)
-    return 1 if failed else 0
-
-
-if __name__ == "__main__":
-    sys.exit(main(*sys.argv[1:]))
+            yield from (f"{name}: {fault}" for fault in faults)

@@ -1,12 +1,11 @@
-"""store.py FROM TO [ENDING NAME..]: packs the small redacted recordings of a guest, with their books.
+"""Packs the small redacted recordings of a guest, with their books.
 
-A recording is stored by the name of its line, followed by ENDING, which judge.py knows; with NAMEs only those. One that
-came to no end, or is larger packed than LARGEST, is left out."""
+One that came to no end, or is larger packed than LARGEST, is left out."""
 
 import io
 import pathlib
-import sys
 import tarfile
+from typing import Sequence
 
 from checks.recorder.aosp.judge import status_due
 
@@ -31,17 +30,15 @@ def packed(folder: pathlib.Path, name: str) -> bytes:
     return made.getvalue()
 
 
-def main(source: str, to: str, ending: str = "", *names: str) -> None:
-    pathlib.Path(to).mkdir(parents=True, exist_ok=True)
-    for folder in sorted(path for path in pathlib.Path(source).iterdir() if (path / "capture.side").exists()):
+def store(source: pathlib.Path, to: pathlib.Path, ending: str = "", names: Sequence[str] = ()) -> None:
+    """Stores recordings by the names of their lines, followed by an ending, which judge.py knows; with names only
+    these."""
+    to.mkdir(parents=True, exist_ok=True)
+    for folder in sorted(path for path in source.iterdir() if (path / "capture.side").exists()):
         status, _, how, *_ = (folder / "status").read_text("utf-8").split()
         name = folder.name.removesuffix("-redacted")
         if how != "--redact" or status != status_due(name) or names and name not in names:
             continue
         data = packed(folder, name + ending)
         if len(data) <= LARGEST:
-            (pathlib.Path(to) / f"{name}{ending}.tar.xz").write_bytes(data)
-
-
-if __name__ == "__main__":
-    main(*sys.argv[1:])
+            (to / f"{name}{ending}.tar.xz").write_bytes(data)

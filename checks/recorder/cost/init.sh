@@ -9,35 +9,25 @@
 # takes of as long a time without calls. `stack: NUMBER` is how many functions the longest stack has. Before that, if
 # there is /opens, files are opened and closed (opens.c), bare and looked at, with lines
 # `cost: opens HOW 0 COUNT NANOSECONDS`.
-# shellcheck shell=dash disable=SC2013,SC2086
-/bin/busybox --install -s /bin
-export PATH=/bin
-echo	# the firmware of x86-64 leaves its last line open
-mount -t proc proc /proc
-mount -t sysfs sys /sys
-mount -t devtmpfs dev /dev
-mount -t debugfs debug /sys/kernel/debug
-mount -t tracefs trace /sys/kernel/tracing 2>/dev/null
-mount -t tmpfs -o size=80% out /out
-insmod /modules/binder_linux.ko devices=binder,hwbinder || echo "init: no driver"
-echo 1 >/proc/sys/kernel/kptr_restrict
+# shellcheck shell=dash source=checks/recorder/guest/init.sh disable=SC2013,SC2086,SC2119,SC2154
+. /guest.sh
+add_driver
+here=/out
 
 processor_time() { # of the loader, in nanoseconds
 	cut -d ' ' -f 1 /proc/$recorder/schedstat
 }
 
 begin() { # [OPTION]..
-	/record "$@" -o /out/capture 2>/out/record.txt & recorder=$!
-	until grep -q ' begin ' /out/capture.side 2>/dev/null; do sleep 0.1; done
+	begin_recording "$@"
 	sleep 1
 }
 
 end() {
 	sleep 1
-	kill -TERM $recorder
-	wait $recorder
+	end_recording
 	cat /out/record.txt
-	grep -q ' 0 lost' /out/record.txt || echo "init: frames were lost"
+	grep -q ' 0 lost' /out/record.txt || echo "guest: wrong: frames were lost"
 }
 
 longest_stack() {
@@ -72,7 +62,9 @@ rate() { # HOW BYTES COUNT
 	echo "cost: rate $1 $2 $3 $took $loader $idle $capture $side"
 }
 
-if [ -e /opens ]; then /opens 2000 || echo "init: no files were opened"; fi
+echo "cost $(now)" >/tmp/line
+watch_time &
+if [ -e /opens ]; then /opens 2000 || echo "guest: wrong: no files were opened"; fi
 # So many calls fit into the ring of the recorder.
 while read -r bytes count more; do
 	calls bare $bytes $count
@@ -94,5 +86,4 @@ done <<END
 128 1000 3000
 65536 60 1000
 END
-echo "init: done"
-poweroff -f
+finish

@@ -1,4 +1,4 @@
-"""table.py FOLDER GUEST..: prints what recording costs, from what checks/cost left in FOLDER."""
+"""Prints what recording costs, from what guests left in a folder."""
 
 import pathlib
 import statistics
@@ -23,7 +23,7 @@ class Run(NamedTuple):
 
 
 def console(folder: pathlib.Path, guest: str) -> list[str]:
-    return (folder / f"{guest}.console").read_text("utf-8", errors="replace").splitlines()
+    return (folder / guest / "console").read_text("utf-8", errors="replace").splitlines()
 
 
 def runs_of(folder: pathlib.Path, guest: str) -> Iterator[Run]:
@@ -114,13 +114,9 @@ def print_times(all_runs: dict[str, list[Run]]) -> None:
                   + "".join(f"{run.more[0] / run.nanoseconds:20.1%}" for run in parts))
 
 
-def main(folder: str, *guests: str) -> None:
-    all_runs = {guest: list(runs_of(pathlib.Path(folder), guest)) for guest in guests}
-    print(f"stacks have up to {longest_stack(pathlib.Path(folder), guests)} functions\n")
+def main(folder: pathlib.Path, *guests: str) -> None:
+    all_runs = {guest: list(runs_of(folder, guest)) for guest in guests}
+    print(f"stacks have up to {longest_stack(folder, guests)} functions\n")
     for printed in (print_calls, print_opens, print_loader, print_bytes, print_times):
         printed(all_runs)
         print()
-
-
-if __name__ == "__main__":
-    main(*sys.argv[1:])

@@ -13,7 +13,7 @@
 /busybox mount -t sysfs sys /sys
 /busybox mount -t devtmpfs dev /dev
 for module in $(/busybox cat /modules/order); do /busybox insmod /modules/$module; done
-/busybox insmod /modules/binder_linux.ko devices=binder,hwbinder,vndbinder || echo "init: no driver"
+/busybox insmod /modules/binder_linux.ko devices=binder,hwbinder,vndbinder || echo "guest: wrong: no driver"
 /busybox mount -t debugfs debug /sys/kernel/debug
 /busybox mount -t tracefs trace /sys/kernel/tracing
 /busybox mount -t tmpfs -o mode=1777 tmp /data/local/tmp
@@ -57,5 +57,5 @@ serve 5556 /bin:/usr/bin shell shell &
 serve 5557 /su:/bin:/usr/bin shell su &
 serve 5558 /other:/bin:/usr/bin root su &
 serve 5559 /bin:/usr/bin root shell &
-echo "init: ready"
-while :; do /busybox sleep 1000; done
+echo "guest: ready"
+while /busybox sleep 10; do echo "guest: $(cut -d" " -f1 /proc/uptime)"; done

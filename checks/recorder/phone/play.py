@@ -1,6 +1,5 @@
 """Plays `record --adb` with a guest of checks/phone: see there. Each scene says what must hold in its docstring."""
 
-import argparse
 import contextlib
 import os
 import pathlib
@@ -9,7 +8,6 @@ import signal
 import socket
 import sqlite3
 import subprocess
-import sys
 import threading
 import time
 from typing import Callable, Iterator, NamedTuple
@@ -25,10 +23,25 @@ class Ended(NamedTuple):
     said: str
 
 
+class Setting(NamedTuple):
+    """What is played with a guest: the command, the guest's ports here and that of the server of adb, the folders of
+    adb, of an older one and of what comes, the guest's commands, the seconds that each thing may take, and the scenes
+    that are played alone."""
+    record: str
+    ports: list[int]
+    server: int
+    adb: pathlib.Path
+    older: pathlib.Path
+    out: pathlib.Path
+    commands: str
+    limit: float
+    only: list[str]
+
+
 class Stage:
     """The guest and the commands of this system."""
 
-    def __init__(self, given: argparse.Namespace):
+    def __init__(self, given: Setting):
         self.given = given
         self.serials = [f"127.0.0.1:{port}" for port in given.ports]
         self.failed: list[str] = []
@@ -383,18 +396,8 @@ OTHERS = [no_bpf]
 NOT_OF_BUSYBOX = [by_su, other_machine]
 
 
-def main() -> int:
-    line = argparse.ArgumentParser()
-    line.add_argument("--record", required=True)
-    line.add_argument("--ports", nargs=5, required=True)
-    line.add_argument("--server", required=True)
-    line.add_argument("--adb", type=pathlib.Path, required=True)
-    line.add_argument("--older", type=pathlib.Path, required=True)
-    line.add_argument("--out", type=pathlib.Path, required=True)
-    line.add_argument("--commands", choices=("toybox", "busybox"), required=True)
-    line.add_argument("--limit", type=float, required=True, help="seconds that each thing may take")
-    line.add_argument("--only", action="append")
-    given = line.parse_args()
+def play(given: Setting) -> list[str]:
+    """Plays the scenes with a guest, and returns what is not as it must be."""
     stage = Stage(given)
     try:
         for scene in SCENES + OTHERS:
@@ -413,10 +416,4 @@ def main() -> int:
             print(f"  {stage.scene}: {time.monotonic() - began:.0f} s", flush=True)
     finally:
         stage.end_server()
-    for what in stage.failed:
-        print(f"checks/phone: {what}", file=sys.stderr)
-    return 1 if stage.failed else 0
-
-
-if __name__ == "__main__":
-    sys.exit(main())
+    return stage.failed

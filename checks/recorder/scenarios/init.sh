@@ -19,7 +19,7 @@
 #   stacks   by the recorder only, which takes stacks, with programs that keep frame pointers; `program` is that program
 #   frameless  the same with programs that do not
 #   hoard    by the recorder only, which keeps the newest 4 files of 8 MiB; `memory` is how much it had at most
-#   blind    by the recorder only, a session of a blind test set: ../blind/play.sh
+#   blind    by the recorder only, a session of a blind test set: ../driver/blind.py
 #   blind-before  the same as `before`
 #   blind-live  by a recorder that is started before the session, and stopped when that has made the file `rested`: so
 #            all processes are alive at the end of the recording
@@ -27,31 +27,10 @@
 #   traced-long  the same, where the trace is written piece by piece, with flushes
 #   flight   by the recorder only, which keeps the newest 4 files of 128 KiB; `most-files` is how many there were at
 #            most
-# shellcheck shell=dash disable=SC2013,SC2046,SC2086
-/bin/busybox --install -s /bin
-export PATH=/bin LD_LIBRARY_PATH=/lib
-mount -t proc proc /proc
-mount -t sysfs sys /sys
-mount -t devtmpfs dev /dev
-mount -t debugfs debug /sys/kernel/debug
-mount -t tracefs trace /sys/kernel/tracing 2>/dev/null
-mount -t tmpfs -o size=80% out /out
-for module in $(cat /modules/order); do insmod /modules/$module || echo "init: $module was not loaded"; done
-if [ -e /sys/module/rust_binder ]; then
-	mkdir /dev/binderfs
-	mount -t binder -o stats=global binder /dev/binderfs
-	for device in binder hwbinder vndbinder; do ln -s binderfs/$device /dev/$device; done
-	driver=rust_binder other=binder_linux
-else
-	insmod /modules/binder_linux.ko devices=binder,hwbinder,vndbinder debug_mask=3
-	driver=binder_linux other=rust_binder
-fi
-[ -e /sys/module/$driver ] || echo "init: no driver"
-echo 1 >/proc/sys/kernel/kptr_restrict
-uname -r >/out/kernel
-cp /proc/cmdline /out/cmdline
+# shellcheck shell=dash source=checks/recorder/guest/init.sh disable=SC2046,SC2086,SC2154
+. /guest.sh
+add_driver debug_mask=3
 more=$(cat /words)	# options of each recorder
-now() { cut -d' ' -f1 /proc/uptime; }
 
 capture_size() { stat -c %s $here/capture-1.cap 2>/dev/null || echo 0; }
 
@@ -72,40 +51,30 @@ wait_for() { # COMMAND..: until it succeeds, or the program of the scenario has 
 	while ! "$@" && kill -0 $program; do sleep 0.2; done 2>/dev/null
 }
 
-wait_for_begin() { # until the recording has begun, or there is no recorder
-	while ! grep -q ' begin ' $here/capture.side && kill -0 $recorder; do sleep 0.2; done 2>/dev/null
+end_of_recording() { # when the session has rested; the status is that of its program
+	wait_for [ -e $here/rested ]
+	$1
+	end_recording
+	touch $here/stop
+	wait $program
+	status=$?
+	cat $here/record.txt
+	return $status
 }
 
 before() { # PROGRAM
 	$1 $scenario $here $number & program=$!
 	wait_for [ -e $here/ready ]
-	/record $more -o $here/capture 2>$here/record.txt & recorder=$!
-	wait_for_begin
+	begin_recording $more
 	sleep 1
 	touch $here/go
-	wait_for [ -e $here/rested ]
-	sleep 1
-	kill -TERM $recorder
-	wait $recorder
-	touch $here/stop
-	wait $program
-	status=$?
-	cat $here/record.txt
-	return $status
+	end_of_recording 'sleep 1'
 }
 
 live() { # PROGRAM
-	/record $more -o $here/capture 2>$here/record.txt & recorder=$!
-	wait_for_begin
+	begin_recording $more
 	$1 $scenario $here $number & program=$!
-	wait_for [ -e $here/rested ]
-	kill -TERM $recorder
-	wait $recorder
-	touch $here/stop
-	wait $program
-	status=$?
-	cat $here/record.txt
-	return $status
+	end_of_recording :
 }
 
 # Looks again and again how much memory the recorder has of its own, without its ring, and keeps the most.
@@ -202,7 +171,8 @@ with_two_drivers() {
 	/record $more -o $here/capture -- /scenarios.static $scenario $here $number
 }
 
-play() {
+play() { # HOW SCENARIO [NUMBER]
+	what=$1 how=$1 scenario=$2 number=$3
 	case $how in
 	both)
 		mkdir -p /witness/$name
@@ -239,27 +209,4 @@ play() {
 	esac
 }
 
-blocks=0
-save() { # FILE..: of /out
-	(cd /out && tar cf /tmp/saved "$@")
-	dd if=/tmp/saved of=/dev/vda bs=65536 seek=$blocks 2>/dev/null
-	blocks=$((blocks + ($(stat -c %s /tmp/saved) + 65535) / 65536))
-	rm /tmp/saved
-	sync
-}
-
-save kernel cmdline
-while read -r name how scenario number; do
-	here=/out/$name
-	mkdir -p $here
-	dmesg -c >/dev/null
-	began=$(now)
-	play >$here/output 2>&1
-	echo "$? $how $began $(now)" >$here/status
-	echo "$name: status $(cat $here/status)"
-	cat $here/output
-	dmesg -c >$here/dmesg
-	save $name	# after each line: a guest that hangs leaves something too
-done </plan
-echo "init: done"
-poweroff -f
+play_plan play
