@@ -180,18 +180,34 @@ def share_of(having: int, captures: int) -> Interval:
                     else 1.0)
 
 
+def byar(number: float, side: int) -> float:
+    return number * (1 - 1 / (9 * number) + side * DEVIATIONS / (3 * math.sqrt(number))) ** 3
+
+
+class Recorded:
+    """How long captures were recorded, by their numbers: of many defects each has findings in a few of them."""
+
+    def __init__(self, seconds: dict[int, float]):
+        self.seconds = seconds
+        self.hours, self.squares = sum(seconds.values()) / 3600, sum(each * each for each in seconds.values())
+
+    def rate(self, findings: dict[int, int]) -> Interval | None:
+        """Findings an hour of a defect, with Byar's interval of a Poisson count. If captures differ by more than such
+        counts do, because findings come in clumps, the interval is as much wider. None without times."""
+        if not self.hours:
+            return None
+        total = sum(findings.values())
+        rate = total / self.hours
+        each = rate / 3600
+        # Of each capture the square of what came without what was due; and first, as if nothing had come.
+        squares = each * each * self.squares + sum(
+            came * (came - 2 * each * self.seconds[number]) for number, came in findings.items())
+        clump = max(1.0, squares / total) if total else 1.0
+        count = total / clump
+        low = byar(count, -1) if count > 0.25 else 0.0
+        return Interval(rate, max(0.0, low) * clump / self.hours, byar(count + 1, 1) * clump / self.hours)
+
+
 def rate_of(findings: list[int], seconds: list[float]) -> Interval | None:
-    """Findings an hour, with Byar's interval of a Poisson count. If captures differ by more than such counts do,
-    because findings come in clumps, the interval is as much wider. None without times."""
-    hours, total = sum(seconds) / 3600, sum(findings)
-    if not hours:
-        return None
-    expected = [total / hours * each / 3600 for each in seconds]
-    clump = max(1.0, sum((came - due) ** 2 for came, due in zip(findings, expected)) / total) if total else 1.0
-    count = total / clump
-
-    def byar(number: float, side: int) -> float:
-        return number * (1 - 1 / (9 * number) + side * DEVIATIONS / (3 * math.sqrt(number))) ** 3
-
-    low = byar(count, -1) if count > 0.25 else 0.0
-    return Interval(total / hours, max(0.0, low) * clump / hours, byar(count + 1, 1) * clump / hours)
+    """Findings an hour of captures in their order."""
+    return Recorded(dict(enumerate(seconds))).rate(dict(enumerate(findings)))

@@ -1,78 +1,40 @@
 """Builds of a lab compared: which defects are new, worse, grown or gone in one since others, on enough devices and in
 enough captures to say so."""
 
-import functools
-import json
 import math
-import pathlib
 import sqlite3
 from collections.abc import Iterator
 from typing import NamedTuple
 
-from lab import chance
+from lab import chance, power
+from lab.fail_on import FailOn
+from lab.first_seen import BUILDS_BEFORE, FIRST, Best, best_capture, builds_before, seen_in, urgency
 from lab.known_until import Known
+from lab.power import Power
+from lab.renamed import Renamed, Text
+from lab.sides import Found, Seen, Sides, build_of, refuse_mix
 from viewer.defects.changes import GONE, GROWN, NEW, NOT_MET, SAME, WORSE
+from viewer.defects.known_keys import unseen_lines
 from viewer.files import Stopped
 from viewer.terminal import field_of
-from viewer.units import counted
 
-FOLDER = pathlib.Path(__file__).resolve().parent
-
-# A defect that was known until a build, and is there in a later one. And what has a line, in the order of the lines.
+# A defect that was known until a build, and is there in a later one. And what is more than chance, in the order of the
+# lines; and beside it all that has a line.
 BACK = "back"
 SHOWN = (NEW, WORSE, BACK, GROWN, GONE)
+TOLD = (*SHOWN, FIRST)
 
 
 class Enough(NamedTuple):
     """When a difference is told: on how many devices a defect must be, so many of a hundred, and at least so many; and
-    how many of a hundred told differences may be false."""
+    how many of a hundred told differences may be false. And in how many builds before none has what is first seen."""
     share: float = 5
     least: int = 2
     rate: float = 5
+    before: int = BUILDS_BEFORE
 
     def of(self, devices: int) -> int:
         return max(self.least, math.ceil(self.share * devices / 100))
-
-
-class Build(NamedTuple):
-    """What there is of a build. Malformed captures, and those that could not be viewed, do not count."""
-    name: str
-    captures: int
-    devices: int
-    malformed: int
-    failed: int
-    lossy: int
-    cut: int
-
-    def __str__(self) -> str:
-        return (f"{self.name}: {counted(self.captures, 'capture')} of {counted(self.devices, 'device')}, {self.lossy}"
-                f" with lost frames; plus {self.malformed} malformed, {self.failed} failed"
-                + (f"; {counted(self.cut, 'result')} with rows left out" if self.cut else ""))
-
-
-class Capture(NamedTuple):
-    """A capture that counts: whose it is, and how long, in seconds."""
-    device: str
-    is_new: bool
-    seconds: float | None
-    has_side: bool
-
-
-class Found(NamedTuple):
-    """A defect in a capture, more than explained."""
-    capture: int
-    n: int
-    is_real: bool
-
-
-class Seen(NamedTuple):
-    """What the captures of one side have of a defect: how many of them, and how many as `real`; on how many devices;
-    how many findings, by the numbers of the captures."""
-    captures: int
-    real: int
-    devices: int
-    real_devices: int
-    n: dict[int, int]
 
 
 class Row(NamedTuple):
@@ -103,115 +65,30 @@ class Row(NamedTuple):
         return "real" if (self.now.real or not self.now.captures and self.before.real) else "maybe"
 
 
-def build_of(lab: sqlite3.Connection, name: str) -> Build:
-    """A build of the lab."""
-    counts = lab.execute(
-        "SELECT sum(usable), count(DISTINCT iif(usable, device, NULL)), sum(malformed NOTNULL), sum(failed NOTNULL),"
-        " sum(usable AND (coalesce(lost, 0) <> 0 OR coalesce(missing, 0) <> 0)), sum(usable AND left_out > 0)"
-        " FROM (SELECT *, malformed IS NULL AND failed IS NULL AS usable FROM capture WHERE build = ?)",
-        (name,)).fetchone()
-    if not counts[0]:
-        raise Stopped(1, f"the lab has no capture of build {name} that can be compared")
-    return Build(name, *counts)
-
-
-def refuse_mix(lab: sqlite3.Connection, builds: list[str]) -> None:
-    """Keys of two designs, and keys with and without the names of methods, are not compared."""
-    usable = f"build IN ({', '.join('?' * len(builds))}) AND malformed IS NULL AND failed IS NULL"
-    for column, what in (("prints", "keys of several designs"), ("methods > 0", "tables of methods for some captures")):
-        mixed = lab.execute(f"SELECT count(DISTINCT {column}) FROM capture WHERE {usable}", builds).fetchone()[0]
-        if mixed > 1:
-            raise Stopped(1, f"builds {' and '.join(builds)} have {what}, and those of the others differ: make their"
-                             " results anew, all alike")
-
-
-def versions_of(lab: sqlite3.Connection, builds: list[str]) -> list[str]:
-    return [version or "unknown" for version, in lab.execute(
-        f"SELECT DISTINCT version FROM capture WHERE build IN ({', '.join('?' * len(builds))}) ORDER BY 1", builds)]
-
-
-class Sides:
-    """The captures of both sides, the old ones first, and what they have."""
-
-    def __init__(self, lab: sqlite3.Connection, old: list[str], new: str):
-        self.lab, self.names = lab, {"old": json.dumps(old), "new": new}
-        self.captures = {number: Capture(*row) for number, *row in self.rows("captures.sql")}
-        self.place = {number: at for at, number in enumerate(self.captures)}
-        self.new = sum(capture.is_new for capture in self.captures.values())
-        self.refuse_side_lists_of_one()
-        self.old = len(self.captures) - self.new
-        # Without times each capture counts as long as another one, and no rate is told.
-        self.timed = all(capture.seconds for capture in self.captures.values())
-        seconds = [max(1, round(one.seconds or 0)) if self.timed else 1 for one in self.captures.values()]
-        self.seconds_old, self.seconds_new = sum(seconds[:self.old]), sum(seconds[self.old:])
-        self.orders = chance.Orders(seconds, self.new)
-        self.found = self.all_found()
-        self.met = {who for who, in self.rows("met.sql")}
-
-    def refuse_side_lists_of_one(self) -> None:
-        """Without times and names, defects have other keys and verdicts."""
-        having = {is_new: any(one.has_side for one in self.captures.values() if one.is_new == is_new)
-                  for is_new in (False, True)}
-        if having[False] != having[True]:
-            raise Stopped(1, f"only captures of the {'new' if having[True] else 'old'} side have side lists: keys and"
-                             " verdicts differ without them")
-
-    def rows(self, query: str, **more: str) -> Iterator[tuple]:
-        text = (FOLDER / "compared" / query).read_text("utf-8")
-        return self.lab.execute(text, {**self.names, **more})  # type: ignore[return-value]
-
-    def all_found(self) -> dict[tuple, list[Found]]:
-        """What each defect is found in, by its key, kind, process, path and call."""
-        found: dict[bytes, list[Found]] = {}
-        for key, *one in self.rows("found.sql"):
-            found.setdefault(key, []).append(Found(*one))
-        defects = self.lab.execute("SELECT CAST(id AS BLOB), id, kind, who, path, call FROM defect ORDER BY id")
-        return {tuple(defect): found[key] for key, *defect in defects if key in found}
-
-    def seen(self, found: list[Found], is_new: bool) -> Seen:
-        """What one side has of a defect that is found in these captures."""
-        captures = self.captures
-        own = [one for one in found if captures[one.capture].is_new == is_new]
-        real = [one for one in own if one.is_real]
-        devices, real_devices = ({captures[one.capture].device for one in some} for some in (own, real))
-        return Seen(len(own), len(real), len(devices), len(real_devices), {one.capture: one.n for one in own})
-
-    def rate(self, seen: Seen, is_new: bool) -> chance.Interval | None:
-        """Findings an hour of one side."""
-        if not self.timed:
-            return None
-        side = [(number, one.seconds or 0) for number, one in self.captures.items() if one.is_new == is_new]
-        return chance.rate_of([seen.n.get(number, 0) for number, _ in side], [seconds for _, seconds in side])
-
-    @functools.cached_property
-    def called(self) -> set[tuple[str, str]]:
-        """Who makes or gets which of the calls of the defects in the new build."""
-        calls = json.dumps(sorted({call for *_, call in self.found if call is not None}))
-        return {(who, call) for *both, call in self.rows("called.sql", calls=calls) for who in both}
-
-    def could_come(self, who: str, call: str | None) -> bool:
-        """Whether the new build could have a defect: its process is there, and makes or gets the call."""
-        return who in self.met and (call is None or (who, call) in self.called)
-
-
 class Comparison:
     """What became of the defects of `old`, one or several builds, in the build `new`."""
 
     def __init__(self, lab: sqlite3.Connection, old: list[str], new: str, enough: Enough = Enough(),
-                 known: dict[str, Known] | None = None):
+                 known: dict[str, Known] | None = None, renamed: Renamed = Renamed({})):
         if new in old:
             raise Stopped(64, f"build {new} is both old and new")
         self.order = {name: number for number, name in lab.execute("SELECT number, name FROM build")}
-        self.known = known or {}
         self.builds = [build_of(lab, name) for name in (*dict.fromkeys(old), new)]
         refuse_mix(lab, [build.name for build in self.builds])
-        self.sides, self.rate = Sides(lab, old, new), enough.rate / 100
+        self.sides, self.rate = Sides(lab, old, new, renamed), enough.rate / 100
+        self.known = self.by_newest_names(known or {})
         self.devices_before = len({one.device for one in self.sides.captures.values() if not one.is_new})
         self.devices_now = self.builds[-1].devices
         self.enough_before, self.enough_now = enough.of(self.devices_before), enough.of(self.devices_now)
         self.rows = self.tested(self.sides.found)
         self.limit = chance.limit((p for row in self.rows for p in row.tests), self.rate)
         self.whats = {row.key: self.what(row) for row in self.rows}
+        self.whats |= dict.fromkeys(self.first_seen(lab, enough.before), FIRST)
+
+    def by_newest_names(self, known: dict[str, Known]) -> dict[str, Known]:
+        """What is known, by the keys that defects have by their newest names."""
+        newest = {key: new for new, keys in self.sides.keys.items() for key in keys}
+        return {newest.get(key, key): one for key, one in known.items()}
 
     # -- tests
 
@@ -225,12 +102,12 @@ class Comparison:
         least = chance.least_order_p(self.sides.old, self.sides.new, len(found))
         return least <= self.rate and any(one.n > 1 for one in found)
 
-    def tested(self, found: dict[tuple, list[Found]]) -> list[Row]:
+    def tested(self, found: dict[tuple[str, Text], list[Found]]) -> list[Row]:
         tests = sum(self.may_tell(len(some)) + self.rate_may_tell(some) for some in found.values())
         orders = chance.orders_for(tests, self.rate)
-        return [self.row(defect, some, orders) for defect, some in found.items()]
+        return [self.row(key, text, some, orders) for (key, text), some in found.items()]
 
-    def row(self, defect: tuple, found: list[Found], orders: int) -> Row:
+    def row(self, key: str, text: Text, found: list[Found], orders: int) -> Row:
         before, now = self.sides.seen(found, False), self.sides.seen(found, True)
         p_captures = p_real = p_rate = None
         if self.may_tell(len(found)):
@@ -241,8 +118,7 @@ class Comparison:
         real = before.real + now.real
         if real < len(found) and self.may_tell(real):
             p_real = chance.fisher(before.real, self.sides.old, now.real, self.sides.new)
-        key, kind, who, path, call = defect
-        return Row(key, kind, who, path, call, before, now, p_captures, p_real, p_rate)
+        return Row(key, *text, before, now, p_captures, p_real, p_rate)
 
     def tells(self, p: float | None) -> bool:
         """Whether a test tells a difference."""
@@ -261,10 +137,7 @@ class Comparison:
 
     def state(self, key: str) -> str | None:
         """What is known of a defect."""
-        if key not in self.known:
-            return None
-        until = self.known[key].until
-        return "known" if until is None else f"known until {until}"
+        return str(self.known[key]) if key in self.known else None
 
     def what(self, row: Row) -> str:
         before, now = row.before, row.now
@@ -282,26 +155,59 @@ class Comparison:
             return NEW
         if self.is_worse(row):
             return WORSE
-        return GROWN if self.has_grown(row) else SAME
+        return GROWN if self.growth(row) > 1 else SAME
 
     def is_worse(self, row: Row) -> bool:
-        """Whether it is `real` on enough devices, and was not, and is so in more captures than chance makes."""
-        if row.before.real_devices >= self.enough_before or row.now.real_devices < self.enough_now:
-            return False
-        p = row.p_captures if row.p_real is None and not row.before.real else row.p_real
-        return row.before.real < row.before.captures and self.tells(p)
-
-    def has_grown(self, row: Row) -> bool:
-        """Whether more captures have it than chance makes, or captures have more findings an hour."""
+        """Whether it is `real` on enough devices, and was not, in more captures than chance makes. Where all captures
+        that have it have it as `real`, or too few for a test of their own, the test of captures is that of `real`."""
         before, now = row.before, row.now
-        more_captures = now.captures * self.sides.old > before.captures * self.sides.new
-        more_findings = sum(now.n.values()) * self.sides.seconds_old > sum(before.n.values()) * self.sides.seconds_new
-        return more_captures and self.tells(row.p_captures) or more_findings and self.tells(row.p_rate)
+        if before.real_devices >= self.enough_before or now.real_devices < self.enough_now:
+            return False
+        if row.p_real is None:
+            return self.is_more(before.captures, now.captures) and self.tells(row.p_captures)
+        return self.is_more(before.real, now.real) and self.tells(row.p_real)
+
+    def is_more(self, before: int, now: int) -> bool:
+        """Whether so many captures are a larger share of the new ones than so many are of the old ones."""
+        return now * self.sides.old > before * self.sides.new
+
+    def growth(self, row: Row) -> float:
+        """How many times as many of the captures have it, or how many times as many findings an hour there are, if that
+        is more than chance; 1 if neither is."""
+        before, now = row.before, row.now
+        grown = [1.0]
+        if self.tells(row.p_captures):
+            grown.append(now.captures * self.sides.old / (before.captures * self.sides.new))
+        if self.tells(row.p_rate):
+            findings = sum(before.n.values()) * self.sides.seconds_new
+            grown.append(sum(now.n.values()) * self.sides.seconds_old / findings if findings else math.inf)
+        return max(grown)
+
+    def first_seen(self, lab: sqlite3.Connection, before: int) -> Iterator[str]:
+        """What is `real` in the new build, not told as more than chance, and in no capture of so many builds before."""
+        rows = [row for row in self.rows if self.whats[row.key] == SAME and row.now.real and not row.before.captures]
+        there = seen_in(lab, (key for row in rows for key in self.sides.all_keys(row.key)),
+                        builds_before(self.order, self.builds[-1].name, before))
+        return (row.key for row in rows if there.isdisjoint(self.sides.all_keys(row.key)))
+
+    def shown_by(self, row: Row) -> Best:
+        """The capture of the new build that shows a defect best."""
+        return best_capture(self.sides.lab, self.sides.all_keys(row.key), self.builds[-1].name)
 
     def of(self, what: str) -> list[Row]:
-        """The defects that became this, the least likely by chance first."""
-        return sorted((row for row in self.rows if self.whats[row.key] == what),
-                      key=lambda row: (row.p, -max(row.now.devices, row.before.devices), row.kind, row.who, row.path))
+        """The defects that became this: what is first seen by how urgent it is, all else that is least likely by chance
+        first."""
+        return sorted((row for row in self.rows if self.whats[row.key] == what), key=lambda row: (
+            (urgency(row.kind), -row.now.real) if what == FIRST else (row.p,),
+            -max(row.now.devices, row.before.devices), row.kind, row.who, row.path))
+
+    def by_reason(self, failed: list[str]) -> dict[str, list[str]]:
+        """Keys that fail, by what is said of them."""
+        reasons = {GROWN: GROWN, FIRST: "first seen"}
+        found: dict[str, list[str]] = {}
+        for key in failed:
+            found.setdefault(reasons.get(self.whats[key], "new, worse or back"), []).append(key)
+        return found
 
     # -- lines
 
@@ -315,36 +221,38 @@ class Comparison:
             f"{row.p:.2g}", self.state(row.key), row.key))) + "\n"
 
     def counts(self) -> dict[str, int]:
-        return {what: len(self.of(what)) for what in (*SHOWN, SAME, NOT_MET)}
+        return {what: len(self.of(what)) for what in (*TOLD, SAME, NOT_MET)}
 
     def lines(self, also_same: bool) -> Iterator[str]:
-        for what in (*SHOWN, *((SAME, NOT_MET) if also_same else ())):
+        for what in (*TOLD, *((SAME, NOT_MET) if also_same else ())):
             yield from (self.line(what, row) for row in self.of(what))
         yield ", ".join(f"{count} {what}" for what, count in self.counts().items()) + "\n"
         yield from (f"{build}\n" for build in self.builds)
 
-    def doubts(self) -> Iterator[str]:
-        """Why less may be told than there is, or more."""
-        old, new = self.sides.old, self.sides.new
-        for until in dict.fromkeys(one.until for one in self.known.values()):
-            if until is not None and until not in self.order:
-                yield f"the lab has no build {until}: what is known until then is taken as known"
-        if chance.fisher(0, old, new, new) > self.rate:
-            yield (f"{counted(old + new, 'capture')} are too few to tell any difference from chance; --rate 100 tells"
-                   " all there are")
-        if without := sum(not one.has_side for one in self.sides.captures.values()) % (old + new):
-            yield f"{counted(without, 'capture')} without a side list, whose keys and verdicts may differ"
-        if self.sides.timed:
-            lengths = self.sides.seconds_old / old, self.sides.seconds_new / new
-            if max(lengths) > 2 * min(lengths):
-                yield (f"captures are {lengths[0]:.0f} s long in the old builds and {lengths[1]:.0f} s in"
-                       f" {self.builds[-1].name}: the longer ones have a defect more often")
+    def unseen_lines(self) -> Iterator[str]:
+        """A line for each known defect that the new build does not have."""
+        return unseen_lines({key: one.comment for key, one in self.known.items()},
+                            {row.key for row in self.rows if row.now.captures})
 
-    def failed(self, fail_on: str) -> list[str]:
-        """The keys of what is new, worse or back, and as strong as that, and not known."""
+    @property
+    def tests(self) -> int:
+        return sum(len(row.tests) for row in self.rows)
+
+    def powers(self) -> list[Power]:
+        """What the captures tell of a new defect in a part of the runs, if no other difference is told. Nothing, if
+        each difference is told, or none."""
+        if not 0 < self.rate < 1:
+            return []
+        return power.powers(self.sides.old, self.sides.new, self.rate / max(1, self.tests))
+
+    def failed(self, fail_on: FailOn = FailOn()) -> list[str]:
+        """The keys of what is not known, and is new, worse or back, and as strong as that; or has grown so much; or is
+        first seen, if that fails."""
         rows = [row for what in (NEW, WORSE, BACK) for row in self.of(what)]
-        return [row.key for row in rows if not self.holds(row.key)
-                and (fail_on == "maybe" or row.now.real_devices >= self.enough_now)]
+        if fail_on.growth is not None:
+            rows += [row for row in self.of(GROWN) if self.growth(row) >= fail_on.growth]
+        rows = [row for row in rows if fail_on.verdict == "maybe" or row.now.real_devices >= self.enough_now]
+        return [row.key for row in rows + self.of(FIRST) * fail_on.is_first if not self.holds(row.key)]
 
 
 def rate_text(rate: chance.Interval | None) -> str:

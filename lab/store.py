@@ -103,7 +103,7 @@ def open_lab(path: str, may_make: bool = False) -> sqlite3.Connection:
                 refuse_other(lab, path)
             if may_make:
                 make(lab)
-            lab.execute((FOLDER / "builds.sql").read_text("utf-8"))
+            lab.executescript((FOLDER / "builds.sql").read_text("utf-8"))
             closed_if_refused.pop_all()
     except (sqlite3.Error, UnicodeError) as error:
         raise Stopped(4, f"{path}: {error}") from error

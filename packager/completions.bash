@@ -29,12 +29,12 @@ _binder_fleet() { # COMMAND WORD BEFORE
   COMPREPLY=()
   case $COMP_CWORD,$3 in
     1,*) _binder_audit_words "$2" 'one load compare ask page each --help --version' ;;
-    *,--fail-on) _binder_audit_words "$2" 'real maybe' ;;
-    *,--build | *,--device | *,--seconds | *,--rate | *,--share | *,--least) ;;
+    *,--fail-on) _binder_audit_words "$2" 'real maybe grown first' ;;
+    *,--build | *,--device | *,--seconds | *,--rate | *,--share | *,--least | *,--before | *,--usable) ;;
     *,ask) _binder_audit_files ;;
     *)
-      _binder_audit_options "$2" '--side --methods --build --device -o --seconds --rate --share --least --fail-on
-        --known --all --json --junit --sarif'
+      _binder_audit_options "$2" '--side --methods --build --device -o --seconds --rate --share --least --before
+        --fail-on --usable --known --renamed --order --all --json --junit --sarif'
       ;;
   esac
 }

@@ -30,8 +30,12 @@ case $service in
       '--rate[how many of a hundred told ones may be chance]:rate:' \
       '--share[enough devices of a hundred]:share:' \
       '--least[and at least so many]:devices:' \
-      '--fail-on[weakest verdict that fails]:verdict:(real maybe)' \
+      '--before[in how many builds before the first seen ones are not]:builds:' \
+      '*--fail-on[weakest verdict that fails, or what else does]:what:(real maybe grown first)' \
+      '--usable[how many captures of a hundred must count]:captures of 100:' \
       '--known[defects that are known]:file:_files' \
+      '--renamed[names that changed]:file:_files' \
+      '--order[order of the builds]:file:_files' \
       '--all[also what is the same]' \
       '--json[a comparison in JSON]' \
       '--junit[file for a comparison as JUnit writes it]:file:_files' \

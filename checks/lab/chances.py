@@ -1,23 +1,34 @@
-"""Whether what `fleet compare` tells is more than chance: the tests on numbers that others have worked out, and labs of
-results that are made up from fixed seeds. Two sets of captures of one build have no line; each planted change has its
-line, also those of `known` defects that come back."""
+"""Checks what `fleet compare` tells, on labs of results that are made up from fixed seeds; no proved program is needed.
 
+    checks/run chances [-- CASE..]
+
+What must hold:
+
+- The tests, the limit and the intervals give what others worked out.
+- What is told is more than chance: two sets of captures of one build have no line, and each planted change has its
+  line, also those of `known` defects that come back. The reports for other programs say the same.
+- What can't be told is said, and what should fail fails (blind_spots.py).
+"""
+
+import argparse
 import json
 import math
 import pathlib
-import random
-from collections.abc import Iterator
 from contextlib import closing
 from itertools import combinations
-from typing import NamedTuple
 from xml.etree import ElementTree
 
-from checks.kit.checking import Fail, compare
+from checks.kit.cases import parts_of, play
+from checks.kit.checking import Fail, check, compare
+from checks.kit.programs import ROOT
+from checks.lab.blind_spots import BLIND_SPOTS
+from checks.lab.models import ALIKE, PLANTED, SESSIONS, made
 from lab import chance, reports
 from lab.compare import Comparison
+from lab.doubts import doubts
+from lab.fail_on import FailOn
 from lab.known_until import Known
-from lab.store import open_lab, put
-from viewer.units import defect_key
+from lab.store import open_lab
 
 # p by R's fisher.test: of the tea, of convictions of twins, and of tables of the handbook.
 FISHER = {(3, 4, 1, 4): 0.4857142857, (2, 12, 15, 18): 0.0005367241, (0, 5, 5, 5): 0.007936507937,
@@ -30,8 +41,6 @@ WILSON = {(0, 10): (0.0, 0.2775), (5, 10): (0.2366, 0.7634), (3, 50): (0.0206, 0
 # Findings, and the ends of the exact interval of a Poisson count, from which Byar's differs by less than a twentieth.
 POISSON = {0: (0.0, 3.689), 3: (0.6187, 8.767), 10: (4.795, 18.39), 100: (81.36, 121.6)}
 
-BUILDS, DEVICES, SESSIONS, SECONDS = ("a1", "a2", "b1", "b3"), 20, 50, 420.0
-
 
 # ---- the tests
 
@@ -43,7 +52,7 @@ def exact_p(old: list[int], new: list[int]) -> float:
     return sum(abs(sum(way) * len(both) - sum(both) * len(new)) >= seen for way in ways) / len(ways)
 
 
-def check_tests(fail: Fail) -> None:
+def check_tests(_: pathlib.Path, __: pathlib.Path, fail: Fail) -> None:
     for table, due in FISHER.items():
         compare(f"Fisher's test of {table}", math.isclose(chance.fisher(*table), due, rel_tol=1e-4), True, fail)
     compare("the least p", [chance.least_p(5, 5, 5), chance.least_p(4, 6, 1), chance.least_p(5, 5, 10),
@@ -79,64 +88,6 @@ def check_tests(fail: Fail) -> None:
 # ---- labs
 
 
-class Model(NamedTuple):
-    """A defect: in which share of the captures it is, how many findings it has there on average, and the share of the
-    captures that have it in which it is `real`."""
-    name: str
-    share: float
-    n: float
-    real: float = 0.0
-
-
-# Those that are alike in all builds: many rare ones, some that all captures have, some in clumps.
-ALIKE = [*(Model(f"rare{number}", 0.02 + number % 6 * 0.02, 1.2) for number in range(110)),
-         *(Model(f"often{number}", 0.3 + number % 5 * 0.1, 2 + number % 4) for number in range(25)),
-         *(Model(f"always{number}", 1.0, 3 + number, 0.5) for number in range(10)),
-         *(Model(f"clump{number}", 0.2, 40) for number in range(5))]
-
-# The planted ones, by build. In b1 one grows by half, and in b3 by three.
-PLANTED = {build: (Model("new", 0.0 if build < "b" else 0.5, 1.5, 0.8), Model("gone", 0.5 if build < "b" else 0.0, 1.5),
-                   Model("worse", 0.7, 2, 0.0 if build < "b" else 0.7),
-                   Model("grown", 1.0, {"b1": 2.5, "b3": 5.0}.get(build, 1.65))) for build in BUILDS}
-
-
-def drawn(random_: random.Random, mean: float) -> int:
-    """A Poisson count."""
-    count, left = 0, math.exp(-mean)
-    product = random_.random()
-    while product > left:
-        count, product = count + 1, product * random_.random()
-    return count
-
-
-def found_in(random_: random.Random, models: list[Model]) -> Iterator[dict]:
-    for model in models:
-        mean = random_.choice((1, 5, 2 * model.n)) if model.name.startswith("clump") else model.n
-        if random_.random() < model.share and (n := drawn(random_, mean)):
-            who, path = f"{model.name} on binder", "code 1 of it"
-            yield {"key": defect_key("kept", who, path), "kind": "kept", "who": who, "path": path, "n": n,
-                   "verdict": "real" if random_.random() < model.real else "maybe"}
-
-
-def results(seed: int, build: str, models: list[Model], sessions: int = SESSIONS) -> Iterator[dict]:
-    """Results of sessions of a build on the devices in turn. Each defect could come in each."""
-    random_ = random.Random(f"{seed} {build}")
-    for number in range(sessions):
-        capture = {"digest": f"{random_.getrandbits(128):032x}", "build": build, "device": f"d{number % DEVICES}",
-                   "made": 1.0, "left_out": 0, "seconds": SECONDS * random_.uniform(0.8, 1.2), "side": 1, "prints": 1}
-        yield {"capture": capture, "found": list(found_in(random_, models)), "talk": [],
-               "held": [{"process": f"{model.name} on binder"} for model in models]}
-
-
-def made(path: pathlib.Path, seed: int, builds: dict[str, list[Model]]) -> None:
-    with closing(open_lab(str(path), may_make=True)) as lab:
-        lab.execute("BEGIN")
-        for build, models in builds.items():
-            for result in results(seed, build, models):
-                put(lab, result)
-        lab.execute("COMMIT")
-
-
 def told(path: pathlib.Path, *builds: str) -> dict[str, list[str]]:
     """Whose defects have lines, by what they became."""
     with closing(open_lab(str(path))) as lab:
@@ -150,7 +101,7 @@ def told(path: pathlib.Path, *builds: str) -> dict[str, list[str]]:
 PAIRS, MAY_BE_FALSE = 2, 0
 
 
-def check_quiet(room: pathlib.Path, fail: Fail) -> None:
+def check_quiet(_: pathlib.Path, room: pathlib.Path, fail: Fail) -> None:
     """Two sets of captures of one build."""
     false = []
     for seed in range(PAIRS):
@@ -166,10 +117,14 @@ def check_quiet(room: pathlib.Path, fail: Fail) -> None:
 SEED = 7
 
 
-def check_planted(room: pathlib.Path, fail: Fail) -> None:
+def planted_in(room: pathlib.Path) -> pathlib.Path:
+    made(room / "planted.db", SEED, {build: [*ALIKE, *models] for build, models in PLANTED.items()})
+    return room / "planted.db"
+
+
+def check_planted(_: pathlib.Path, room: pathlib.Path, fail: Fail) -> None:
     """Each planted change has its line, and nothing else has."""
-    path = room / "planted.db"
-    made(path, SEED, {build: [*ALIKE, *models] for build, models in PLANTED.items()})
+    path = planted_in(room)
     sure = {"new": ["new"], "worse": ["worse"], "gone": ["gone"]}
     due = {("a1", "a2"): {}, ("a2", "a1"): {}, ("a1", "b1"): sure, ("a1", "a2", "b1"): {**sure, "grown": ["grown"]},
            ("a1", "b3"): {**sure, "grown": ["grown"]}, ("b1", "b3"): {"grown": ["grown"]}}
@@ -177,10 +132,9 @@ def check_planted(room: pathlib.Path, fail: Fail) -> None:
         compare(f"planted, {' '.join(builds)}", told(path, *builds), changes, fail)
 
 
-def check_known(room: pathlib.Path, fail: Fail) -> None:
+def check_known(_: pathlib.Path, room: pathlib.Path, fail: Fail) -> None:
     """A known defect does not fail, and is marked; one that was known until an earlier build is back, and fails."""
-    path = room / "planted.db"
-    with closing(open_lab(str(path))) as lab:
+    with closing(open_lab(str(planted_in(room)))) as lab:
         keys = {row.who.split()[0]: row.key for row in Comparison(lab, ["a1"], "b1").rows}
         for until, status, state in ((None, "new", "known"), ("b1", "new", "known until b1"),
                                      ("b9", "new", "known until b9"), ("a2", "back", "known until a2")):
@@ -188,18 +142,20 @@ def check_known(room: pathlib.Path, fail: Fail) -> None:
             compared = Comparison(lab, ["a1"], "b1", known=known)
             lines = [line.split("\t") for line in compared.lines(False) if keys["new"] in line]
             compare(f"known until {until}: line, what fails",
-                    ([(line[0], line[-2]) for line in lines], compared.failed("maybe")),
+                    ([(line[0], line[-2]) for line in lines], compared.failed()),
                     ([(status, state)], [keys["new"]] if status == "back" else []), fail)
-            compare(f"known until {until}: doubts", len(list(compared.doubts())), int(until == "b9"), fail)
+            compare(f"known until {until}: doubts", [doubt for doubt in doubts(compared) if "no build" in doubt],
+                    ["the lab has no build b9: what is known until then is taken as known"] * (until == "b9"), fail)
 
 
-def check_reports(room: pathlib.Path, fail: Fail) -> None:
+def check_reports(_: pathlib.Path, room: pathlib.Path, fail: Fail) -> None:
     """The reports for other programs say what the lines say."""
-    with closing(open_lab(str(room / "planted.db"))) as lab:
+    with closing(open_lab(str(planted_in(room)))) as lab:
         keys = {row.who.split()[0]: row.key for row in Comparison(lab, ["a1", "a2"], "b1").rows}
         compared = Comparison(lab, ["a1", "a2"], "b1", known={keys["worse"]: Known(None, "why")})
-        sarif = json.loads(reports.as_sarif(lab, compared))["runs"][0]["results"]
-    told = json.loads(reports.as_json(compared, False, "maybe"))
+        told = json.loads(reports.as_json(compared, False, FailOn()))
+        cases = list(ElementTree.fromstring(reports.as_junit(compared, FailOn())).iter("testcase"))
+        sarif = json.loads(reports.as_sarif(compared, FailOn()))["runs"][0]["results"]
     found = {one["who"].split()[0]: (one["what"], one["fails"], one["known"] and one["known"]["comment"])
              for one in told["defects"]}
     compare("JSON", (found, told["counts"]["new"]), (
@@ -208,7 +164,6 @@ def check_reports(room: pathlib.Path, fail: Fail) -> None:
     new = next(one for one in told["defects"] if one["what"] == "new")
     compare("JSON: shares", (new["before"]["share"]["value"], new["now"]["share"]["low"] > 0.2,
                              new["now"]["of_captures"]), (0.0, True, SESSIONS), fail)
-    cases = list(ElementTree.fromstring(reports.as_junit(compared, "maybe")).iter("testcase"))
     states = {name: [case.get("classname", "").split()[0] for case in cases if case.find(name) is not None]
               for name in ("failure", "skipped", "system-out")}
     compare("JUnit", (len(cases), {name: sorted(who) for name, who in states.items()}), (
@@ -218,10 +173,12 @@ def check_reports(room: pathlib.Path, fail: Fail) -> None:
             sorted([("error", keys["new"], 0, "b1/d"), ("error", keys["worse"], 1, "b1/d")]), fail)
 
 
-def check_chances(room: pathlib.Path, fail: Fail) -> None:
-    room.mkdir()
-    check_tests(fail)
-    check_quiet(room, fail)
-    check_planted(room, fail)
-    check_known(room, fail)
-    check_reports(room, fail)
+CASES = [*parts_of(check_tests, check_quiet, check_planted, check_known, check_reports), *parts_of(*BLIND_SPOTS)]
+
+
+def judge(given: argparse.Namespace, room: pathlib.Path, fail: Fail) -> None:
+    play((part for part in CASES if part.name in given.cases), ROOT, room, fail)
+
+
+if __name__ == "__main__":
+    check(judge, lambda: [part.name for part in CASES])

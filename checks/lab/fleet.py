@@ -27,8 +27,6 @@ What must hold:
   not depend on the order.
 - The fault is the only new line of that build, and the only one that is gone in the build in which it is mended.
   Another one grows. Malformed and failed captures are told apart, and count for nothing.
-- What is told is more than chance: the tests give what others worked out, two sets of captures of one build have no
-  line, and each planted change has its line.
 - Keys of two designs, with and without tables of methods, and with side lists on one side alone, are refused.
 - Of results that are none each has a line that says why, and the others are loaded. Mutated ones are loaded whole or
   have such a line, and nothing in them moves a terminal.
@@ -61,7 +59,6 @@ from typing import Iterator
 from checks.kit.checking import FLAG, Fail, check, compare
 from checks.kit.programs import DRIVER, built_programs
 from checks.kit.runs import answer
-from checks.lab.chances import check_chances
 from checks.lab.full_disk import check_full_disk
 from checks.lab.keys import CUT, check_keys_of_cut, print_keys_of_two
 from checks.lab.lab_page import check_browser, check_commands, check_page, check_page_of_strangers
@@ -72,6 +69,7 @@ from checks.lab.nodes import check_by_make, check_by_slurm
 from checks.lab.tried_again import check_tried_again
 from checks.lab.words import check_words
 from lab import result
+from lab.first_seen import FIRST
 from lab.form import unfolded
 from lab.store import open_lab
 from viewer.units import defect_key
@@ -260,10 +258,10 @@ def load_by_four(folder: pathlib.Path, room: pathlib.Path, count: int, fail: Fai
 
 
 def changes_of(lines: str) -> dict[str, list[str]]:
-    """Who has what is new, gone and so on, without what is the same."""
+    """Who has what is new, gone and so on, without what is the same, or only first seen."""
     found: dict[str, list[str]] = {}
     for line in lines.splitlines():
-        if len(fields := line.split("\t")) > 3:
+        if len(fields := line.split("\t")) > 5 and fields[0] != FIRST:
             found.setdefault(fields[0], []).append(fields[3].partition(".")[0])
     return {what: sorted(set(who)) for what, who in found.items()}
 
@@ -486,7 +484,6 @@ def judge(given: argparse.Namespace, room: pathlib.Path, fail: Fail) -> None:
             check_tried_again(folder, room / "tried-again", fail)
             check_full_disk(folder, room / "full", False, fail)
             check_keys_of_cut(folder, room, CUT, fail)
-            check_chances(room / "chances", fail)
             check_page(room / "page", fail)
         check_lab(folder, room, given.results or 200, bool(given.results), fail)
 

@@ -9,7 +9,7 @@ from contextlib import closing
 from html.parser import HTMLParser
 
 from checks.kit.checking import Fail, compare
-from checks.lab.chances import ALIKE, PLANTED, Model, made
+from checks.lab.models import ALIKE, PLANTED, Model, made
 from checks.lab.played import played
 from checks.viewer.page.browser import chromium, with_probe
 from lab.compare import Enough

@@ -14,6 +14,7 @@ from checks.kit.checking import Fail, compare, row
 from checks.kit.runs import answer
 from checks.kit.tokens import marked
 from checks.viewer.sessions.session import Session
+from lab.first_seen import FIRST
 
 BUILDS, DEVICES = ("a1", "a2", "b1", "b3"), 20
 SERVERS = ("surfaceflinger", "audioserver", "system_server", "mediaserver")
@@ -73,10 +74,10 @@ def make_captures(lab: pathlib.Path, count: int) -> None:
 
 
 def told_by(lines: str) -> Counter:
-    """Which changes are told: what became of the fault of which code of which server."""
+    """Which changes are told as more than chance: what became of the fault of which code of which server."""
     told: Counter = Counter()
     for line in lines.splitlines():
-        if len(fields := line.split("\t")) > 5:
+        if len(fields := line.split("\t")) > 5 and fields[0] != FIRST:
             path = fields[4].removeprefix("reply to android.I").replace(" code ", " ").partition(" of ")[0]
             told[f"{fields[0]} {path}"] += 1
     return told

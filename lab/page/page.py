@@ -10,10 +10,12 @@ import sqlite3
 from collections.abc import Iterator
 
 from lab import chance
+from lab.commands import folder_of
 from lab.compare import Enough
 from lab.known_until import Known
-from lab.page.builds import REFUSED, folder_of
+from lab.page.builds import REFUSED
 from lab.page.defects import BEFORE, NAMED, Lab, picture_of
+from lab.renamed import Renamed
 from viewer.files import Stopped, for_owner, whole_file, word_of
 from viewer.page import page as of_capture
 from viewer.page.texts import title_of
@@ -41,10 +43,11 @@ def small(p: float | None) -> str | None:
 FILTERS = {**of_capture.FILTERS, "of_hundred": of_hundred, "interval": interval, "small": small, "picture": picture_of}
 
 
-def document(lab: sqlite3.Connection, path: str, enough: Enough, known: dict[str, Known]) -> Iterator[str]:
+def document(lab: sqlite3.Connection, path: str, enough: Enough, known: dict[str, Known], renamed: Renamed
+             ) -> Iterator[str]:
     """The whole page, piece by piece."""
     import jinja2  # here, since all but pages is made without it
-    shown = Lab(lab, folder_of(path), enough, known)
+    shown = Lab(lab, folder_of(path), enough, known, renamed)
     engine = jinja2.Environment(loader=jinja2.FileSystemLoader([TEMPLATES, of_capture.FOLDER / "templates"]),
                                 autoescape=True, undefined=jinja2.StrictUndefined, trim_blocks=True, lstrip_blocks=True,
                                 finalize=lambda value: "" if value is None else value)
@@ -56,7 +59,7 @@ def document(lab: sqlite3.Connection, path: str, enough: Enough, known: dict[str
     digest = base64.b64encode(hashlib.sha256(script.encode()).digest()).decode()
     return engine.get_template("lab.html").generate(
         title=title_of(name_of(path)), style=style, script=script, digest=digest, lab=shown, before=BEFORE, most=NAMED,
-        refused=lab.execute(REFUSED).fetchall(), rate=enough.rate)
+        first=enough.before, refused=lab.execute(REFUSED).fetchall(), rate=enough.rate)
 
 
 def name_of(path: str) -> str:
@@ -73,11 +76,12 @@ def is_page_of(path: str, page: pathlib.Path) -> bool:
     return begun is not None and html.unescape(begun[1]) == title_of(name_of(path))
 
 
-def write(lab: sqlite3.Connection, path: str, to: pathlib.Path, enough: Enough, known: dict[str, Known]) -> None:
+def write(lab: sqlite3.Connection, path: str, to: pathlib.Path, enough: Enough, known: dict[str, Known],
+          renamed: Renamed = Renamed({})) -> None:
     """Writes the page of the lab at `path`, for its owner only, in place of an earlier one and of no other file."""
     of_capture.refuse_no_engine()
     if os.path.lexists(to) and not is_page_of(path, to):
         raise Stopped(1, f"{to} exists already, and is no page of {name_of(path)}: name another file by -o")
     with whole_file(to, lambda: is_page_of(path, to)) as made:
         with open(made, "x", encoding="utf-8", errors="replace", opener=for_owner) as out:
-            out.writelines(document(lab, path, enough, known))
+            out.writelines(document(lab, path, enough, known, renamed))
