@@ -1,6 +1,7 @@
 #!/bin/sh
 # Writes what the programs are made of, as all of them do for `--version`: of a package what ./package wrote into it, of
-# the repository the commit, and whether a file was changed since.
+# the repository the commit, and whether a file was changed since; and of each proved program its sum, by which it was
+# noted when it was proved, and the prover's last line on it.
 here=$(readlink -f -- "$0")
 root=${here%/*/*}
 if [ -e "$root/version" ]; then exec cat -- "$root/version"; fi
@@ -15,3 +16,11 @@ elif [ -n "$(git -C "$root" status --porcelain)" ]; then
   commit="$commit and changes that are not in it"
 fi
 printf 'binder-audit in a repository, and in no package\ncommit %s\n' "$commit"
+for name in binder_audit binder_listing binder_tables; do
+  if "$root/crates/run" --are-proved "$name" 2>/dev/null; then
+    sed -n "s/^program /$name: sha256 /p; s/^sources /  proved from sources of the sum /p; s/^verdict /  /p" \
+      "$root/crates/$name/out/$name.noted"
+  else
+    printf '%s: not built from these sources\n' "$name"
+  fi
+done

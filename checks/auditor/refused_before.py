@@ -1,7 +1,7 @@
 """The stacks of wrong bodies that earlier runs saw refused, each by a sum of all that its check reads.
 
-They are kept in the folder of what crates/build keeps, `refused`, for all repositories of this user: a file for each
-stack, of the lines that say at which goals its edits were refused, and of the edits that were then tried alone.
+They are kept in the cache of crates/build, in `refused`, for all clones of this user: a file for each stack, of the
+lines that say at which goals its edits were refused, and of the edits that were then tried alone.
 """
 
 import hashlib
@@ -12,8 +12,9 @@ from typing import NamedTuple
 
 from checks.kit.programs import ROOT
 from checks.kit.proving import BUILD
+from crates.kept import CACHE
 
-FOLDER = BUILD.CACHE / "refused"
+FOLDER = CACHE / "refused"
 # How many days a file is kept that no run asks for.
 MOST_DAYS = 60
 # The code that says what a check of a stack has shown.

@@ -2,7 +2,6 @@
 
 import os
 import pathlib
-from typing import Iterator
 
 from viewer.files import Stopped
 from viewer.program_names import BEHIND, LIBRARY, PACKED, called
@@ -12,50 +11,21 @@ from viewer.started import Started, other
 LARGE_PAGES = {"GLIBC_TUNABLES": "glibc.malloc.hugetlb=1"}
 
 
-# The endings and folders of their sources.
-ENDINGS, FOLDERS, OTHERS = (".rt", ".antt"), ("src", "specs", "proofs"), ("out", "must-fail")
-
-
-def crates_of(root: pathlib.Path) -> set[str]:
-    """The crates that the programs are made of. In crates.txt a crate comes after the crates that it uses."""
-    below = set(BEHIND.values())
-    for line in reversed((root / "crates.txt").read_text("utf-8").splitlines()):
-        name, _, others = line.partition(":")
-        if name in below:
-            below.update(others.split())
-    return {name for name in below if (root / "crates" / name).is_dir()}
-
-
-def times_in(folder: str, is_of_sources: bool = False) -> Iterator[int]:
-    """When the sources in a folder were changed, and the folders of sources: only they show that a file is gone."""
-    with os.scandir(folder) as entries:
-        for entry in entries:
-            if entry.is_dir(follow_symlinks=False):
-                if entry.name not in OTHERS:
-                    of = is_of_sources or entry.name.startswith(FOLDERS)
-                    if of:
-                        yield entry.stat(follow_symlinks=False).st_mtime_ns
-                    yield from times_in(entry.path, of)
-            elif entry.name.endswith(ENDINGS):
-                yield entry.stat(follow_symlinks=False).st_mtime_ns
-
-
-def are_fresh(root: pathlib.Path) -> bool:
-    """Whether the programs are there, and no source is newer. crates/run finds that by several programs, which takes
-    longer than to read a small capture."""
+def are_as_proved(root: pathlib.Path) -> bool:
+    """Whether the programs and their sources are as they were when the programs were proved. crates/run finds that by
+    several programs, which takes longer than to read a small capture."""
+    from crates.stamps import Stamps
     try:
-        made = [(root / "crates" / name / "out" / name).stat() for name in BEHIND.values()]
-        oldest = min(it.st_mtime_ns for it in made)
-        return (all(it.st_mode & 0o100 for it in made) and (root / "crates.txt").stat().st_mtime_ns <= oldest
-                and all(time <= oldest for name in crates_of(root) for time in times_in(str(root / "crates" / name))))
+        stamps = Stamps(root)
     except OSError:
         return False
+    return all(stamps.is_as_it_was(name) for name in BEHIND.values())
 
 
 def build_programs(root: pathlib.Path) -> None:
-    """Builds the auditor, and the program of the listing for tables, if they are missing or older than a source: in one
-    go, since they share most crates. A package has them."""
-    if PACKED or are_fresh(root):
+    """Builds the auditor, and the program of the listing for tables, if they are missing or are not those that were
+    proved from the sources: in one go, since they share most crates. A package has them."""
+    if PACKED or are_as_proved(root):
         return
     import subprocess
     try:

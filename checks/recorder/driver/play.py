@@ -16,7 +16,6 @@ import re
 import shutil
 import subprocess
 import sys
-import tempfile
 from typing import Iterator, Sequence
 
 from checks.kit.checking import FLAG
@@ -102,32 +101,6 @@ def recorder_of(given: argparse.Namespace, machine: Machine) -> Files:
         return {"record": folder / "record",
                 **{f"lib/{path.name}": path for path in linked_libraries(folder / "record")}}
     return {"record": given.recorder if given.recorder and machine is X86_64 else recorder_for(machine, given.room)}
-
-
-def take_programs(checkout: pathlib.Path) -> None:
-    """Those of another checkout are those of the sources here if it has the same ones, and none of them is newer than a
-    program. A program is dated to before that was looked at, so that an edit since is newer."""
-    sources = ("find crates.txt crates ( -name out -o -name must-fail ) -prune -o ( -name crates.txt -o -name *.rt -o"
-               " -name *.antt -o -type d -path */src* -o -type d -path */specs* -o -type d -path */proofs* )").split()
-
-    def sums(root: pathlib.Path) -> str:
-        files = run(*sources, "-type", "f", "-print", cwd=root).split()
-        return run("sha256sum", *sorted(files), cwd=root)
-    with tempfile.NamedTemporaryFile() as began:
-        if sums(checkout) != sums(ROOT):
-            stop(f"{checkout} has other sources")
-        for name in PROVED:
-            built, to = (root / "crates" / name / "out" / name for root in (checkout, ROOT))
-            if not os.access(built, os.X_OK):
-                stop(f"{built} is missing")
-            if run(*sources, "-newer", built, "-print", cwd=checkout):
-                stop(f"{built} is older than a source")
-            to.parent.mkdir(parents=True, exist_ok=True)
-            taken = to.with_name(f"{name}.taken")
-            shutil.copy(built, taken)
-            shutil.copystat(began.name, taken)
-            taken.chmod(0o755)
-            taken.rename(to)
 
 
 # ---- what is refused before a kernel is needed
@@ -256,8 +229,6 @@ def judge(given: argparse.Namespace) -> list[str]:
     given.series = ["rust"] if given.rust else given.kernel or list(SERIES)
     if given.blind:
         return blind.play(given, Play(given, X86_64))
-    if given.built:
-        take_programs(given.built.resolve())
     if subprocess.run([ROOT / "crates/run", "checks/driver", *PROVED]).returncode:
         stop("./audit and ./listing were not built")
     wrong = [] if given.arm64_alone or given.arm64_whole else play_all_series(given)
@@ -271,8 +242,6 @@ def judge(given: argparse.Namespace) -> list[str]:
 OPTIONS = {
     "recorder": {"type": pathlib.Path, "metavar": "FILE", "help": "a recorder that is already built"},
     "auditor": {"type": pathlib.Path, "metavar": "FILE", "default": AUDITOR, "help": "a built auditor for the reports"},
-    "built": {"type": pathlib.Path, "metavar": "CHECKOUT",
-              "help": "takes ./audit and ./listing as another checkout has built them from the same sources"},
     "kernel": {**NAMES, "metavar": "SERIES",
                "help": "only 5.10, 6.1, 6.12 or newest, which is Debian sid's; may be given several times"},
     "rust": {**FLAG, "help": "only a kernel with the driver in Rust; it is built if there is none: rust_kernel.sh"},
