@@ -20,7 +20,8 @@ from checks.recorder.guest.kernels import kernel_of
 from checks.recorder.guest.kept import say
 from checks.recorder.guest.machines import OWN_TIME, X86_64
 from checks.recorder.guest.packages import Missing
-from checks.recorder.guest.plans import RAW, SCENARIOS, accelerated, compiled, plan_of, plan_text
+from checks.recorder.guest.plans import (
+    CONFIG_OF_GBINDER, RAW, SCENARIOS, accelerated, compiled, plan_of, plan_text)
 
 if TYPE_CHECKING:
     from checks.recorder.driver.play import Play
@@ -53,7 +54,8 @@ def play(given: argparse.Namespace, of: "Play") -> list[str]:
     if not lines:
         return ["the plan has no such session"]
     files = {**of.files, "blind": program, "plan": plan_text(lines)}
-    files |= {"clients": sessions / "clients"} if (sessions / "clients").exists() else {}
+    if (sessions / "clients").exists():
+        files |= {"clients": sessions / "clients", "etc/gbinder.conf": CONFIG_OF_GBINDER}
     # Two kernels are enough, unless one is asked for.
     for series in given.kernel or (["rust"] if given.rust else ["6.1", "newest"]):
         try:

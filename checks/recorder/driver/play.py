@@ -28,8 +28,8 @@ from checks.recorder.guest.kernels import Kernel, check_tools, kernel_of
 from checks.recorder.guest.machines import AARCH64, FOUR, OWN_TIME, X86_64, Machine
 from checks.recorder.guest.packages import Missing, linked_libraries, release
 from checks.recorder.guest.plans import (
-    ACCEL, NAMES, SCENARIOS, accelerated, command, compiled, dynamic_files, first_files, plan_of, plan_text,
-    recorder_for)
+    ACCEL, CONFIG_OF_GBINDER, NAMES, SCENARIOS, accelerated, command, compiled, dynamic_files, first_files, plan_of,
+    plan_text, recorder_for)
 
 SERIES = ("6.1", "6.12", "newest", "5.10")
 # What is stored of a recording with the driver in Rust.
@@ -40,7 +40,6 @@ PROVED = ("binder_audit", "binder_listing", "binder_tables")
 LACKING = {"5.10": {"freeze", "pending"}}
 # The sources of the program that plays scenarios.
 SOURCES = [path for path in sorted(SCENARIOS.glob("*.c")) if path.stem not in ("gbinder", "witness")]
-CONFIG_OF_GBINDER = "[Protocol]\n/dev/binder = aidl2\n[ServiceManager]\n/dev/binder = aidl2\n"
 
 
 # ---- programs

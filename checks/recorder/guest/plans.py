@@ -15,6 +15,8 @@ from checks.recorder.guest.packages import Missing, release
 
 SCENARIOS = CHECKS / "recorder/scenarios"
 RAW = [SCENARIOS / f"{name}.c" for name in ("raw", "send", "processes")]
+# What programs on libgbinder read in a guest.
+CONFIG_OF_GBINDER = "[Protocol]\n/dev/binder = aidl2\n[ServiceManager]\n/dev/binder = aidl2\n"
 FLAGS = ("-O2", "-Wall", "-Wextra", "-Werror")
 
 
