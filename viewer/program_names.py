@@ -39,9 +39,9 @@ def as_packed(text: str) -> str:
     return re.sub(CALL, lambda found: f"binder-{NAMES[found[0]]}", text)
 
 
-def commit() -> str | None:
-    """The commit of which the viewer is, with `.changed` after it if a file was changed since; None if that is not
-    known."""
+def commit(is_change_told: bool = True) -> str | None:
+    """The commit of which the viewer is, with `.changed` after it if a file was changed since, for which each file is
+    looked at; None if that is not known."""
     if PACKED:
         found = re.search(r"^commit (\w+) of .* UTC( and changes .*)?$", (FOLDER.parent / "version").read_text("utf-8"),
                           re.MULTILINE)
@@ -49,7 +49,8 @@ def commit() -> str | None:
     import subprocess
     try:
         asked = subprocess.run(["git", "-C", FOLDER.parent, "describe", "--always", "--exclude=*", "--abbrev=40",
-                                "--dirty=.changed"], capture_output=True, encoding="utf-8")
+                                *(["--dirty=.changed"] if is_change_told else [])],
+                               capture_output=True, encoding="utf-8")
     except OSError:
         return None
     return asked.stdout.strip() or None

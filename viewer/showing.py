@@ -13,7 +13,7 @@ from viewer.command_line import Words
 from viewer.database import loading, raw_tables, side_list
 from viewer.database.side_beside import side_beside
 from viewer.database.sqlite import open_database
-from viewer.files import Stopped, errors_of, keep, refuse_no_folder, shown_name, unchanged, whole_file
+from viewer.files import Stopped, errors_of, keep, refuse_no_folder, shown_name, unchanged, whole_file, word_of
 from viewer.malformed import Fault, fault_of
 from viewer.methods import known
 from viewer.page import within
@@ -218,6 +218,14 @@ def load(root: pathlib.Path, asked: argparse.Namespace, methods: known.Methods, 
     return fault_of(malformed, asked.files) if malformed else None
 
 
+def options_of(asked: argparse.Namespace) -> str:
+    """The words by which the same page is made of the same files again."""
+    given = (("--side", asked.side), ("--methods", asked.methods), ("--symbols", asked.symbols),
+             ("--against", [asked.against] if asked.against else []))
+    return "".join(f" {option} {word_of(value)}" for option, values in given for value in values) + (
+        " --no-side" if asked.no_side else "")
+
+
 def answer(database: sqlite3.Connection, asked: argparse.Namespace, fault: Fault | None, gate: "Gate | None"
            ) -> tuple[list[str], str | None]:
     """Writes what is asked for of a database. Returns the lines to print, and what is said at the end."""
@@ -236,7 +244,7 @@ def answer(database: sqlite3.Connection, asked: argparse.Namespace, fault: Fault
     if asked.page:
         from viewer.page import page
         page.write(database, asked.files, pathlib.Path(asked.page), gate.shown() if gate else None, window,
-                   page.SLOW if asked.slow is None else asked.slow)
+                   page.SLOW if asked.slow is None else asked.slow, options_of(asked))
     if asked.trace:
         write_trace(database, asked, window)
     return lines, told_at_end(database, asked, window)

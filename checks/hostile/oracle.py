@@ -15,6 +15,7 @@ from typing import Iterator
 from checks.hostile.plays import Came, Play
 from checks.kit.programs import ROOT
 from checks.viewer.timeline.read_packets import fields
+from viewer.page.page import script_of
 
 # The most memory of a process, in KiB.
 MOST_MEMORY = 1 << 20
@@ -119,7 +120,7 @@ def page(path: pathlib.Path) -> None:
     markup.feed(text)
     if foreign := {*markup.tags} - tags_of_templates() | {*markup.loads}:
         raise ValueError(f"it has markup of a stranger: {sorted(foreign)}")
-    own = (ROOT / "viewer/page/page.js").read_text("utf-8")
+    own = script_of(ROOT / "viewer/page/scripts")
     if markup.tags.count("script") != 1 or markup.script.strip() != own.strip():
         raise ValueError("it has another script than its own")
 

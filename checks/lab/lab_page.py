@@ -41,7 +41,9 @@ class Read(HTMLParser):
         self.open = tag
         if tag == "details" and (attributes.get("class") or "").startswith("group"):
             self.groups[str(attributes["id"])] = self.heading
-        if {"src", "href", "onclick", "onload", "onerror"} & set(attributes) or tag in ("img", "link", "iframe"):
+        elsewhere = not (attributes.get("href") or "#").startswith("#")
+        loads = {"src", "onclick", "onload", "onerror"} & set(attributes) or elsewhere
+        if loads or tag in ("img", "link", "iframe"):
             self.strange.append((tag, attributes))
 
     def handle_data(self, data: str) -> None:

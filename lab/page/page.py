@@ -15,9 +15,11 @@ from lab.compare import Enough
 from lab.known_until import Known
 from lab.page.builds import REFUSED
 from lab.page.defects import BEFORE, NAMED, Lab, picture_of
+from lab.page.strip import Strip, builds_with
 from lab.renamed import Renamed
 from viewer.files import Stopped, for_owner, whole_file, word_of
 from viewer.page import page as of_capture
+from viewer.page.parts import Parts
 from viewer.page.texts import title_of
 from viewer.program_names import called_anywhere
 
@@ -40,7 +42,8 @@ def small(p: float | None) -> str | None:
     return None if p is None else f"{p:.2g}"
 
 
-FILTERS = {**of_capture.FILTERS, "of_hundred": of_hundred, "interval": interval, "small": small, "picture": picture_of}
+FILTERS = {**of_capture.FILTERS, "of_hundred": of_hundred, "interval": interval, "small": small, "picture": picture_of,
+           "builds_with": builds_with}
 
 
 def document(lab: sqlite3.Connection, path: str, enough: Enough, known: dict[str, Known], renamed: Renamed
@@ -53,13 +56,14 @@ def document(lab: sqlite3.Connection, path: str, enough: Enough, known: dict[str
                                 finalize=lambda value: "" if value is None else value)
     engine.filters |= FILTERS
     ask = f"{word_of(called_anywhere('fleet'))} ask {word_of(os.path.basename(path))}"
-    engine.globals |= {"who": {}, "names": None, "ask": ask}
+    engine.globals |= {"who": {}, "names": None, "ask": ask, "parts": Parts()}
     style = "".join((folder / "page.css").read_text("utf-8") for folder in (of_capture.FOLDER, TEMPLATES.parent))
-    script = (of_capture.FOLDER / "page.js").read_text("utf-8")
+    script = of_capture.script_of(of_capture.FOLDER / "scripts")
     digest = base64.b64encode(hashlib.sha256(script.encode()).digest()).decode()
     return engine.get_template("lab.html").generate(
-        title=title_of(name_of(path)), style=style, script=script, digest=digest, lab=shown, before=BEFORE, most=NAMED,
-        first=enough.before, refused=lab.execute(REFUSED).fetchall(), rate=enough.rate)
+        title=title_of(name_of(path)), style=style, script=script, digest=digest, lab=shown,
+        time=Strip(shown.builds, shown.defects), before=BEFORE, most=NAMED, first=enough.before,
+        refused=lab.execute(REFUSED).fetchall(), rate=enough.rate)
 
 
 def name_of(path: str) -> str:

@@ -7,12 +7,15 @@ from viewer.defects.changes import GONE, GROWN, NEW, WORSE, Comparison
 from viewer.defects.known_keys import known_in, unseen_lines
 from viewer.defects.seen import RANKS, Defect, defects_of, seen_in
 from viewer.malformed import Fault
+from viewer.units import counted
 
 
 class Shown(NamedTuple):
-    """What the page shows: marks of defects by their keys, and the defects that are gone."""
+    """What the page shows: marks of defects by their keys, the defects that are gone, and of each key in which of both
+    captures its defect was first seen."""
     marks: dict[str, list[str]]
     gone: list[Defect]
+    seen: dict[str, str]
 
 
 class Gate:
@@ -57,4 +60,12 @@ class Gate:
         marks = {change.defect.key: [change.what] for change in changes}
         for key in self.known:
             marks.setdefault(key, []).append("known")
-        return Shown(marks, [change.defect for change in self.comparison.of(GONE)] if self.comparison else [])
+        return Shown(marks, [change.defect for change in self.comparison.of(GONE)] if self.comparison else [],
+                     dict(self.first_seen()))
+
+    def first_seen(self) -> Iterator[tuple[str, str]]:
+        """In which of both captures each defect of this one was first seen."""
+        for change in self.comparison.changes if self.comparison else ():
+            if change.now:
+                yield change.defect.key, (f"in {self.against}, {counted(change.before, 'finding')} there"
+                                          if change.before else f"here; {self.against} has none")

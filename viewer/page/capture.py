@@ -15,7 +15,7 @@ from viewer.window import Window
 QUERIES = pathlib.Path(__file__).resolve().parent / "queries"
 
 # The most rows of a section. The rest is counted.
-ROWS = 1000
+ROWS = 2000
 
 # How long a call of a main thread takes at least that the page lists, in nanoseconds: six frames of a screen are
 # missed.
@@ -26,11 +26,13 @@ class Capture:
     """The capture, and the window of it that is shown. A process is called as in `who`, and a call or an object as in
     `names`."""
 
-    def __init__(self, database: sqlite3.Connection, files: list[str], window: Window | None = None, slow: int = SLOW):
+    def __init__(self, database: sqlite3.Connection, files: list[str], window: Window | None = None, slow: int = SLOW,
+                 options: str = ""):
         self.database, self.window, self.slow = database, window, slow
         self.groups = set(groups_within(database, window))
         named = " ".join(map(word_of, files))
         self.command, self.report = f"{called('listing')} {named}", f"{called('audit')} report {named}"
+        self.again = f"{called('view')} {named}{options}"
         self.facts = dict(database.execute("SELECT key, value FROM capture"))
         malformed = self.facts["malformed"]
         self.fault = fault_of(malformed, [os.path.basename(file) for file in files]) if malformed else None

@@ -2,22 +2,21 @@
 
 from typing import Iterator, NamedTuple
 
+from viewer.defects.gate import Shown
 from viewer.page.around_place import lane_of
 from viewer.page.capture import ROWS, Capture
 from viewer.page.no_space import filling_of
-from viewer.page.plots import Plot, growth_of, strip
+from viewer.page.plots import Plot, growth_of, marked
 from viewer.page.stacks import GroupStacks, Stacks
+from viewer.page.strip import Spans
 
 # The most findings of a group and lanes of a page.
 FINDINGS, LANES = 100, 300
 
-# What the defects with these keys are marked with.
-Marks = dict[str, list[str]]
-
 
 class Finding(NamedTuple):
-    """A finding, as the page shows it. `row` is that of the proved report; `lasted` is how long it has lasted, and
-    `longest` the longest of its path that came to a good end, of `good` ones."""
+    """A finding, as the page shows it. `row` is that of the proved report, and `longest` the longest of its path that
+    came to a good end, of `good` ones; `lasted` is how long it has lasted, and `at` where it is on the strip."""
     section: str
     place: int | None
     utid: int | None
@@ -27,25 +26,30 @@ class Finding(NamedTuple):
     row: str | None
     thread: int | None
     id: int
-    lasted: int | None
     good: int | None
     longest: int | None
     ts: int | None
     size: int | None
+    lasted: int | None
+    at: str
 
 
 class Group:
     """A group. It has no more findings than the page shows, and one."""
 
-    def __init__(self, capture: Capture, stacks: Stacks, marks: Marks, row: tuple):
+    def __init__(self, capture: Capture, stacks: Stacks, spans: Spans, shown: Shown, row: tuple):
         (self.number, self.verdict, self.title, self.path, self.n, self.n_all, self.first, self.last, self.waiting,
          rules, self.note) = row
         self.rules = rules.split(",")
-        self.found = [Finding(*row) for row in capture.asked("findings", self.number, FINDINGS + 1)]
+        self.found = [Finding(*row, lasted=spans.lasted[row[8]], at=spans.word(row[8]))
+                      for row in capture.asked("findings", self.number, FINDINGS + 1)]
         self.who = [upid for upid, in capture.asked("group_who", self.number)]
         keys = [key for key, in capture.asked("group_keys", self.number)]
-        self.marks = list(dict.fromkeys(mark for key in keys for mark in marks.get(key, ())))
+        self.marks = list(dict.fromkeys(mark for key in keys for mark in shown.marks.get(key, ())))
+        self.seen = list(dict.fromkeys(shown.seen[key] for key in keys if key in shown.seen))
+        self.keys = keys
         self.begun, self.ended = capture.asked("group_times", self.number)[0]
+        self.at, self.until = spans.of(self.number), spans.until(self.number)
         self.plot = self.plot_of(capture)
         self.filling = filling_of(capture, self.number)
         self.stacks = GroupStacks(stacks, self.number)
@@ -67,20 +71,20 @@ class Group:
         if self.n >= 8:
             return growth_of(capture, self.number)
         places = [one.place for one in self.found if one.place is not None]
-        return strip(places, capture.facts["bytes"]) if places else None
+        return marked(places, capture.facts["bytes"]) if places else None
 
 
 class Groups:
     """The groups of a capture. The first of a page have lanes: what the thread of the first finding did around it."""
 
-    def __init__(self, capture: Capture, marks: Marks):
-        self.capture, self.stacks, self.marks, self.lanes = capture, Stacks(capture), marks, 0
+    def __init__(self, capture: Capture, spans: Spans, shown: Shown):
+        self.capture, self.stacks, self.spans, self.shown, self.lanes = capture, Stacks(capture), spans, shown, 0
 
     def of(self, *verdicts: str) -> Iterator[Group]:
         """The groups of some verdicts, one after another."""
         for verdict in verdicts:
             for row in self.rows(verdict)[:ROWS]:
-                group = Group(self.capture, self.stacks, self.marks, row)
+                group = Group(self.capture, self.stacks, self.spans, self.shown, row)
                 if verdict != "normal" and self.lanes < LANES:
                     self.give_lane(group)
                 yield group

@@ -2,6 +2,7 @@
 markup is theirs: what they write of a capture stays text, since the engine escapes it."""
 
 import base64
+import functools
 import hashlib
 import html
 import importlib.util
@@ -19,8 +20,11 @@ from viewer.files import Stopped, for_owner, shown_name, whole_file
 from viewer.page.capture import ROWS, SLOW, Capture
 from viewer.page.groups import FINDINGS, Groups
 from viewer.page.head import head_of
+from viewer.page.parts import Parts
 from viewer.page.plots import axis_of, growths_of
+from viewer.page.strip import Spans, Strip
 from viewer.page.texts import pieces_of, title_of, user_name
+from viewer.program_names import commit
 from viewer.rules.verdicts import VERDICTS
 from viewer.units import code_name, counted, duration_of
 from viewer.window import Window
@@ -58,14 +62,24 @@ def calls_of(capture: Capture) -> list[tuple]:
 
 def asked_of(capture: Capture, shown: Shown) -> dict[str, object]:
     """What templates ask. Sections ask when they are written, so that no two are in memory."""
-    groups = Groups(capture, shown.marks)
-    return {"who": capture.who, "names": capture.names, "times": capture.times, "rules": capture.rules,
-            "looks": capture.looks, "command": capture.command, "asked": capture.rows, "count": capture.count,
-            "groups": groups.of, "left": groups.left, "most": FINDINGS, "all_verdicts": VERDICTS,
-            "columns_of": columns_of, "growths": lambda: growths_of(capture), "axis": lambda: axis_of(capture),
-            "has_stacks": groups.stacks.are_there, "gone": shown.gone, "calls": lambda: calls_of(capture),
-            "spent": Spent(capture), "slow": capture.slow, "slow_calls": lambda: capture.asked("main_thread", ROWS, capture.slow),
-            "groups_shown": len(capture.groups)}
+    spans = Spans(capture)
+    groups, calls = Groups(capture, spans, shown), functools.cache(lambda: calls_of(capture))
+    return {"at": spans.axis.at, "between": spans.axis.between, "time": Strip(capture, spans, calls()),
+            "parts": Parts(), "who": capture.who, "names": capture.names, "times": capture.times,
+            "rules": capture.rules, "looks": capture.looks, "command": capture.command, "asked": capture.rows,
+            "count": capture.count, "groups": groups.of, "left": groups.left, "most": FINDINGS,
+            "all_verdicts": VERDICTS, "columns_of": columns_of, "growths": lambda: growths_of(capture),
+            "axis": lambda: axis_of(capture), "has_stacks": groups.stacks.are_there, "gone": shown.gone,
+            "calls": calls, "spent": Spent(capture), "slow": capture.slow,
+            "slow_calls": lambda: capture.asked("main_thread", ROWS, capture.slow),
+            "groups_shown": len(capture.groups), "ruled": capture.count("rule", "id IN (SELECT rule FROM finding)"),
+            "faults": sum(len(groups.rows(verdict)) for verdict in ("real", "maybe"))}
+
+
+def script_of(folder: pathlib.Path) -> str:
+    """The script of the page: its files, one after another, in the order in which order.txt names them."""
+    names = (folder / "order.txt").read_text("utf-8").split()
+    return "".join((folder / name).read_text("utf-8") for name in names)
 
 
 def document(capture: Capture, shown: Shown) -> Iterator[str]:
@@ -76,12 +90,12 @@ def document(capture: Capture, shown: Shown) -> Iterator[str]:
                                 finalize=lambda value: "" if value is None else value)
     engine.filters |= FILTERS
     engine.globals |= asked_of(capture, shown)
-    style, script = ((FOLDER / name).read_text("utf-8") for name in ("page.css", "page.js"))
+    style, script = (FOLDER / "page.css").read_text("utf-8"), script_of(FOLDER / "scripts")
     digest = base64.b64encode(hashlib.sha256(script.encode()).digest()).decode()
     heads = [text for text, in capture.ask("SELECT text FROM report WHERE section = 'head' ORDER BY id")]
     return engine.get_template("page.html").generate(
         head=head_of(capture), style=style, script=script, digest=digest, title=title_of(capture.facts["file"]),
-        report=capture.report, heads=heads)
+        report=capture.report, heads=heads, commit=commit(is_change_told=False), again=capture.again)
 
 
 # How a page begins: by its title it is known what it is a page of. It is matched, and made in the template alone.
@@ -104,9 +118,9 @@ def refuse_other(files: list[str], path: pathlib.Path) -> None:
 
 
 def write(database: sqlite3.Connection, files: list[str], path: pathlib.Path, shown: Shown | None = None,
-          window: Window | None = None, slow: int = SLOW) -> None:
+          window: Window | None = None, slow: int = SLOW, options: str = "") -> None:
     """Writes the page, for its owner only. `shown`: what it shows of another capture. `slow`: how long a call of a main
-    thread takes at least that it lists."""
+    thread takes at least that it lists. `options`: the words of the command beside the files."""
     with whole_file(path, lambda: is_page_of(files, path)) as made:
         with open(made, "x", encoding="utf-8", errors="replace", opener=for_owner) as out:
-            out.writelines(document(Capture(database, files, window, slow), shown or Shown({}, [])))
+            out.writelines(document(Capture(database, files, window, slow, options), shown or Shown({}, [], {})))

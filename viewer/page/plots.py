@@ -1,6 +1,5 @@
-"""The plots of the page: how many findings a group has and where they are, and what processes hold over time."""
+"""The plots of the page: how many findings a group has and where they are, and what stays of what processes hold."""
 
-import json
 from typing import NamedTuple
 
 from viewer.page.capture import Capture
@@ -29,7 +28,7 @@ def steps(values: list[int], width: int = 112, height: int = 24, edges: list[flo
     return Plot(width, height, ", ".join(map(str, values)), height - 2, line)
 
 
-def strip(places: list[int], whole: int, width: int = 112, height: int = 14) -> Plot:
+def marked(places: list[int], whole: int, width: int = 112, height: int = 14) -> Plot:
     """A mark for each place in the capture."""
     marks = "".join(f"M{1 + (width - 3) * place / max(whole, 1):.1f} 3V{height - 1}" for place in places)
     return Plot(width, height, "where in the capture", height - 4, marks)
@@ -71,10 +70,31 @@ def edges_of(capture: Capture) -> list[float]:
     return [min(max((ts - times[0]) / whole, 0), 1) for ts in times]
 
 
+def floors_of(capture: Capture) -> dict[tuple[int, int], list[int]]:
+    """The least that a process held of a thing in each of 16 slices of the capture, by process and thing, as far as it
+    holds some at the end."""
+    floors: dict[tuple[int, int], list[int]] = {}
+    for thing, upid, at, least in capture.asked("floors"):
+        floors.setdefault((upid, thing), [0] * 16)[at] = least
+    return floors
+
+
+class Held(NamedTuple):
+    """What a process holds of a thing: a plot of what stays, the most that it held, and what it holds at the end."""
+    plot: Plot | None
+    most: int
+    last: int
+
+
 def growths_of(capture: Capture) -> list[tuple]:
-    """Of each process whether it has an end, and the space that its buffers take, also that of oneway ones; then of
-    each thing that it holds a plot of the most in each slice, the most of all, and what it holds at the end."""
-    edges = edges_of(capture)
-    return [(upid, ended, space, oneway, [(steps(values, 150, 30, edges), max(values), last)
-                                          for values, last in zip(map(json.loads, columns[::2]), columns[1::2])])
-            for upid, ended, space, oneway, *columns in capture.rows("growth")]
+    """Of each process whether it has an end, and the space that its buffers take, also that of oneway ones; then what
+    it holds of each thing."""
+    edges, floors = edges_of(capture), floors_of(capture)
+
+    def plot(upid: int, thing: int, last: int, ended: int | None) -> Plot | None:
+        floor = floors.get((upid, thing), []) if last else []
+        held = [0 if ended is not None and at > ended else least for at, least in enumerate(floor)]
+        return steps(held, 150, 30, edges)
+    return [(upid, ended, space, oneway, [Held(plot(upid, thing, last, ended_slice), most, last)
+                                          for thing, (most, last) in enumerate(zip(columns[::2], columns[1::2]))])
+            for upid, ended, space, oneway, *columns, ended_slice in capture.rows("growth")]

@@ -208,7 +208,7 @@ class Shown(html.parser.HTMLParser):
         self.scripts += tag == "script"
         self.apart += tag == "bdi"
         self.bad += [name for name, value in attributes if name.startswith("on") or name == "src"
-                     or name == "href" and not re.fullmatch(r"#rule-[A-Z][0-9]+", value or "")]
+                     or name == "href" and not re.fullmatch(r"#(rule-[A-Z][0-9]+|[a-z][a-z0-9-]*)", value or "")]
         if tag in ("iframe", "img", "object", "embed", "base", "link", "form"):
             self.bad.append(tag)
         if tag in ("td", "div", "tr", "span") and not self.inside and given.get("class") == "proved":

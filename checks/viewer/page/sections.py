@@ -9,7 +9,8 @@ import re
 from checks.kit.checking import Fail, compare
 from checks.viewer.page.common import loaded, stored, view
 
-SECTION = re.compile(r'<details class="fold"><summary>([^<]*)</summary>(.*?)</details>', re.DOTALL)
+SECTION = re.compile(r'<details class="fold" id="[a-z-]*"><summary><h3>([^<]*)</h3>.*?</summary>(.*?)</details>',
+                     re.DOTALL)
 BODY = re.compile(r"<tbody>(.*?)</tbody>", re.DOTALL)
 
 
@@ -23,7 +24,7 @@ def text_of(cell: str) -> str:
 
 def cells_in(body: str) -> list[list[str]]:
     """The rows of a table, each cell without markup and times of day."""
-    return [[text_of(cell) for cell in row.split("<td")[1:]] for row in body.split("<tr>")[1:]]
+    return [[text_of(cell) for cell in row.split("<td")[1:]] for row in body.split("<tr")[1:]]
 
 
 def sections_of(page: str) -> dict[str, list[list[str]]]:

@@ -58,7 +58,7 @@ def check_windows(folder: pathlib.Path, room: pathlib.Path, fail: Fail) -> None:
             answer([folder / "view", *map(str, (*capture, *words)), "-o", f"{number}.html", "--trace",
                     f"{number}.json.gz"], cwd=room, env={**os.environ, **ZONE})
             rows = (room / f"{number}.html").read_text("utf-8").partition('aria-label="calls"')[2]
-            compare(f"{words}, calls of the page", rows.partition("</table>")[0].count("\n<tr>"), calls, fail)
+            compare(f"{words}, calls of the page", rows.partition("</table>")[0].count("\n<tr"), calls, fail)
             compare(f"{words}, what the page says", "Shown are the groups and the calls from" in
                     texts_of(room / f"{number}.html"), True, fail)
             drawn = timeline_of(room / f"{number}.json.gz")["traceEvents"]

@@ -19,6 +19,7 @@ from checks.recorder.driver.compare import SECRETS, TO_CLEAR
 from checks.viewer.page.columns import check_columns
 from checks.viewer.page.common import AT_END, stored, texts_of, view
 from checks.viewer.page.reports import check_harmless, shown_of
+from viewer.page.page import script_of
 
 
 def check_rules(made: pathlib.Path, fail: Fail) -> None:
@@ -175,9 +176,15 @@ def check_killed(words: list, run: dict, kept: pathlib.Path, fail: Fail) -> None
     (kept / "view-of-mine").rmdir()
 
 
-# The sections that are not folded.
-SECTIONS = ["Look at these", "Explained", "Calls without an answer, and those that took longest", "Growth", "Processes",
-            "Who talks to whom", "Rules", "The heads of the proved report"]
+# The tabs, and in each the sections.
+SECTIONS = ["Faults", "Look at these", "Explained",
+            "Normal rows: references that are held or were let go, and requests that wait",
+            "Time", "Methods by time", "Calls without an answer, and those that took longest",
+            "Traffic", "Who talks to whom, by method", "Who talks to whom, object by object", "Who sends most",
+            "The largest transactions",
+            "Processes", "Growth: what stays", "Processes", "Threads that take calls, and what each serves at the end",
+            "Who holds whose objects",
+            "Rules", "Rules that findings have", "The heads of the proved report"]
 
 
 def check_told(folder: pathlib.Path, room: pathlib.Path, fail: Fail) -> None:
@@ -206,7 +213,8 @@ def check_told(folder: pathlib.Path, room: pathlib.Path, fail: Fail) -> None:
             # The second one is in the list of rules.
             compare("hung: how often its page has a sentence", text.count("It was delivered, and not replied."), 2,
                     fail)
-            compare("hung: its sections", re.findall("<h2[^>]*>([^<]*)", shown.read_text("utf-8")), SECTIONS, fail)
+            heads = re.findall("<h[23][^>]*>([^<]*)", shown.read_text("utf-8"))
+            compare("hung: its sections", [one.strip() for one in heads], SECTIONS, fail)
             wrong = re.findall(r"(?<![\d,.])1 (?:rows|frames|processes|records|bytes)\b", text)
             compare("hung: some of one", wrong, [], fail)
 
@@ -244,7 +252,7 @@ HOSTILE = {"manager": "<script>window.bad=1</script>, one", "short-lived": "\"'>
 
 def check_policy(text: str, fail: Fail) -> None:
     """A page has one script, its own. Its policy lets it run that, and load nothing."""
-    script = (ROOT / "viewer/page/page.js").read_text("utf-8")
+    script = script_of(ROOT / "viewer/page/scripts")
     digest = base64.b64encode(hashlib.sha256(script.encode()).digest()).decode()
     compare("what is in the scripts of the page", shown_of(text).script, script, fail)
     compare("the policy of the page", re.findall('Content-Security-Policy" content="([^"]*)"', text),
@@ -268,7 +276,8 @@ def check_hostile(folder: pathlib.Path, room: pathlib.Path, fail: Fail) -> pathl
                                                              and one != "\n"], [], fail)
     compare("hostile names: the number of one of them", '<span class="sign">U+202E</span>gnp.exe' in text, True, fail)
     compare("hostile names: texts that may turn others", shown_of(text).turned, [], fail)
-    compare("hostile names: paths that are not set apart", re.findall("<span><b>[^<]*</b> (?!<bdi>)", text), [], fail)
+    compare("hostile names: paths that are not set apart",
+            re.findall('<span class="what"><b>[^<]*</b> (?!<bdi>)', text), [], fail)
     compare("hostile names: the page stays small", len(text) < 2**20, True, fail)
     status, lines, _ = view(folder, room, named.name, "--side", "hostile.side", "--groups")
     tabs = {line.count("\t") for line in lines.splitlines()}

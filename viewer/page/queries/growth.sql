@@ -1,11 +1,11 @@
--- The most that each process holds in each slice, and what it holds at the very end or at its own end; those that held
--- most come first. Of its buffers, how much space the driver has given for data and offsets, each rounded up to 8
--- bytes, and how much of this for oneway transactions. After its end a process holds nothing, and a call ends with its
--- thread. ?1: the most rows.
+-- The most that each process held, and what it holds at the very end or held at its own end; those that hold most then
+-- come first. Of its buffers, how much space the driver has given for data and offsets, each rounded up to 8 bytes, and
+-- how much of this for oneway transactions. A call ends with its thread. ended_slice: the slice of its end, if it has
+-- one. ?1: the most rows.
 -- needs: database/schema.sql: raw_call, raw_capture, raw_delivery, raw_generation, raw_level, raw_record, raw_slice,
 --   raw_thread; database/numbers.sql: flag, kind; database/views.sql: process, thread
 -- makes: columns: upid, ended, space, oneway_space, buffers, buffers_left, bytes, bytes_left, refs, refs_left, calls,
---   calls_left, served, served_left
+--   calls_left, served, served_left, ended_slice
 WITH lived AS MATERIALIZED (SELECT p.upid, iif(p.ended_after <= c.last_seq, p.ended_after, NULL) AS ended_after,
     (SELECT max(slice) FROM raw_slice WHERE first_seq <= p.ended_after) AS slice FROM process p, raw_capture c),
   left_over AS MATERIALIZED (
@@ -27,11 +27,13 @@ WITH lived AS MATERIALIZED (SELECT p.upid, iif(p.ended_after <= c.last_seq, p.en
     FROM raw_level l JOIN lived v USING (upid) ORDER BY l.upid, l.slice)
 SELECT l.upid, v.ended_after IS NOT NULL AS ended,
   CAST(coalesce(b.space, 0) AS INTEGER) AS space, CAST(coalesce(b.oneway, 0) AS INTEGER) AS oneway_space,
-  json_group_array(iif(l.ended, 0, l.buffers)) AS buffers, coalesce(b.buffers, 0) AS buffers_left,
-  json_group_array(iif(l.ended, 0, l.bytes)) AS bytes, CAST(coalesce(b.bytes, 0) AS INTEGER) AS bytes_left,
-  json_group_array(iif(l.ended, 0, l.refs)) AS refs, coalesce(g.refs, 0) AS refs_left,
-  json_group_array(iif(l.ended, 0, l.calls)) AS calls, coalesce(o.calls, 0) AS calls_left,
-  json_group_array(iif(l.ended, 0, l.served)) AS served, coalesce(o.served, 0) AS served_left
+  max(iif(l.ended, 0, l.buffers)) AS buffers, coalesce(b.buffers, 0) AS buffers_left,
+  max(iif(l.ended, 0, l.bytes)) AS bytes, CAST(coalesce(b.bytes, 0) AS INTEGER) AS bytes_left,
+  max(iif(l.ended, 0, l.refs)) AS refs, coalesce(g.refs, 0) AS refs_left,
+  max(iif(l.ended, 0, l.calls)) AS calls, coalesce(o.calls, 0) AS calls_left,
+  max(iif(l.ended, 0, l.served)) AS served, coalesce(o.served, 0) AS served_left,
+  iif(v.ended_after NOTNULL, v.slice, NULL) AS ended_slice
 FROM levels l JOIN lived v USING (upid) LEFT JOIN left_over b USING (upid) LEFT JOIN calling o USING (upid)
   LEFT JOIN counted g USING (upid)
-GROUP BY l.upid ORDER BY max(l.buffers) DESC, l.upid LIMIT ?1
+GROUP BY l.upid ORDER BY buffers_left DESC, calls_left + served_left DESC, refs_left DESC, max(l.buffers) DESC, l.upid
+LIMIT ?1
