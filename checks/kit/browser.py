@@ -88,7 +88,7 @@ class Browser:
         self.ask("Emulation.setEmulatedMedia",
                  features=[{"name": "prefers-color-scheme", "value": "dark" if is_dark else "light"}])
 
-    def open(self, page: pathlib.Path, name: str = "") -> None:
+    def show(self, page: pathlib.Path, name: str = "") -> None:
         """Opens a page anew, and waits until its script has followed its address."""
         self.ask("Page.navigate", url="about:blank")
         self.ask("Page.navigate", url=page.resolve().as_uri() + (f"#{name}" if name else ""))

@@ -2,7 +2,7 @@
 const isNarrow = matchMedia('(max-width: 760px)');
 const labelCells = root => {
   if (!isNarrow.matches) return;
-  for (const table of root.matches?.('tr') ? [root.closest('table')] : every('table.sorted, table.found, table.builds', root)) {
+  for (const table of root.matches?.('tr') ? [root.closest('table')] : every('table.sorted, table.found, table.builds, table.tree, table.captures', root)) {
     const heads = [...table?.tHead?.rows[0]?.cells ?? []].map(head => lineOf(head.querySelector('button') ?? head));
     for (const row of root.matches?.('tr') ? [root] : table.tBodies[0].rows)
       [...row.cells].forEach((cell, at) => { if (cell.colSpan === 1) cell.dataset.head = heads[at] ?? ''; });
