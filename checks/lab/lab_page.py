@@ -8,10 +8,11 @@ import subprocess
 from contextlib import closing
 from html.parser import HTMLParser
 
+from checks.kit.browser import Browser
 from checks.kit.checking import Fail, compare
 from checks.lab.models import ALIKE, PLANTED, Model, made
 from checks.lab.played import played
-from checks.viewer.page.browser import chromium, with_probe
+from checks.viewer.page.browser import Driven, PARTS, check_looks, check_plain, check_widths
 from lab.compare import Enough
 from lab.known_until import Known
 from lab.page import page
@@ -124,16 +125,21 @@ def check_commands(folder: pathlib.Path, lab: pathlib.Path, room: pathlib.Path, 
         compare(f"{command}: status, what it shows", (ended.returncode, shown in ended.stdout), (0, True), fail)
 
 
+class DrivenLab(Driven):
+    """The page of a lab that is used. Its defects have no places to copy."""
+
+    sorted_tab, in_reports = "builds", ("defect=",)
+
+
 def check_browser(room: pathlib.Path, fail: Fail) -> str:
     """Returns where pictures are."""
     room.mkdir()
     planted(room / "LAB.db")
     with closing(open_lab(str(room / "LAB.db"))) as lab:
         page.write(lab, str(room / "LAB.db"), room / "lab.html", Enough(), {})
-    for width in (1400, 500):
-        told = chromium(room, f"--window-size={width},1000", "--dump-dom", f"file://{with_probe(room / 'lab.html')}")
-        title = re.search(r"<title>(.*?)</title>", told, re.DOTALL)
-        compare(f"the page of a lab, {width} pixels", title and title[1],
-                '{"wide":false,"bad":false,"reached":true,"inside":true,"heads":true,"sorted":1,"hidden":true,'
-                '"rows":true}', fail)
+    with Browser() as browser:
+        check_looks(browser, room / "lab.html", room, "latest", fail, DrivenLab, PARTS)
+        check_widths(browser, room / "lab.html", fail)
+        check_plain(browser, room / "lab.html", fail)
+        compare("errors of the script", browser.errors, [], fail)
     return str(room)

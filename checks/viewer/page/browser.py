@@ -25,7 +25,10 @@ KEEP_COPIED = "navigator.clipboard.writeText = async text => { window.copied = t
 
 
 class Driven:
-    """A page that is used, and what comes of it. `by_keys`: with the keys alone."""
+    """A page that is used, and what comes of it. `by_keys`: with the keys alone. It has a tab with a table to sort, and
+    these words in the reports of cards."""
+
+    sorted_tab, in_reports = "traffic", ("commit ", "./listing ", "./view ")
 
     def __init__(self, browser: Browser, page: pathlib.Path, by_keys: bool, what: str, fail: Fail):
         self.browser, self.page, self.by_keys, self.fail = browser, page, by_keys, fail
@@ -105,17 +108,17 @@ def check_cards(it: Driven) -> None:
         it.browser.click(f"{CARDS} > summary")
         it.browser.settle()
     card = it.browser.js(f"document.querySelector('{CARDS}').id")
-    it.same("the first card is open", it.count(f"#{card}[open] .inner"), 1)
+    it.same("the first card is open", it.count(f"[id='{card}'][open] .inner"), 1)
     it.press(f"[id='{card}'] a.link")
     it.same("the address of a card", (it.browser.js("window.copied").rpartition("/")[2], it.hash()),
             (f"{it.page.name}#{card}", f"#{card}"))
     it.press(f"[id='{card}'] .report")
     report = it.browser.js("window.copied")
-    title = it.browser.js(f"document.querySelector('#{card} .what b').textContent")
-    it.same("the report of a card", [part for part in (title, "culprit: ", "why: ", "to see it again:", f"#{card}",
-                                                       "commit ") if part not in report], [])
+    title = it.browser.js(f"document.getElementById('{card}').querySelector('.what b').textContent")
+    due = (title, "culprit: ", "why: ", "to see it again:", f"#{card}", *it.in_reports)
+    it.same("the report of a card", [part for part in due if part not in report], [])
     it.show(card)
-    it.same("the address opens it again", it.count(f"#{card}[open].named"), 1)
+    it.same("the address opens it again", it.count(f"[id='{card}'][open].named"), 1)
 
 
 def check_places(it: Driven) -> None:
@@ -128,7 +131,7 @@ def check_places(it: Driven) -> None:
 
 def check_sorting(it: Driven) -> None:
     """Numbers from the largest, then from the least; with a sign."""
-    it.show("traffic")
+    it.show(it.sorted_tab)
     head = "section.tab:not([hidden]) .part table.sorted th.number"
     found = f"document.querySelector({json.dumps(head)})"
     keys = (f"[...{found}.closest('table').tBodies[0].rows].map(row => row.cells[{found}.cellIndex].dataset.key)"
@@ -236,10 +239,13 @@ def check_plain(browser: Browser, page: pathlib.Path, fail: Fail) -> None:
     browser.errors.clear()  # the policy reports what it stopped
 
 
-def check_looks(browser: Browser, page: pathlib.Path, room: pathlib.Path, words: str, fail: Fail) -> None:
+PARTS: tuple[Callable[[Driven], None], ...] = (check_tabs, check_cards, check_sorting, check_strip, check_keys)
+
+
+def check_looks(browser: Browser, page: pathlib.Path, room: pathlib.Path, words: str, fail: Fail,
+                driven: type[Driven] = Driven, parts: tuple[Callable[[Driven], None], ...] = (*PARTS, check_places)
+                ) -> None:
     """All that is done with a page, at all widths, light and dark."""
-    parts: tuple[Callable[[Driven], None], ...] = (check_tabs, check_cards, check_sorting, check_strip, check_keys,
-                                                   lambda it: check_filter(it, words), check_places)
     for width, is_dark in LOOKS:
         look = f"{width} {'dark' if is_dark else 'light'}"
         browser.look(width, 900, is_dark)
@@ -252,8 +258,10 @@ def check_looks(browser: Browser, page: pathlib.Path, room: pathlib.Path, words:
         browser.show(page)
         check_focus(browser, f"{page.name}, {look}", fail)
         for by_keys in (False, True):
+            it = driven(browser, page, by_keys, look, fail)
             for part in parts:
-                part(Driven(browser, page, by_keys, look, fail))
+                part(it)
+            check_filter(it, words)
 
 
 def browser_tabs(browser: Browser, page: pathlib.Path) -> list[str]:

@@ -59,7 +59,7 @@ const reportOf = card => {
     ...every('.commit').map(one => `binder-audit: ${lineOf(one)}`),
     'to see it again:',
     ...(command ? placesOf(card).map(place => `  ${commandAt(place)}`) : []),
-    ...every('.inner .captures code', card).slice(0, 4).map(one => `  ${lineOf(one)}`),
+    ...every('.inner > code', card).slice(0, 4).map(one => `  ${lineOf(one)}`),
     ...every('.again').map(one => `  ${lineOf(one)}`),
     `  and open the page at #${card.id}`, ''].join('\n');
 };
