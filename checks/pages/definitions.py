@@ -1,7 +1,9 @@
 """Makes docs/DEFINITIONS.md: all definitions that the headline rests on, each with its comment, in an order of reading.
+And docs/TABLE-DEFINITIONS.md, of those of the tables (table_definitions.py).
 
-    checks/run definitions              compares docs/DEFINITIONS.md with the page; names the first line that differs
+    checks/run definitions              compares both with the pages; names the first line of each that differs
     checks/run definitions -- --print   prints the page
+    checks/run definitions -- --tables  prints that of the tables
 
 It starts at ROOTS and follows each name by the `use` lines of its file: to definitions in specs/, and to types and
 constants that src/ declares. It fails at a name that leads nowhere. CHAPTERS says in which chapter a definition is.
@@ -15,6 +17,7 @@ from typing import NamedTuple
 
 from checks.kit.checking import FLAG, check
 from checks.kit.programs import ROOT
+from checks.pages import table_definitions
 
 PAGE = ROOT / "docs/DEFINITIONS.md"
 
@@ -517,14 +520,20 @@ def page():
     return re.sub(r"\n{3,}", "\n\n", text).rstrip() + "\n"
 
 
-def stale():
-    """The first line of docs/DEFINITIONS.md that should be another, and what is wrong with it; or nothing."""
+# The pages, each with what makes it.
+PAGES = {PAGE: page, table_definitions.PAGE: table_definitions.page}
+
+
+def stale(path):
+    """The first line of a page that should be another, and what is wrong with it; or nothing."""
+    if path == table_definitions.PAGE and table_definitions.missing():
+        yield 1, f"no chapter or no file: {' '.join(sorted(table_definitions.missing()))}"
     try:
-        made = page()
+        made = PAGES[path]()
     except Nowhere as error:
         yield 1, str(error)
         return
-    there, due = (PAGE.read_text("utf-8") if PAGE.exists() else "").splitlines(), made.splitlines()
+    there, due = (path.read_text("utf-8") if path.exists() else "").splitlines(), made.splitlines()
     for number, (line, other) in enumerate(zip_longest(there, due), 1):
         if line != other:
             yield number, "checks/run definitions writes " + ("no more" if other is None else repr(other))
@@ -532,11 +541,12 @@ def stale():
 
 
 def judge(given, *_):
-    if given.print:
-        print(page(), end="")
-    else:
-        yield from (f"{PAGE.relative_to(ROOT)}:{number}: {what}" for number, what in stale())
+    if given.print or given.tables:
+        print((table_definitions.page if given.tables else page)(), end="")
+        return
+    for path in PAGES:
+        yield from (f"{path.relative_to(ROOT)}:{number}: {what}" for number, what in stale(path))
 
 
 if __name__ == "__main__":
-    check(judge, print=FLAG)
+    check(judge, print=FLAG, tables=FLAG)

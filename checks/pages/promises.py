@@ -15,6 +15,10 @@ CRATES = ROOT / "crates"
 NAMED = re.compile(r"`([^`]+)`")
 # What is called on this page and is no name of the sources: a lifetime.
 OTHER = re.compile(r"'\w+")
+# The rows on what proves, builds, links and runs.
+SCRIPTS = "`crates/prove`, `build`, `run`, `kept.py`, `sources.py` and `stamps.py`"
+RT = "toolchain's `rt`, two files in Python"
+LINKERS = "toolchain's linkers, `rattle-link`, and LLVM's by the name of `ld.lld`"
 # How the rows on libraries of the toolchain begin, with the folders of theirs that are counted.
 LIBRARIES = {"toolchain's standard library": ("src", "specs", "proofs"), "toolchain's crates ": ("src", "specs")}
 # A line by which a file of code, or a clause in it, uses a library.
@@ -79,10 +83,14 @@ def may_wait() -> Iterator[str]:
 # ---- sizes
 
 
-def lines_of(folders: Iterator[pathlib.Path]) -> int:
+def lines_in(files: Iterable[pathlib.Path]) -> int:
+    """The lines of these files."""
+    return sum(len(file.read_text("utf-8").splitlines()) for file in files)
+
+
+def lines_of(folders: Iterable[pathlib.Path]) -> int:
     """The lines of code, definitions and proofs in these folders."""
-    return sum(len(file.read_text("utf-8").splitlines()) for folder in folders for file in folder.rglob("*")
-               if file.suffix in (".rt", ".antt"))
+    return lines_in(file for folder in folders for file in folder.rglob("*") if file.suffix in (".rt", ".antt"))
 
 
 def bytes_of(files: Iterable[pathlib.Path]) -> int:
@@ -120,7 +128,11 @@ def sizes(text: str) -> Iterator[tuple[str, int]]:
     for what, folder in (("code", "src"), ("definitions", "specs"), ("proofs", "proofs")):
         yield f"{what} of `./audit`", lines_of(CRATES / name / folder for name in auditor)
     yield "definitions of the headline", len((ROOT / "docs/DEFINITIONS.md").read_text("utf-8").splitlines())
+    yield "definitions of `listing_tables`", lines_of([CRATES / "listing_tables/specs"])
+    yield SCRIPTS, lines_in(CRATES / name for name in NAMED.findall(SCRIPTS.replace("crates/", "")))
     if kit := toolchain():
+        yield RT, lines_in(kit / "bin" / it for it in ("rt", "rtlib.py"))
+        yield LINKERS, bytes_of([kit / "bin/rattle-link"])
         yield "toolchain's prover", bytes_of([kit / "bin/rattle"])
         yield "toolchain's compilers", bytes_of(kit / f"toolchain/bin/{name}" for name in ("clang", "rattle-x64"))
         yield "toolchain's logic, in `logic_built`", bytes_of((kit / "logic_built").iterdir())

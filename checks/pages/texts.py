@@ -16,7 +16,7 @@ What must hold:
   the libraries of the toolchain that the auditor stands on, and the sizes of what is trusted, up to a tenth. README.md
   has the number of wrong bodies.
 - README.md has the figures that docs/MEASURED.md has on the blind test and on the second recorder.
-- docs/DEFINITIONS.md is the page that checks/run definitions makes.
+- docs/DEFINITIONS.md and docs/TABLE-DEFINITIONS.md are the pages that checks/run definitions makes.
 - What stands in several sources, as the most bytes of a capture, has one value in all of them (owners.py).
 """
 
@@ -78,8 +78,8 @@ def wrong_bodies(page):
 
 def stale_lines(page):
     """The first line of docs/DEFINITIONS.md that is not as it is made, if there is one."""
-    if page == definitions.PAGE:
-        yield from definitions.stale()
+    if page in definitions.PAGES:
+        yield from definitions.stale(page)
 
 
 def judge(*_):
