@@ -197,6 +197,12 @@ def served(_: int) -> Iterator[Frame]:
 
 
 @costly
+def served_of_many_codes(_: int) -> Iterator[Frame]:
+    """Each thread serves a call with a code of its own, and never replies."""
+    return (got(1, at, transaction(BR_TRANSACTION, 0x5000, at, buffer=16 * at)) for at in count(1))
+
+
+@costly
 def opened_then_closed(size: int) -> Iterator[Frame]:
     half = size // 2 // 68 // AT_ONCE
     return chain(repeat(wrote(1, 1, *[transaction(BC_TRANSACTION, 1)] * AT_ONCE), half),

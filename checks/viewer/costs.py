@@ -1,6 +1,7 @@
 """Checks that no capture is costly to judge: what the rules take grows as a capture does, whatever it has much of.
 
-    checks/run costs                          judges each capture of costly.py in two sizes
+    checks/run costs                          judges each capture of costly.py in two sizes, of plain tables and of
+                                              packed ones
     checks/run costs   -- --bytes N [NAME]    runs `./view --groups` on captures of N bytes, all or those with this text
                                               in the name, and prints what each takes. 8 MiB must end in a minute of the
                                               processor, below 1 GB: half an hour
@@ -11,21 +12,21 @@ not counted.
 """
 
 import argparse
+import itertools
 import os
 import pathlib
 import sqlite3
-import subprocess
 import tempfile
 from concurrent.futures import ProcessPoolExecutor
 from typing import Iterator
+from unittest import mock
 
 from checks.kit.checking import Fail, check, row
-from checks.kit.programs import AUDITOR, ROOT, TABLES
+from checks.kit.programs import ROOT
 from checks.kit.runs import measured_run
 from checks.viewer.costly import COSTLY, write_costly
-from viewer.database import loading, raw_tables
+from viewer.database import finders, loading, raw_tables
 from viewer.database.programs import build_programs
-from viewer.database.sqlite import open_database
 from viewer.rules import judging
 
 # The two sizes, how much more the greater one may take, and how many instructions are not looked at.
@@ -50,31 +51,31 @@ class Counted:
         return 0
 
 
-def instructions(name: str, size: int, room: pathlib.Path) -> int:
-    """How many it takes to judge a costly capture of this size."""
-    with tempfile.TemporaryDirectory(dir=room) as made_in:
-        folder = pathlib.Path(made_in)
-        capture, report, rows, made = (folder / f"it.{what}" for what in ("cap", "report", "rows", "db"))
-        write_costly(name, size, capture)
-        rows.mkdir()
-        with open(report, "wb") as out:
-            subprocess.run([AUDITOR, "report", capture], stdout=out, check=True)
-        subprocess.run([TABLES, "--tables", rows, capture], stdout=subprocess.DEVNULL, check=True)
-        raw_tables.load_rows(made, rows, None)
-        database = open_database(made)
-        loading.fill(database, [str(capture)], None, report, None)
+def instructions(name: str, size: int, packed: bool, room: pathlib.Path) -> int:
+    """How many it takes to judge a costly capture of this size, in one process."""
+    taken = []
+
+    def judge(database: sqlite3.Connection, **_: object) -> None:
         counted = Counted(database)
         judging.judge(database)
-        database.close()
-        return counted.instructions
+        taken.append(counted.instructions)
+
+    with tempfile.TemporaryDirectory(dir=room) as folder:
+        capture = pathlib.Path(folder, "it.cap")
+        write_costly(name, size, capture)
+        with mock.patch.multiple(loading, judge=judge, LEAST_PACKED=0), \
+                mock.patch.object(finders, "LEAST_RECORDS", 2**63):
+            loading.database_of(ROOT, [str(capture)], None, capture.with_suffix(".db"), lambda _: None, kept=not packed)
+    return taken[0]
 
 
-def growth_of(name: str, room: pathlib.Path) -> str | None:
+def growth_of(name: str, packed: bool, room: pathlib.Path) -> str | None:
     """What is wrong with how the instructions for a costly capture grow."""
-    small, great = (instructions(name, size, room) for size in (SMALL, GREAT))
+    small, great = (instructions(name, size, packed, room) for size in (SMALL, GREAT))
     if great <= max(FEW, GROWTH * small):
         return None
-    return f"{name}: {GREAT} bytes take {great} instructions of SQLite, {SMALL} bytes {small}"
+    return (f"{name}, {'packed' if packed else 'plain'} tables: {GREAT} bytes take {great} instructions of SQLite, "
+            f"{SMALL} bytes {small}")
 
 
 def run_each(names: list[str], size: int, room: pathlib.Path) -> Iterator[str]:
@@ -101,7 +102,7 @@ def judge(given: argparse.Namespace, room: pathlib.Path, fail: Fail) -> None:
             fail(fault)
         return
     with ProcessPoolExecutor(os.cpu_count()) as pool:
-        for fault in pool.map(growth_of, COSTLY, [room] * len(COSTLY)):
+        for fault in pool.map(growth_of, *zip(*itertools.product(COSTLY, (False, True), [room]))):
             if fault:
                 fail(fault)
 

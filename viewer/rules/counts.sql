@@ -1,7 +1,7 @@
 -- How many took the path of each finding, how many of these came to a good end, and how long that took at most.
 -- needs: database/schema.sql: finding, raw_generation, raw_record, raw_send; sums.sql: came_sum, sent_sum, served_sum;
 --   nodes.sql: node_of; paths.sql: answered, given, given_way
--- makes: temporary tables: buffer_path, send_path, served_path; indexes: buffer_path_of
+-- makes: temporary tables: buffer_path, send_path, served_path; indexes: buffer_path_of, send_path_of, served_path_of
 
 -- Buffers, by what they came for, and by the process that got them and must free them: of each path that has a finding
 -- how many there are, how many were freed, and how long these were held. Of calls the path says which process gets
@@ -36,14 +36,17 @@ UPDATE finding SET (n_all, n_good, longest_seq, longest) = (
 WHERE section = 'buffers';
 
 -- Calls and oneway sends to a target, by code: how many were answered or delivered, and how long that took.
+CREATE TEMP TABLE send_path(code INTEGER, upid INTEGER, ptr INTEGER, cookie INTEGER, oneway INTEGER, n INTEGER,
+  good INTEGER, longest_seq INTEGER, longest INTEGER);
 -- beside: records.sql
-CREATE TEMP TABLE send_path AS
+INSERT INTO send_path
 SELECT s.code, coalesce(n.upid, -g.upid) AS upid, coalesce(n.ptr, g.handle) AS ptr, coalesce(n.cookie, 0) AS cookie,
   s.oneway, sum(s.sends) AS n, sum(s.good) AS good, max(s.good_seq) AS longest_seq, max(s.good_time) AS longest
 FROM sent_sum s JOIN raw_generation g ON g.id = s.generation LEFT JOIN node_of n ON n.generation = s.generation
 WHERE s.code IN (SELECT code FROM finding
     WHERE section IN ('calls', 'refused', 'strays', 'oneway', 'spam', 'objects', 'books'))
 GROUP BY 1, 2, 3, 4, 5;
+CREATE UNIQUE INDEX temp.send_path_of ON send_path(code, upid, ptr, cookie, oneway);
 UPDATE finding SET n_all = p.n, n_good = p.good, longest_seq = p.longest_seq, longest = p.longest
 FROM send_path p, raw_record r
 WHERE section IN ('calls', 'refused', 'oneway', 'spam', 'strays', 'objects') AND r.place = finding.place
@@ -56,10 +59,13 @@ UPDATE finding SET n_good = p.good, longest_seq = p.longest_seq, longest = p.lon
 WHERE section = 'books' AND NOT p.oneway
   AND (p.code, p.upid, p.ptr, p.cookie) = (finding.code, finding.target, finding.ptr, finding.cookie);
 -- Served calls of a node, by code.
+CREATE TEMP TABLE served_path(code INTEGER, upid INTEGER, ptr INTEGER, cookie INTEGER, n INTEGER, good INTEGER,
+  longest_seq INTEGER, longest INTEGER);
 -- beside: records.sql
-CREATE TEMP TABLE served_path AS
+INSERT INTO served_path
 SELECT code, upid, ptr, cookie, n, good, longest_seq, longest FROM served_sum
 WHERE code IN (SELECT code FROM finding WHERE section = 'served');
+CREATE UNIQUE INDEX temp.served_path_of ON served_path(code, upid, ptr, cookie);
 UPDATE finding SET n_all = p.n, n_good = p.good, longest_seq = p.longest_seq, longest = p.longest
 FROM served_path p
 WHERE section = 'served'

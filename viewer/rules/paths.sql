@@ -5,9 +5,9 @@
 --   object_named, service_named; judging.py: call_words, name_words, object_words, path_text, short_name, status_name,
 --   thing_words
 -- after: records.sql
--- makes: tables: way; temporary tables: given_by, given, given_way, object_of, answered, way_named; temporary views:
---   way_path, finding_names, thing_path, path_of; indexes: given_generation, given_way_of, object_of_generation,
---   answered_of, way_named_of
+-- makes: tables: way; temporary tables: given_by, given, given_way, object_of, status_of, answered, way_named;
+--   temporary views: way_path, finding_names, thing_path, path_of; indexes: given_generation, given_way_of,
+--   object_of_generation, status_of_call, answered_of, way_named_of
 
 -- ---- what a finding is about
 
@@ -82,6 +82,11 @@ SELECT
 FROM raw_generation o LEFT JOIN given g ON g.generation = o.id LEFT JOIN node_of n ON n.generation = o.id
 WHERE EXISTS (SELECT 1 FROM finding WHERE section = 'answers');
 CREATE UNIQUE INDEX temp.object_of_generation ON object_of(generation);
+-- The statuses with which calls were answered.
+CREATE TEMP TABLE status_of(call INTEGER, value INTEGER);
+INSERT INTO status_of
+SELECT d.call, x.value FROM (SELECT 1 FROM object_of LIMIT 1) CROSS JOIN status x JOIN raw_delivery d USING (place);
+CREATE INDEX temp.status_of_call ON status_of(call);
 -- How many were answered, and how many of these with a status; and the name of such calls, if those that have one
 -- agree.
 CREATE TEMP TABLE answered(code INTEGER, way INTEGER, about INTEGER, node INTEGER, n INTEGER, others INTEGER);
@@ -92,10 +97,10 @@ SELECT
   iif(o.way IS NULL, o.about, NULL) AS about,
   iif(o.way IS NULL, o.node, NULL) AS node,
   count(*) AS n,
-  sum(d.status) AS others
+  count(x.call) AS others
 FROM (SELECT 1 FROM object_of LIMIT 1) CROSS JOIN raw_call c JOIN raw_send s USING (place)
   JOIN raw_record r USING (place) JOIN object_of o USING (generation)
-  LEFT JOIN (SELECT d.call, 1 AS status FROM status x JOIN raw_delivery d USING (place)) d ON d.call = c.place
+  LEFT JOIN status_of x ON x.call = c.place
 WHERE c.verdict = 1 AND c.served = 0 AND r.code IN (SELECT code FROM finding WHERE section = 'answers')
 GROUP BY 1, 2, 3, 4;
 CREATE UNIQUE INDEX temp.answered_of ON answered(code, way, about, node);
@@ -111,8 +116,8 @@ UPDATE finding SET
   way = o.way,
   about = iif(o.way IS NULL, o.about, NULL),
   node = iif(o.way IS NULL, o.node, NULL)
-FROM object_of o, status x JOIN raw_delivery d USING (place)
-WHERE section = 'answers' AND o.generation = finding.generation AND d.call = finding.place;
+FROM object_of o, status_of x
+WHERE section = 'answers' AND o.generation = finding.generation AND x.call = finding.place;
 
 -- ---- the texts
 
