@@ -15,6 +15,13 @@ DEVIATIONS = 1.959964
 # there are never more orders than this.
 MET, MOST_ORDERS = 50, 100_000
 
+# A look at a test ends sooner. What it finds to be chance stays so: the right p is hardly smaller by the factor DOUBT.
+FEW_MET, FEW_ORDERS, DOUBT = 10, 1000, 4
+
+# Of so many orders of many captures one is drawn, and the others are that one turned: few captures would have the same
+# orders again and again.
+TURNED, MANY = 8, 200
+
 # Every order is drawn from this seed, so the same lab always gives the same p.
 SEED = 1
 
@@ -62,12 +69,15 @@ def least_order_p(old: int, new: int, having: int) -> float:
 
 
 class Counted(NamedTuple):
-    """Numbers of captures, as bits: a mask for each binary digit, which has a bit for each capture. So the sum over any
-    captures, which are a mask too, takes a few steps."""
+    """Numbers of captures, as bits: a mask for each binary digit, the highest first, which has a bit for each capture.
+    So the sum over any captures, which are a mask too, takes a few steps."""
     digits: list[int]
 
     def sum(self, captures: int) -> int:
-        return sum((digit & captures).bit_count() << at for at, digit in enumerate(self.digits))
+        total = 0
+        for digit in self.digits:
+            total = 2 * total + (digit & captures).bit_count()
+        return total
 
 
 def mask_of(places: list[int]) -> int:
@@ -89,7 +99,7 @@ def counted(numbers: Iterable[tuple[int, int]]) -> Counted:
         for at in range(number.bit_length()):
             if number >> at & 1:
                 digits[at] |= captures
-    return Counted(digits)
+    return Counted(digits[::-1])
 
 
 class Orders:
@@ -103,6 +113,8 @@ class Orders:
         self.seen = (1 << self.captures) - (1 << self.captures - new)
         self.seen_seconds = self.lengths.sum(self.seen)
         self.chance, self.drawn = random.Random(SEED), list[tuple[int, int]]()
+        self.all = (1 << self.captures) - 1
+        self.turned_each = TURNED if self.captures >= MANY else 1
         # The share of the new ones, in binary digits, the last one first.
         self.share = [256 * new // self.captures >> at & 1 for at in range(8)]
 
@@ -118,30 +130,38 @@ class Orders:
             captures = captures | one if more > 0 else captures & ~one
         return captures
 
+    def turned(self, captures: int) -> int:
+        """A choice of captures, turned by chance: each one is the same number of places further on, the last ones at
+        the beginning. It is as likely as any other, and takes a tenth of the time of one that is drawn."""
+        places = int(self.chance.random() * self.captures)
+        return (captures << places | captures >> self.captures - places) & self.all
+
     def some(self, most: int) -> Iterator[tuple[int, int]]:
         """So many orders, the same ones each time."""
         for number in range(most):
             if number == len(self.drawn):
-                captures = self.draw()
+                captures = self.draw() if number % self.turned_each == 0 else self.turned(self.drawn[-1][0])
                 self.drawn.append((captures, self.lengths.sum(captures)))
             yield self.drawn[number]
 
-    def p(self, findings: Iterable[tuple[int, int]], most: int) -> float:
+    def p(self, findings: Iterable[tuple[int, int]], most: int, enough: int = MET) -> float:
         """The p of a permutation test, of both sides: how often findings an hour differ as much as they do if each
         capture may be of either build. A capture keeps its findings and its length, because findings come in clumps.
         The test ends early where chance is likely, and p is right then too (Besag and Clifford, 1991)."""
         numbers = counted(findings)
-        total = numbers.sum((1 << self.captures) - 1)
-
-        def unlike(captures: int, seconds: int) -> int:
-            return abs(numbers.sum(captures) * self.total - total * seconds)
-
-        seen, met = unlike(self.seen, self.seen_seconds), 0
+        of_seconds, of_findings = self.total, numbers.sum(self.all)
+        seen, met = abs(numbers.sum(self.seen) * of_seconds - of_findings * self.seen_seconds), 0
         for number, (captures, seconds) in enumerate(self.some(most), 1):
-            met += unlike(captures, seconds) >= seen
-            if met == MET:
+            met += abs(numbers.sum(captures) * of_seconds - of_findings * seconds) >= seen
+            if met == enough:
                 return met / number
         return (met + 1) / (most + 1)
+
+
+def least_after(p: float, orders: int) -> float:
+    """How small a p may be after a look at so many orders. If too few of them were as unlike, nothing is known of it.
+    """
+    return p / DOUBT if p > FEW_MET / orders else 0.0
 
 
 # ---- many defects

@@ -55,6 +55,12 @@ class Row(NamedTuple):
     def tests(self) -> list[float]:
         return [p for p in (self.p_captures, self.p_real, self.p_rate) if p is not None]
 
+    def least(self, looked: int) -> Iterator[float]:
+        """The same, as small as each may be after a look at so many orders."""
+        yield from (p for p in (self.p_captures, self.p_real) if p is not None)
+        if self.p_rate is not None:
+            yield chance.least_after(self.p_rate, looked)
+
     @property
     def p(self) -> float:
         """The p of the test that says most."""
@@ -105,16 +111,29 @@ class Comparison:
     def tested(self, found: dict[tuple[str, Text], list[Found]]) -> list[Row]:
         tests = sum(self.may_tell(len(some)) + self.rate_may_tell(some) for some in found.values())
         orders = chance.orders_for(tests, self.rate)
-        return [self.row(key, text, some, orders) for (key, text), some in found.items()]
+        rows, looked = [self.row(key, text, some) for (key, text), some in found.items()], chance.FEW_ORDERS
+        for enough in chance.FEW_MET, chance.MET:
+            # No limit is larger than the one by the least that each p may be.
+            limit = chance.limit((least for row in rows for least in row.least(looked)), self.rate)
+            rows = [row if row.p_rate is None or chance.least_after(row.p_rate, looked) > limit
+                    else row._replace(p_rate=self.rate_p(some, orders, enough))
+                    for row, some in zip(rows, found.values())]
+            looked = orders
+        return rows
 
-    def row(self, key: str, text: Text, found: list[Found], orders: int) -> Row:
+    def rate_p(self, found: list[Found], orders: int, enough: int) -> float:
+        place = self.sides.place
+        return self.sides.orders.p(((place[one.capture], one.n) for one in found), orders, enough)
+
+    def row(self, key: str, text: Text, found: list[Found]) -> Row:
+        """A defect, by a short look at its findings."""
         before, now = self.sides.seen(found, False), self.sides.seen(found, True)
         p_captures = p_real = p_rate = None
         if self.may_tell(len(found)):
             p_captures = chance.fisher(before.captures, self.sides.old, now.captures, self.sides.new)
         # If one side has none, its captures say it all.
         if before.captures and now.captures and self.rate_may_tell(found):
-            p_rate = self.sides.orders.p(((self.sides.place[one.capture], one.n) for one in found), orders)
+            p_rate = self.rate_p(found, chance.FEW_ORDERS, chance.FEW_MET)
         real = before.real + now.real
         if real < len(found) and self.may_tell(real):
             p_real = chance.fisher(before.real, self.sides.old, now.real, self.sides.new)

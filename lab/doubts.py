@@ -64,7 +64,7 @@ def unlike_captures(compared: Comparison) -> Iterator[str]:
 
 def several_versions(compared: Comparison) -> Iterator[str]:
     versions = versions_of(compared.sides.lab, [build.name for build in compared.builds])
-    if len(versions) > 1:
+    if versions:
         yield f"results of several versions, whose rules may differ: {', '.join(versions)}"
 
 

@@ -77,7 +77,8 @@ def fields(kind: Kind, names: str) -> dict[str, Kind]:
 
 # What a result says of its capture.
 CAPTURE = {
-    "digest": hexadecimal(32), "build": NAME, "device": NAME, "made": NUMBER, "left_out": WHOLE,
+    "digest": hexadecimal(32), "basis": optional(hexadecimal(32)), "build": NAME, "device": NAME, "made": NUMBER,
+    "left_out": WHOLE,
     **fields(optional(TEXT), "file doubt malformed failed kernel version"), "seconds": optional(NUMBER),
     **fields(optional(WHOLE), "begun bytes frames records missing lost side prints methods")}
 

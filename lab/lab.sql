@@ -6,7 +6,7 @@ PRAGMA user_version = 1;
 CREATE TABLE IF NOT EXISTS capture(id INTEGER PRIMARY KEY, digest TEXT NOT NULL UNIQUE, build TEXT NOT NULL,
   device TEXT NOT NULL, file TEXT, made REAL NOT NULL, begun INTEGER, seconds REAL, bytes INTEGER, frames INTEGER,
   records INTEGER, missing INTEGER, lost INTEGER, side INTEGER, doubt TEXT, malformed TEXT, failed TEXT, kernel TEXT,
-  version TEXT, prints INTEGER, methods INTEGER, left_out INTEGER NOT NULL);
+  version TEXT, prints INTEGER, methods INTEGER, left_out INTEGER NOT NULL, basis TEXT);
 CREATE TABLE IF NOT EXISTS defect(id TEXT PRIMARY KEY, kind TEXT NOT NULL, who TEXT NOT NULL, path TEXT NOT NULL,
   call TEXT);
 CREATE TABLE IF NOT EXISTS found(capture INTEGER NOT NULL, defect TEXT NOT NULL, verdict TEXT NOT NULL,

@@ -11,6 +11,7 @@ import time
 from typing import Iterator, NamedTuple
 
 from lab import result
+from lab.basis import basis_of, tables_of
 from lab.wrong_list import why_wrong
 from viewer.database import side_belongs
 from viewer.defects.seen import kept_database
@@ -146,7 +147,8 @@ def one(root: pathlib.Path, inputs: Inputs, build: str, device: str, to: pathlib
         digest = digest_of(inputs.files)
         made = result_of(root, inputs, seconds)
         # Not by time.time(), which can't say the time of a clock that is wrong by centuries.
-        made["capture"] = {"digest": digest, "build": build, "device": device,
+        made["capture"] = {"digest": digest, "basis": basis_of(root), "tables": tables_of(inputs.methods),
+                           "build": build, "device": device,
                            "file": result.short(shown_name(inputs.files)), **made["capture"],
                            "made": time.clock_gettime(time.CLOCK_REALTIME), "version": version(root)}
     result.write(made, to)

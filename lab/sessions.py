@@ -5,7 +5,7 @@
 
 The captures of a session are LAB/BUILD/DEVICE/SESSION.cap, or its parts SESSION-1.cap, SESSION-2.cap and so on, with
 SESSION.side beside them, or a side list for each part. With --left only sessions are listed whose result is missing,
-or older than its captures, its side lists or the programs.
+older than its captures or its side lists, or made by other programs, rules or tables of methods.
 
 Names of builds, devices, sessions and tables of methods become words of make and of a shell. So a name is refused that
 has other signs than A-Z, a-z, 0-9, `.`, `_`, `+` and `-`, or that begins with `.` or `-`: it is not listed, and neither
@@ -16,6 +16,7 @@ Status 0: listed. 1: with --refused, something is left out. 4: LAB can't be read
 """
 
 import argparse
+import contextlib
 import os
 import pathlib
 import re
@@ -28,8 +29,8 @@ sys.path.insert(0, str(HERE.parent))
 sys.dont_write_bytecode |= not (HERE.parent / "crates/build").exists()
 from viewer.whole_python import need_whole_python  # noqa: E402
 need_whole_python("fleet")
+from lab.basis import basis_of, said_in, tables_of  # noqa: E402
 from viewer.files import Stopped  # noqa: E402
-from viewer.program_names import BEHIND, LIBRARY, PACKED  # noqa: E402
 from viewer.terminal import tell, write  # noqa: E402
 
 NAME = re.compile(r"[A-Za-z0-9_+][A-Za-z0-9._+-]*")
@@ -54,6 +55,8 @@ class Lab:
         self.folder = folder
         self.refused: dict[str, str] = {}
         self.captured: set[str] = set()
+        # The tables of methods of each build.
+        self.tables: dict[str, list[str]] = {}
         self.changed: dict[str, int] = {}
         for build in self.named(self.entries()):
             if build.name != RESULTS and build.is_dir():
@@ -89,6 +92,7 @@ class Lab:
         entries = self.entries(build)
         tables = [it.name for it in entries if it.name.endswith(".methods") and not NAME.fullmatch(it.name)]
         self.refused.update({f"{build}/{table}": WRONG_TABLE for table in tables})
+        self.tables[build] = [it.path for it in entries if it.name.endswith(".methods") and it.is_file()]
         for device in self.named(entries, build):
             if device.is_dir() and not tables:
                 self.take_device(build, device.name)
@@ -115,22 +119,22 @@ class Lab:
         self.changed[session] = max(self.changed.get(session, 0), state.st_mtime_ns)
         return None
 
-    def is_left(self, session: str, newest: int) -> bool:
-        """Whether a session has no result, or one that is older than its files or the newest program."""
+    def left(self, basis: str) -> list[str]:
+        """The sessions without a result, with one that is older than their files, or one that rests on something else:
+        on another basis, or on other tables of methods."""
+        due = {}
+        for build, tables in self.tables.items():
+            with contextlib.suppress(OSError):
+                due[build] = {"basis": basis, "tables": tables_of(tables)}
+        return [session for session in sorted(self.captured) if self.is_left(session, due)]
+
+    def is_left(self, session: str, due: dict[str, dict[str, str]]) -> bool:
+        path = os.path.join(self.folder, RESULTS, f"{session}.json")
         try:
-            made = os.stat(os.path.join(self.folder, RESULTS, f"{session}.json")).st_mtime_ns
+            made = os.stat(path).st_mtime_ns
+            return made < self.changed[session] or said_in(path) != due.get(session.partition("/")[0])
         except OSError:
             return True
-        return made < max(self.changed[session], newest)
-
-
-def newest_program() -> int:
-    """The time of the newest of the programs, and of the rules, by which results are made."""
-    viewer, crates = HERE.parent / "viewer", HERE.parent / "crates"
-    files = [path for folder in (viewer / "rules", viewer / "database", HERE) for path in folder.rglob("*")
-             if path.suffix in (".sql", ".py")]
-    files += [LIBRARY / name if PACKED else crates / name / "out" / name for name in BEHIND.values()]
-    return max(path.stat().st_mtime_ns for path in files if path.exists())
 
 
 def main() -> int:
@@ -145,8 +149,7 @@ def main() -> int:
             for path, why in lab.refused.items():
                 tell("fleet", f"{os.path.join(asked.lab, path)} is left out: {why}")
             return 1 if lab.refused else 0
-        newest = newest_program() if asked.left else 0
-        write(f"{it}\n" for it in sorted(lab.captured) if not asked.left or lab.is_left(it, newest))
+        write(f"{it}\n" for it in (lab.left(basis_of(HERE.parent)) if asked.left else sorted(lab.captured)))
         return 0
     except Stopped as stopped:
         tell("fleet", str(stopped))

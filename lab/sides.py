@@ -9,6 +9,7 @@ from typing import NamedTuple
 
 from lab import chance
 from lab.renamed import WORD, Renamed, Text
+from lab.store import lacks_basis
 from viewer.files import Stopped
 from viewer.units import counted
 
@@ -89,8 +90,13 @@ def refuse_mix(lab: sqlite3.Connection, builds: list[str]) -> None:
 
 
 def versions_of(lab: sqlite3.Connection, builds: list[str]) -> list[str]:
-    return [version or "unknown" for version, in lab.execute(
-        f"SELECT DISTINCT version FROM capture WHERE build IN ({', '.join('?' * len(builds))}) ORDER BY 1", builds)]
+    """The versions that made the results of these builds, if they rest on several programs or rules. A version that
+    only shows or compares results otherwise is none."""
+    what = "version" if lacks_basis(lab) else "coalesce(basis, version)"
+    rows = lab.execute(f"SELECT DISTINCT {what}, version FROM capture WHERE build IN ({', '.join('?' * len(builds))})",
+                       builds).fetchall()
+    versions = {version or "unknown" for _, version in rows}
+    return sorted(versions) if len({basis for basis, _ in rows}) > 1 else []
 
 
 class Sides:

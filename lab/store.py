@@ -56,18 +56,24 @@ def is_new(lab: sqlite3.Connection) -> bool:
     return layout == 0 and not lab.execute("SELECT 1 FROM sqlite_schema").fetchone()
 
 
-def strange_rows(table: str, kinds: dict[str, Kind]) -> str:
+def lacks_basis(lab: sqlite3.Connection) -> bool:
+    """Whether it is a lab of before results said on what they rest."""
+    return not lab.execute("SELECT 1 FROM pragma_table_info('capture') WHERE name = 'basis'").fetchone()
+
+
+def strange_rows(table: str, kinds: dict[str, Kind], but: str | None) -> str:
     """The query for rows of a table that no result has: a value is of another type."""
     return f"SELECT 1 FROM {table} WHERE " + " OR ".join(
         f"typeof({column}) NOT IN ({', '.join(map(repr, kinds[name].types))})"
-        for column, name in TABLES[table].items())
+        for column, name in TABLES[table].items() if column != but)
 
 
 def is_lab(lab: sqlite3.Connection) -> bool:
     """Whether a database has the tables of a lab, and in its captures and defects what results have."""
     there = {name for name, in lab.execute("SELECT name FROM sqlite_schema WHERE type = 'table'")}
+    but = "basis" if lacks_basis(lab) else None
     return set(TABLES) <= there and not any(
-        lab.execute(strange_rows(table, kinds)).fetchone()
+        lab.execute(strange_rows(table, kinds, but)).fetchone()
         for table, kinds in (("capture", CAPTURE), ("defect", ROWS["found"])))
 
 
@@ -85,6 +91,8 @@ def make(lab: sqlite3.Connection) -> None:
     lab.execute("BEGIN IMMEDIATE")
     for statement in (FOLDER / "lab.sql").read_text("utf-8").split(";\n"):
         lab.execute(statement)
+    if lacks_basis(lab):
+        lab.execute("ALTER TABLE capture ADD COLUMN basis TEXT")
     lab.execute("COMMIT")
 
 

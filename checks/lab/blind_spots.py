@@ -1,16 +1,19 @@
 """What a lab can't see is said, and what should fail fails: cases of `chances`."""
 
 import json
+import os
 import pathlib
 import random
 import re
+import shutil
 from contextlib import closing
 from xml.etree import ElementTree
 
 from checks.kit.checking import Fail, compare
 from checks.kit.programs import ROOT
 from checks.lab.models import Model, alone, finding, lab_of, results, small_lab
-from lab import power, reports
+from lab import power, reports, result, sessions
+from lab.basis import basis_of, tables_of
 from lab.compare import Comparison, Enough
 from lab.doubts import doubts
 from lab.fail_on import FailOn, fail_on
@@ -189,5 +192,35 @@ def check_clocks(_: pathlib.Path, room: pathlib.Path, fail: Fail) -> None:
         compare("clocks that contradict the file: told", len(said), 1, fail)
 
 
+def check_basis(_: pathlib.Path, room: pathlib.Path, fail: Fail) -> None:
+    """What makes results, and nothing else, makes sessions be done again: not a page, a comparison or a date. Tables of
+    methods do for their build."""
+    for name in "viewer", "lab":
+        shutil.copytree(ROOT / name, room / "root" / name, ignore=shutil.ignore_patterns("out", "__pycache__"))
+    root, lab = room / "root", room / "lab"
+    for session in "b1/d1/s", "b2/d1/s":
+        (lab / session).parent.mkdir(parents=True)
+        (lab / f"{session}.cap").write_bytes(b"")
+        made = {"digest": "0" * 32, "basis": basis_of(root), "tables": tables_of([])}
+        result.write({"capture": made, "found": [], "talk": [], "held": []}, lab / "results" / f"{session}.json")
+
+    def left() -> list[str]:
+        return sessions.Lab(str(lab)).left(basis_of(root))
+
+    compare("sessions left: all are made", left(), [], fail)
+    for name in "lab/page/page.css", "lab/compare.py", "lab/page/templates/lab.html", "viewer/page/page.py":
+        with open(root / name, "a", encoding="utf-8") as file:
+            file.write("\n")
+    os.utime(root / "viewer/rules/deaths.sql")
+    compare("sessions left: a page and a comparison changed", left(), [], fail)
+    (lab / "b2/of.methods").write_text("", "utf-8")
+    compare("sessions left: a table of methods came", left(), ["b2/d1/s"], fail)
+    for name in "viewer/rules/deaths.sql", "lab/result.py", "viewer/page/queries/defects.sql":
+        before = (root / name).read_bytes()
+        (root / name).write_bytes(before + b"\n")
+        compare(f"sessions left: {name} changed", left(), ["b1/d1/s", "b2/d1/s"], fail)
+        (root / name).write_bytes(before)
+
+
 BLIND_SPOTS = (check_worse_beside_one, check_too_few, check_power, check_uncounted, check_grown_fails, check_first_seen,
-               check_renamed, check_clocks)
+               check_renamed, check_clocks, check_basis)
