@@ -3,11 +3,11 @@
 #
 #     gate.sh LAB [OLD.. NEW] [-- OPTION..]
 #
-# Without builds the last one is compared with the two before it. OPTIONS are those of `fleet compare`, beside `--usable
-# 50`, and files known.txt, renamed.txt and order.txt of LAB, if they are there. The status is that of `fleet compare`.
+# Without builds the last one is compared with the two before it. OPTIONS are those of `fleet compare`, after `--usable
+# 50 --fail-on grown:4`, and files known.txt, renamed.txt and order.txt of LAB, if they are there. The status is that of `fleet compare`.
 set -euo pipefail
 here=$(cd -- "${BASH_SOURCE[0]%/*}" && pwd)
-lab=$1 builds=() words=(--usable 50 --junit "$1/gate.xml") order=()
+lab=$1 builds=() words=(--usable 50 --fail-on grown:4 --junit "$1/gate.xml") order=()
 shift
 while (($#)) && [[ $1 != -- ]]; do builds+=("$1") && shift; done
 for file in known renamed order; do
