@@ -17,6 +17,7 @@ static struct worker worker = WORKER;
 
 /* What only the reading thread has. */
 static struct table files;		/* by number and device: the address of what is kept of the file */
+static const struct mapped_file *last_file;
 static u32 file_count;
 
 /* ---- one process */
@@ -45,18 +46,43 @@ static int read_line(struct line *line, char *text)
 	return 1;
 }
 
+/* Opens a file only to look at it: a device or a FIFO does not notice that. */
+static int open_to_look(const char *path, struct stat *status)
+{
+	int file = open(path, O_PATH | O_CLOEXEC);
+	if (file >= 0 && !fstat(file, status))
+		return file;
+	if (file >= 0)
+		close(file);
+	return -1;
+}
+
+/* Opens for reading what was opened to be looked at, whatever its path leads to by now. Only files are read. */
+static int open_looked_at(int file, const struct stat *status)
+{
+	char path[64];
+	snprintf(path, sizeof path, "/proc/self/fd/%d", file);
+	int opened = S_ISREG(status->st_mode) ? open(path, O_RDONLY | O_CLOEXEC) : -1;
+	close(file);
+	return opened;
+}
+
 /* Opens what is mapped there: also if its path leads to another file by now. */
 static int open_mapped(u32 process, const struct line *line, struct stat *status)
 {
 	char path[LONGEST_PATH + 64];
 	snprintf(path, sizeof path, "/proc/%u/map_files/%llx-%llx", process, (unsigned long long)line->start,
 		 (unsigned long long)line->end);
-	if (stat(path, status)) {
-		snprintf(path, sizeof path, "/proc/%u/root%s", process, line->path);
-		if (stat(path, status) || status->st_ino != line->number)
-			return -1;
-	}
-	return S_ISREG(status->st_mode) ? open(path, O_RDONLY | O_CLOEXEC | O_NOCTTY | O_NONBLOCK) : -1;
+	int file = open_to_look(path, status);
+	if (file >= 0)
+		return open_looked_at(file, status);
+	snprintf(path, sizeof path, "/proc/%u/root%s", process, line->path);
+	file = open_to_look(path, status);
+	if (file >= 0 && status->st_ino == line->number)
+		return open_looked_at(file, status);
+	if (file >= 0)
+		close(file);
+	return -1;
 }
 
 static struct mapped_file *new_file(const char *path)
@@ -64,6 +90,8 @@ static struct mapped_file *new_file(const char *path)
 	u64 length = strnlen(path, LONGEST_PATH);
 	struct mapped_file *file = allocate(sizeof *file + length + 1);
 	memcpy(file->path, path, length);
+	file->before = last_file;
+	last_file = file;
 	file_count++;
 	return file;
 }

@@ -6,8 +6,9 @@
 #include "code_file.h"
 #include "worker.h"
 
-/* A file that is mapped. It is kept until the end. */
+/* A file that is mapped. It is kept until the end, also when it has changed since. */
 struct mapped_file {
+	const struct mapped_file *before;	/* the one that was read before it */
 	u64 changed;			/* when its bytes changed last */
 	struct code_file code;
 	char path[];

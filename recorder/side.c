@@ -206,11 +206,18 @@ void clean_name(char *to, const char *from, u32 length)
 	clean_bytes(to, from, (u32)strnlen(from, length));
 }
 
+/* Whether UTF-8 has U+0080 to U+009F there: a terminal takes them for control characters too. */
+static int is_high_control(const char *from, u32 count)
+{
+	return count > 1 && (unsigned char)from[0] == 0xc2 && (unsigned char)from[1] >= 0x80 && (unsigned char)from[1] < 0xa0;
+}
+
 void clean_bytes(char *to, const char *from, u32 count)
 {
 	for (u32 i = 0; i < count; i++) {
-		unsigned char byte = (unsigned char)from[i];
-		if (byte < 0x20 || byte == 0x7f || byte == '\\')
+		int is_high = is_high_control(from + i, count - i);
+		unsigned char byte = (unsigned char)from[i += (u32)is_high];
+		if (is_high || byte < 0x20 || byte == 0x7f || byte == '\\')
 			to += sprintf(to, "\\x%02x", byte);
 		else
 			*to++ = (char)byte;

@@ -316,7 +316,7 @@ static void hear_whole_chunk(const struct chunk *chunk, u64 bytes)
 	u64 at = sizeof *chunk + MULTIPLE_OF_8(chunk->commands);
 	while (at < bytes) {
 		const struct piece *piece = (const void *)((const u8 *)chunk + at);
-		if (!is_whole(&piece->head, MESSAGE_PIECE, bytes - at))
+		if (!is_whole(&piece->head, MESSAGE_PIECE, bytes - at) || piece->head.number != chunk->head.number)
 			break;
 		hear_piece(piece);
 		at += MULTIPLE_OF_8(sizeof *piece + piece->bytes);

@@ -2,30 +2,35 @@
 # Builds a program of these checks with what it needs of the recorder's loader. What the program defines itself, it has
 # in place of that.
 #
-#     build.sh [--sanitize] PROGRAM FOLDER [OPTION]..
+#     build.sh [--sanitize|--fuzz] PROGRAM FOLDER [OPTION]..
 #
 # PROGRAM is the name of its source here, without `.c`. The OPTIONs are for the compiler. With --sanitize the program
-# runs under the address and undefined-behaviour sanitizers, which end it at a fault. What several programs in a FOLDER
-# need of the loader is built once, so all of them are with --sanitize, or none.
+# runs under the address and undefined-behaviour sanitizers, which end it at a fault; with --fuzz also under clang's
+# libFuzzer, with FUZZED defined. What several programs in a FOLDER need of the loader is built once, so all of them are
+# built in one of these ways.
 set -euo pipefail
 
 here=$(dirname -- "$(readlink -f -- "${BASH_SOURCE[0]}")")
 recorder=$here/../../recorder
-flags=(-O1 -std=gnu11 -Wall -Wextra -Werror "-I$recorder")
-if [[ $1 == --sanitize ]]; then
-  flags+=(-g "-fsanitize=address,undefined" -fno-sanitize-recover=all)
-  shift
-fi
+flags=(-O1 -std=gnu11 -Wall -Wextra -Werror "-I$recorder") compiler=cc last=()
+case $1 in
+--sanitize) flags+=(-g "-fsanitize=address,undefined" -fno-sanitize-recover=all) && shift ;;
+--fuzz)
+  compiler=clang last=("-fsanitize=fuzzer")
+  flags+=(-g "-fsanitize=address,undefined,fuzzer-no-link" -fno-sanitize-recover=all -DFUZZED)
+  flags+=(-Wno-unused-command-line-argument) && shift		# of the linker, when only objects are made
+  ;;
+esac
 program=$1 folder=$(readlink -f -- "$2")
 flags+=("${@:3}")
 
 # Only these are about the programs in the kernel, which are not built here.
-sources=("$here/kit.c")
+sources=("$here/kit.c" "$here/made_proc.c" "$here/played.c")
 for source in "$recorder"/*.c; do
   if [[ $source != *.bpf.c && $source != */kernel.c ]]; then sources+=("$source"); fi
 done
 if [[ ! -e $folder/loader.a ]]; then
   objects=$(mktemp -d -- "$folder/objects.XXXXXX")
-  (cd -- "$objects" && cc "${flags[@]}" -c "${sources[@]}" && ar rc "$folder/loader.a" ./*.o)
+  (cd -- "$objects" && "$compiler" "${flags[@]}" -c "${sources[@]}" && ar rc "$folder/loader.a" ./*.o)
 fi
-cc "${flags[@]}" "$here/$program.c" "$folder/loader.a" -o "$folder/$program" -lb2
+"$compiler" "${flags[@]}" "${last[@]}" "$here/$program.c" "$folder/loader.a" -o "$folder/$program" -lb2

@@ -275,6 +275,9 @@ static void command_lines(void)
 	parts_flush();
 	should(has_line(due), "the longest command line", (double)strlen(due));
 	should(has_line(" uid=10123 name=a\\x0a \\x5c\\x00b\n"), "a command line with NULs", 0);
+	hear_command(1, "\xc3\x85\xc2\x85\xc2\xa0\xc2", 7, 7);
+	parts_flush();
+	should(has_line(" uid=10123 name=\xc3\x85\\x85\xc2\xa0\xc2\n"), "a command line with control characters of UTF-8", 0);
 	should(!has_line("name=a\\x0a \\x5c\\x00b\\x00"), "NULs at the end of a command line", 0);
 	lines_of_processes(5, 0);
 	command_redact();
