@@ -7,14 +7,14 @@ them messages as from the ring:
 
 - frames of which another thread of the caller changed the commands before the driver took them, one of each kind
   (raced.c);
-- messages of every kind, in every order, with every length and lie, from a generator (ring.c): what a caller can have
-  a hand in, and then anything, also to a flight recorder;
+- messages of every kind, in every order, with every length and lie, from a generator (ring.c): of what a caller can
+  have a hand in, and then of anything, also to a flight recorder;
 - the same as clang's libFuzzer chooses them.
 
 A /proc that is made up (made_proc.c) has names of any bytes, maps that lie, and files that change while they are read.
-What must hold: no sanitizer has anything to say; the loader's memory has a bound; each number is in one line of the side
-list; each honest frame is in the capture with its bytes, or, if somebody lied of it, is told as lost; and `./audit
-first-fault` finds no malformed record in what was written.
+What must hold: no sanitizer has anything to say; the loader's memory has a bound; each number is in one line of the
+side list; each honest frame is in the capture with its bytes, or, if somebody lied of it, is told as lost; and
+`./audit first-fault` finds no malformed record in what was written.
 """
 
 import argparse
