@@ -25,15 +25,18 @@ def shown_name(files: list[str]) -> str:
     return os.fsencode(" ".join(map(os.path.basename, files))).decode(errors="replace")
 
 
-def word_of(name: str) -> str:
-    """The name of a file as a word of a shell, also if it begins with a dash, is no UTF-8, or has signs that can't be
-    seen."""
-    name = f"./{name}" if name.startswith("-") else name
-    if name.isprintable():
+def quoted(word: str) -> str:
+    """A word as a shell reads it, also if it is no UTF-8, or has signs that can't be seen."""
+    if word.isprintable():
         import shlex
-        return shlex.quote(name)
+        return shlex.quote(word)
     return "$'" + "".join(chr(one) if 32 <= one < 127 and chr(one) not in "\\'" else f"\\x{one:02x}"
-                          for one in os.fsencode(name)) + "'"
+                          for one in os.fsencode(word)) + "'"
+
+
+def word_of(name: str) -> str:
+    """The name of a file as a word of a shell, also if it begins with a dash."""
+    return quoted(f"./{name}" if name.startswith("-") else name)
 
 
 # ---- files that are read

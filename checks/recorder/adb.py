@@ -13,6 +13,8 @@ What must hold:
   device, and --fetch fetches it. So it does what --detach began.
 - One command at a time has the folder on the device. Another one says who has it, and takes nothing from it, but what
   a killed command left. Of two that fetch, one says that the other one did. A recording outlives a start of the device.
+- What ends in zeros, as after a loss of power, is fetched without them, and a line says so. Each word of a command that
+  is told is one word for a shell.
 - No file is fetched under a name that no recording makes, and no control character of the device comes through.
 - All that the device lacks is said, by a recording and by --check, and nothing is left there: also that it runs no
   program in the folder. So is what this system lacks of Python.
@@ -40,6 +42,7 @@ import time
 from typing import Callable, Iterator
 
 from checks.kit.checking import Fail, check
+from checks.kit.frames import frames_of
 from checks.kit.programs import CHECKS, ROOT
 
 LIMIT = 300  # seconds, for a machine with much other work
@@ -168,6 +171,13 @@ class Device:
         if len(files) < 8 or any(it.stat().st_mode & 0o777 != 0o600 for it in files):
             self.report(f"{self.what}: the files are {files}")
         self.left_nothing()
+
+    def leave_folder(self) -> None:
+        """Makes the folder one that was recording when the device was started anew."""
+        shutil.copy(ROOT / "recorder/adb/on_device.sh", self.folder())
+        for name, text in {"owner": "another.1 1 somebody@elsewhere another 9", "state": "recording",
+                           "pid": "1"}.items():
+            (self.folder() / name).write_text(f"{text}\n", "ascii")
 
     def left_nothing(self) -> None:
         if self.folder().exists():
@@ -346,13 +356,54 @@ def check_restarted(device: Device) -> None:
     device.folder().mkdir(mode=0o700)
     for path in (device.room / "out").glob("before[-.]*"):
         path.rename(device.folder() / f"capture{path.name.removeprefix('before')}")
-    shutil.copy(ROOT / "recorder/adb/on_device.sh", device.folder())
-    for name, text in {"owner": "another.1 1 somebody@elsewhere another 9", "state": "recording", "pid": "1"}.items():
-        (device.folder() / name).write_text(f"{text}\n", "ascii")
+    device.leave_folder()
     device.says(["-o", "more"], 1, r"record: one has a recording in \S+/binder-record already; to fetch it:"
                 r" \S+ --adb one --fetch -o more")
     device.says(["--fetch", "-o", "restarted"], 1, FETCHED.format("restarted"))
     device.fetched("restarted")
+
+
+def check_power(device: Device) -> None:
+    """What a device had recorded when it lost its power may end in zeros, which are left out."""
+    device.what = "a device that lost its power"
+    device.says(["-o", "powered", "--", "true"], 0, *PREPARED, READY, COUNTS, FETCHED.format("powered"))
+    device.folder().mkdir(mode=0o700)
+    whole = {path.name.removeprefix("powered"): path.read_bytes()
+             for path in (device.room / "out").glob("powered[-.]*")}
+    for ending, data in whole.items():
+        zeros = bytes(8192 if ending.endswith((".cap", ".side")) else 0)
+        (device.folder() / f"capture{ending}").write_bytes(data + zeros)
+    device.leave_folder()
+    ends = (r"record: lost-power{} ends in 8,\d\d\d zero bytes, as a file may after a loss of power: of its"
+            r" [\d,]+ bytes the last 8,\d\d\d are left out")
+    device.says(["--fetch", "-o", "lost-power"], 1, ends.format(r"-1\.cap"), ends.format(r"\.side"),
+                FETCHED.format("lost-power"))
+    device.fetched("lost-power")
+    for ending, data in whole.items():
+        came = (device.room / f"out/lost-power{ending}").read_bytes()
+        if came not in (data, *(data[:frame.place] for frame in frames_of(data)[-1:] if ending == "-1.cap")):
+            device.report(f"{device.what}: lost-power{ending} is not what was there before")
+
+
+# What a shell would take for more than a word, as the start of the files' names; and how it is told.
+WORDS = {"$(x) y": r"'\$\(x\) y{}'", "-z": r"\./-z{}", "it's": r"""'it'"'"'s{}'""", "e\x1b[1m": r"\$'e\\x1b\[1m{}'"}
+
+
+def check_quoted(device: Device) -> None:
+    """Each word of a command that is told is one word for a shell, whatever it has, also for the one of the device."""
+    for out, due in WORDS.items():
+        device.what = f"files called {out!r}"
+        device.says([f"-o{out}", "--", "true"], 0, *PREPARED, READY, COUNTS, r"record: \d+ files, \d+ bytes fetched"
+                    rf" from one; next: \S+view {due.format('-1.cap')} --side {due.format('.side')}")
+    device.what = "a serial that is more than a word"
+    with device.with_file("devices", "a;b\tdevice\ntwo\tdevice\n"):
+        device.says([], 1, "record: adb has 2 devices: a;b, two; name one: --adb 'a;b'")
+    device.what = "a file system whose name is more than a word"
+    with device.with_command("chmod", 'exec /bin/chmod 600 "$2"'), \
+            device.with_command("df", "echo '/dev/x 1 1 1 1% /$(reboot)'"):
+        device.says([], 1, PUTTING, r"record: one runs no program in .*, which adb -s one shell mount -o remount,exec"
+                    r""" ''"'"'/\$\(reboot\)'"'"'' lifts, or a policy forbids it""")
+    device.left_nothing()
 
 
 def check_interrupted(device: Device) -> None:
@@ -499,8 +550,8 @@ def check_server(device: Device) -> None:
 def judge(_: argparse.Namespace, room: pathlib.Path, fail: Fail) -> None:
     device = Device(room, fail)
     for part in (check_sessions, check_detached, check_packages, check_garbage, check_two, check_left, check_restarted,
-                 check_interrupted, check_fetched_twice, check_lacking, check_lacking_here, check_lost,
-                 check_lost_early, check_strange, check_devices, check_server):
+                 check_power, check_quoted, check_interrupted, check_fetched_twice, check_lacking, check_lacking_here,
+                 check_lost, check_lost_early, check_strange, check_devices, check_server):
         part(device)
 
 

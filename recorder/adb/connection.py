@@ -2,10 +2,13 @@
 
 import os
 import re
+import shlex
 import shutil
 import socket
 import subprocess
 from typing import Callable, NamedTuple
+
+from viewer.files import quoted
 
 
 class Stopped(Exception):
@@ -27,6 +30,16 @@ class Lost(Exception):
 
 ANSWERED = re.compile(rb"(.*)\n?answered (\d{1,3})\n\Z", re.DOTALL)
 PORT = int(os.environ.get("ANDROID_ADB_SERVER_PORT", "5037"))
+
+
+def command_line(*words: str) -> str:
+    """A command that is told, to be copied into a shell here."""
+    return " ".join(map(quoted, words))
+
+
+def on_device(serial: str, *words: str) -> str:
+    """The same by the shell of a device, which reads its words once more."""
+    return command_line("adb", "-s", serial, "shell", *map(shlex.quote, words))
 
 
 def run_adb(*words: str) -> subprocess.CompletedProcess[bytes]:
@@ -88,7 +101,8 @@ def the_device(serial: str | None) -> str:
         if not found:
             raise Stopped("adb has no device; adb devices lists them")
         if len(found) > 1:
-            raise Stopped(f"adb has {len(found)} devices: {', '.join(found)}; name one: --adb {next(iter(found))}")
+            raise Stopped(f"adb has {len(found)} devices: {', '.join(found)}; name one: --adb"
+                          f" {quoted(next(iter(found)))}")
         serial = next(iter(found))
     if serial not in found:
         has = f"it has {', '.join(found)}" if found else "it has none"

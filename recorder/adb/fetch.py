@@ -9,6 +9,7 @@ from typing import Iterator, NamedTuple
 
 from connection import Stopped
 from folder import Folder
+from viewer import zeros
 
 PIECE = 1 << 20
 BEGIN = "capture"  # of the names on the device
@@ -95,6 +96,16 @@ def refuse(paths: list[str]) -> None:
     for path in paths:
         if os.path.lexists(path):
             raise Stopped(f"{path} exists already, and is not overwritten")
+
+
+def cut_zeros(path: str) -> str | None:
+    """Takes off the zeros with which a capture or a side list may end after a loss of power. Returns a line about them;
+    None if there are none. A file without anything else stays as it is."""
+    of = {".cap": zeros.ended, ".side": zeros.ended_text}.get(os.path.splitext(path)[1])
+    end = of(path) if of else None
+    if end and end.length:
+        os.truncate(path, end.length)
+    return f"{path} {end.meaning}" if end else None
 
 
 def fetch(folder: Folder, files: list[File], out: str) -> list[str]:

@@ -12,7 +12,7 @@ import shlex
 import socket
 from typing import NamedTuple
 
-from connection import Answer, Connection, Nothing, Stopped
+from connection import Answer, Connection, Nothing, Stopped, on_device
 
 NAME = "binder-record"
 GONE = 98  # the status of a script whose folder is gone, which no script has otherwise
@@ -82,8 +82,9 @@ class Folder(NamedTuple):
         if self.ask("./record --help >/dev/null").status == 0:
             return
         mounted = self.ask("df -P . | tail -n 1").text.rstrip("\n").rpartition(" ")[2]
-        raise Stopped(f"{self.serial} runs no program in {self.path}: its file system may be mounted noexec, which adb"
-                      f" -s {self.serial} shell mount -o remount,exec {mounted} lifts, or a policy forbids it")
+        lifts = on_device(self.serial, "mount", "-o", "remount,exec", mounted)
+        raise Stopped(f"{self.serial} runs no program in {self.path}: its file system may be mounted noexec, which"
+                      f" {lifts} lifts, or a policy forbids it")
 
 
 def path_on(connection: Connection) -> str:

@@ -2,7 +2,8 @@
 
 import os
 import re
-import shlex
+
+from viewer.files import quoted, word_of
 
 MOST_TOGETHER = 1_073_741_824  # the most bytes that the auditor takes as one capture,
 MOST_FILES = 256  # and the most files
@@ -35,7 +36,7 @@ def view_command(record: str, paths: list[str]) -> str:
     chosen = together(captures)
     whole = [path for path in paths if path.endswith(".side") and path not in sides.values()]
     lists = whole or [sides[number] for number in chosen if number in sides]
-    words = [view_beside(record), *(captures[number] for number in chosen)]
+    words = [quoted(view_beside(record)), *(word_of(captures[number]) for number in chosen)]
     for side in lists:
-        words += ["--side", side]
-    return shlex.join(words)
+        words += ["--side", word_of(side)]
+    return " ".join(words)

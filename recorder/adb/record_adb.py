@@ -21,7 +21,7 @@ import device
 import fetch
 import folder as folders
 import words
-from connection import Connection, Lost, Nothing, Stopped, need_adb, the_device
+from connection import Connection, Lost, Nothing, Stopped, command_line, need_adb, on_device, the_device
 from folder import OLDEST, Folder, Found, Gone
 from next_command import view_command
 from told import pass_on, tell, tell_all
@@ -47,7 +47,7 @@ class Command(NamedTuple):
     @property
     def to_fetch(self) -> str:
         out = [] if self.words.out == "capture" else ["-o", self.words.out]
-        return shlex.join([self.record, "--adb", self.serial, "--fetch", *out])
+        return command_line(self.record, "--adb", self.serial, "--fetch", *out)
 
     def on_device(self, what: str) -> str:
         """A call of the script on the device."""
@@ -119,7 +119,7 @@ def prepare(command: Command) -> Command:
             raise Stopped("interrupted; nothing was recorded", 130) from interrupt
     except Lost as lost:
         raise Stopped(f"{lost}; nothing was recorded, and what is left in {command.folder.path} there is removed by the"
-                      f" next {command.record} --adb") from lost
+                      f" next {command_line(command.record, '--adb')}") from lost
     return command
 
 
@@ -196,8 +196,8 @@ def remove_fetched(command: Command) -> None:
     try:
         command.folder.remove()
     except Lost as lost:
-        tell(f"{lost}; {command.folder.path} may still be there, with what was fetched; to remove it: adb -s"
-             f" {command.serial} shell rm -r {command.folder.path}")
+        tell(f"{lost}; {command.folder.path} may still be there, with what was fetched; to remove it:"
+             f" {on_device(command.serial, 'rm', '-r', command.folder.path)}")
 
 
 def finish(command: Command) -> int:
@@ -212,6 +212,9 @@ def finish(command: Command) -> int:
     files, others = fetch.listed(folder)
     tell_others(command, others)
     paths = fetch.fetch(folder, files, command.words.out)
+    for path in paths:
+        if said := fetch.cut_zeros(path):
+            tell(said)
     remove_fetched(command)
     size = sum(os.path.getsize(path) for path in paths)
     tell(f"{len(paths)} files, {size} bytes fetched from {command.serial}; next: {view_command(command.record, paths)}")
