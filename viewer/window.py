@@ -14,7 +14,11 @@ from viewer.files import Stopped
 AROUND, FRAMES_AROUND = SECOND, 100
 
 UNITS = {"ms": SECOND // 1000, "s": SECOND, "m": 60 * SECOND, "h": 3600 * SECOND}
+# The longest time that counts, in nanoseconds: 146 years, so that SQLite has each sum with a time of a recording.
+LONGEST = 2**62
 LENGTH = r"(\d{1,9})(?:\.(\d{1,9}))?(ms|s|m|h)"
+# The years of which Python knows each moment in all zones: an earlier or a later year is taken for the nearest of them.
+FIRST_YEAR, LAST_YEAR = 1900, 9998
 SINCE = r"\+(\d{1,9})(?:\.(\d{1,9}))? ?s?"
 OF_DAY = r"(?:(?:(\d{4})-)?(\d\d)-(\d\d)[ T])?(\d\d):(\d\d)(?::(\d\d)(?:\.(\d{1,9}))?)?"
 
@@ -29,7 +33,7 @@ def length(word: str) -> int:
     if not found:
         raise argparse.ArgumentTypeError(f"{word!r} is no length of time, as 5s, 500ms or 2m")
     unit = UNITS[found[3]]
-    return int(found[1]) * unit + fraction(found[2], unit)
+    return min(int(found[1]) * unit + fraction(found[2], unit), LONGEST)
 
 
 class Since(NamedTuple):
@@ -49,7 +53,8 @@ class OfDay(NamedTuple):
         """When it may be, in nanoseconds since 1970, if the recording has these days."""
         for day in days:
             with contextlib.suppress(ValueError, OverflowError):  # of the 29th of February, or no such day
-                on = day.replace(self.year or day.year, self.month or day.month, self.day or day.day)
+                year = min(max(self.year or day.year, FIRST_YEAR), LAST_YEAR)
+                on = day.replace(year, self.month or day.month, self.day or day.day)
                 yield int(datetime.datetime.combine(on, self.time).timestamp()) * SECOND + self.ns
 
 
@@ -122,7 +127,12 @@ class Recording:
         return self.between(found[0] - AROUND, found[0] + AROUND)
 
     def between(self, begin: int, end: int) -> Window:
+        """The frames of these times. The window is no longer than the recording, or than its frames if those are."""
         within = (self.first, self.last)
+        times = self.database.execute("SELECT min(ts), max(ts) FROM side_time WHERE seq BETWEEN ? AND ?",
+                                      within).fetchone()
+        known = [ts for ts in (*times, self.times.first, self.times.until) if ts is not None]
+        begin, end = max(begin, min(known)), min(end, max(known))
         first, = self.database.execute("SELECT min(seq) FROM side_time WHERE ts >= ? AND seq BETWEEN ? AND ?",
                                        (begin, *within)).fetchone()
         last, = self.database.execute("SELECT max(seq) FROM side_time WHERE ts <= ? AND seq BETWEEN ? AND ?",

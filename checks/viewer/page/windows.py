@@ -24,6 +24,9 @@ WINDOWS = (
     (("--between", "+2.241", "+2.2464"), [], (145, 150), 1),
     (("--between", "+2.5s", "+2.6s"), [STUCK], (179, 178), 1),
     (("--between", clock_of(WALL + 2 * SECOND), clock_of(WALL + 3 * SECOND)), [STUCK], None, None),
+    (("--last", "999999999h"), [STUCK, WAITS], (1, 198), 21),
+    (("--between", "+0", "+999999999"), [STUCK, WAITS], (1, 198), 21),
+    (("--between", "0001-01-01 00:00", "9999-12-31 23:59:59.999999999"), [STUCK, WAITS], (1, 198), 21),
     (("--around", 16172), [STUCK, WAITS], (30, 198), None),
     (("--around", 18140), [STUCK, WAITS], None, None))
 
@@ -70,6 +73,11 @@ def check_windows(folder: pathlib.Path, room: pathlib.Path, fail: Fail) -> None:
                                          *(["--groups"] if program == "view" else [])], cwd=room, encoding="utf-8")
             compare(f"{program} {words}", (status, said, bool(re.search(f"^{program}: ", told, re.MULTILINE))),
                     (due, "", True), fail)
+    for words, due in (("--last", "999999999h"), ["0.000 s"]), (("--slow", "999999999h"), []):
+        came = view(folder, room, *capture, *words, "-o", "long.html")
+        compare(f"view {words}", came, (0, "", ""), fail)
+        compare(f"{words}, since when the page shows calls",
+                re.findall(r"calls from (\S+ s) ", texts_of(room / "long.html")), due, fail)
     check_packed_windows(folder, room, fail)
     check_untimed_windows(folder, room, fail)
 
