@@ -12,7 +12,7 @@ from viewer.calls import asked as asked_call
 from viewer.command_line import Words
 from viewer.database import loading, raw_tables, side_list
 from viewer.database.side_beside import side_beside
-from viewer.database.sqlite import open_database
+from viewer.database.sqlite import errors_in, open_database
 from viewer.files import Stopped, errors_of, keep, refuse_no_folder, shown_name, unchanged, whole_file, word_of
 from viewer.malformed import Fault, fault_of
 from viewer.methods import known
@@ -261,7 +261,8 @@ def view(root: pathlib.Path, asked: argparse.Namespace, progress: Progress) -> S
         raw_tables.loader()
     take_side(asked)
     beside = os.path.dirname(os.path.abspath(asked.database)) if asked.database else None
-    with errors_of(asked.database or os.environ.get("TMPDIR", "/tmp")), folder_in(beside) as room:
+    with (errors_of(asked.database or os.environ.get("TMPDIR", "/tmp")), folder_in(beside) as room,
+          errors_in(room / "capture.db")):
         fault = load(root, asked, methods, room, progress)
         database = open_database(room / "capture.db")
         progress.end()
@@ -309,10 +310,6 @@ def main(root: pathlib.Path, help_text: str | None) -> int:
     except known.NotATable as error:
         progress.end()
         tell("view", str(error))
-        return 4
-    except sqlite3.Error as error:
-        progress.end()
-        tell("view", f"the database: {error}")
         return 4
     except OSError as error:
         progress.end()

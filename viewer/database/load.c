@@ -44,18 +44,22 @@ void stop(const char *format, ...)
 	exit(1);
 }
 
+void stop_for(sqlite3 *database)
+{
+	stop("%s: %s", sqlite3_db_filename(database, "main"), sqlite3_errmsg(database));
+}
+
 static void run(sqlite3 *database, const char *statements)
 {
-	char *why = NULL;
-	if (sqlite3_exec(database, statements, NULL, NULL, &why) != SQLITE_OK)
-		stop("%s", why ? why : sqlite3_errmsg(database));
+	if (sqlite3_exec(database, statements, NULL, NULL, NULL) != SQLITE_OK)
+		stop_for(database);
 }
 
 sqlite3_stmt *prepared(sqlite3 *database, const char *statement)
 {
 	sqlite3_stmt *made = NULL;
 	if (sqlite3_prepare_v2(database, statement, -1, &made, NULL) != SQLITE_OK)
-		stop("%s", sqlite3_errmsg(database));
+		stop_for(database);
 	return made;
 }
 
@@ -538,6 +542,6 @@ int main(int count, char **words)
 	load(database, words + at, &schema, &packing);
 	forget(schema.bytes, schema.length);
 	if (sqlite3_close(database) != SQLITE_OK)
-		stop("%s: %s", words[at], sqlite3_errmsg(database));
+		stop_for(database);
 	return 0;
 }

@@ -4,6 +4,9 @@
 
 #include "packed.h"
 
+/* Ends the program with an error of SQLite, which does not name the database. */
+void stop_for(sqlite3 *database) __attribute__((noreturn));
+
 sqlite3_stmt *prepared(sqlite3 *database, const char *statement);
 
 /*

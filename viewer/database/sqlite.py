@@ -1,8 +1,12 @@
 """Databases of SQLite, and the files of statements that fill them."""
 
+import contextlib
 import functools
 import pathlib
 import sqlite3
+from typing import Iterator
+
+from viewer.files import Stopped
 
 # Numbers that have a name in statements and are in no table: the direction of a write, the code to which an object
 # answers with its interface, and the first number that can't be of a process or a thread of Linux: `./record` gives
@@ -13,6 +17,15 @@ UNLISTED = {"WRITE": "1", "_NTF": str(0x5f4e5446), "NO_PID": "4194304"}
 
 # Before the records of a frame come so many bytes (docs/ENVELOPE.md).
 FRAME_HEADER = 32
+
+
+@contextlib.contextmanager
+def errors_in(path: pathlib.Path) -> Iterator[None]:
+    """In this block a database is used: an error of SQLite, which names no file, gets the name of the database."""
+    try:
+        yield
+    except sqlite3.Error as error:
+        raise Stopped(4, f"{path}: {error}") from error
 
 
 def statements_in(text: str) -> list[str]:
