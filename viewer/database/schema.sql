@@ -15,7 +15,7 @@
 --   side_time, side_clock, side_lost, method, call_interface, object_interface, object_service, side_missed,
 --   side_failed, side_overrun, side_calls, side_handle, book, book_opening, book_handle, book_node, book_buffer,
 --   book_call, book_process, book_open, book_stats, package, disagreement, side_call, side_pc, side_map,
---   side_unstacked, symbol, capture, report, finding; indexes: side_process_of_pid, side_thread_of_tid
+--   side_unstacked, symbol, capture, report, finding; indexes: side_process_of_pid, side_thread_of_tid, book_call_of
 
 PRAGMA user_version = 10;
 
@@ -334,6 +334,7 @@ CREATE TABLE book_buffer(moment TEXT NOT NULL, upid INTEGER NOT NULL, number INT
   PRIMARY KEY(moment, upid, number)) STRICT;
 CREATE TABLE book_call(id INTEGER PRIMARY KEY, moment TEXT NOT NULL, upid INTEGER NOT NULL, utid INTEGER,
   tid INTEGER NOT NULL, side TEXT NOT NULL, number INTEGER, code INTEGER) STRICT;
+CREATE INDEX book_call_of ON book_call(moment, upid, number);
 CREATE TABLE book_process(upid INTEGER PRIMARY KEY, device INTEGER NOT NULL, pid INTEGER NOT NULL, name TEXT) STRICT;
 CREATE TABLE book_open(number INTEGER NOT NULL, upid INTEGER NOT NULL, utid INTEGER, tid INTEGER NOT NULL,
   place INTEGER NOT NULL, server INTEGER NOT NULL, server_utid INTEGER, server_tid INTEGER, delivery INTEGER,

@@ -51,11 +51,13 @@ WHERE finding.section = 'refused' AND finding.rule = 'E5' AND r.rule = 'S2' AND 
 -- recording, and have sent a call after the copy that no frame has.
 CREATE TEMP TABLE begun_call AS
 SELECT s.id, t.first_seq > b.after AND (s.side = 'served' OR q.direction = :WRITE) AS known,
-  (SELECT count(*) FROM book_call c WHERE (c.moment, c.utid, c.side) = ('begin', s.utid, s.side)) AS n,
+  coalesce(c.n, 0) AS n,
   row_number() OVER (PARTITION BY s.utid, s.side ORDER BY s.place) AS nth
 FROM (SELECT f.id, f.upid, f.utid, f.place, iif(r.kind IN (:BC_REPLY, :BC_REPLY_SG), 'served', 'made') AS side
     FROM finding f JOIN raw_record r USING (place) WHERE f.rule IS NULL AND f.section = 'strays') s
-  JOIN raw_thread t ON t.utid = s.utid JOIN raw_frame q ON q.seq = t.first_seq JOIN begun b ON b.upid = s.upid;
+  JOIN raw_thread t ON t.utid = s.utid JOIN raw_frame q ON q.seq = t.first_seq JOIN begun b ON b.upid = s.upid
+  LEFT JOIN (SELECT utid, side, count(*) AS n FROM book_call WHERE moment = 'begin' GROUP BY 1, 2) c
+    ON (c.utid, c.side) = (s.utid, s.side);
 UPDATE finding SET rule = CASE
   WHEN EXISTS (SELECT 1 FROM first_crossed c WHERE c.utid = finding.utid
     AND c.closer < coalesce((SELECT o.closer FROM raw_call o WHERE o.place = finding.place), finding.place)) THEN 'S3'
