@@ -1,8 +1,11 @@
 """What the first fault of a malformed capture means: which of its files has the fault, and what that says of the
 file."""
 
+import contextlib
 import re
 from typing import NamedTuple
+
+from viewer.zeros import Ended, ended
 
 # The auditor's line.
 LINE = r"malformed (\w+) at (\d+)(?: in part (\d+))?"
@@ -39,11 +42,21 @@ class Fault(NamedTuple):
         return f"{self.line}: {self.file} {self.meaning}"
 
 
+def end_at(file: str, place: int) -> Ended | None:
+    """How the file ends in zeros, if it does from before this place on, or from there."""
+    with contextlib.suppress(OSError):
+        if (end := ended(file)) and end.length <= place:
+            return end
+    return None
+
+
 def fault_of(line: str, files: list[str]) -> Fault:
     """The fault that a line of the auditor names in a capture of these files."""
     found = re.fullmatch(LINE, line)
     assert found, line
     kind, place, part = found[1], int(found[2]), int(found[3] or 1)
+    if end := end_at(files[part - 1], place):
+        return Fault(line, kind, place, files[part - 1], end.meaning)
     shows_some = part > 1 or not kind.startswith("Header")
     return Fault(line, kind, place, files[part - 1],
                  MEANINGS[kind] + ("; what is shown comes before that" if shows_some else ""))

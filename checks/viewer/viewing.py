@@ -15,6 +15,8 @@ What must hold:
 - The page says when things were, by the clocks of the side list, and nothing of it without one.
 - The files of a flight recorder, each with its side list, are shown like the whole capture; the last one alone says
   what it cannot know.
+- The head names the process, or the app, that wrote over half of the files of a flight recorder, and no other; and of
+  each reason for which frames were lost the process that lost most.
 - The folded sections have what they are for: whom each thread serves and since when, slow calls of main threads from
   the time of --slow on, largest transactions, senders, holders, death recipients, descriptors. A group of sends that
   found no space at their receiver has a table of what filled it.
@@ -27,6 +29,8 @@ What must hold:
 - A malformed capture, in one file or in parts, has a page with the line of its fault and what comes before it, and
   status 2. Standard error and the first line of --groups name the file and what the fault means; the status is 2 with
   --fail-on too.
+- Zeros at the end of a capture or a side list, as after a loss of power, are left out, and a line says how many: what
+  comes before them is shown, also of other files, and nothing is said of their order.
 - A pipe, a folder, and a capture that changes while it is read end in a line. A file by whatever name is read.
 - The side list that lies beside a capture by its name is taken, and a line says so. A line says at the end what a page
   has. At a terminal --groups prints columns, with the sentences of rules, of what is real or maybe, and of all with
@@ -70,6 +74,7 @@ from checks.viewer.page.against import check_against
 from checks.viewer.page.books import (check_agreement, check_bad_books, check_commands, check_copies,
                                       check_long_books)
 from checks.viewer.page.browser import check_browser
+from checks.viewer.page.culprits import check_fillers, check_losers
 from checks.viewer.page.files import (check_again, check_beside, check_changing, check_malformed, check_names,
                                       check_pipes, check_terminal, check_whole)
 from checks.viewer.page.growth import check_growth
@@ -77,6 +82,7 @@ from checks.viewer.page.methods import check_methods, check_unnamed
 from checks.viewer.page.moments import check_moments
 from checks.viewer.page.packed import check_broken, check_packed, check_timing
 from checks.viewer.page.sections import check_filled, check_sections
+from checks.viewer.page.power import check_power
 from checks.viewer.page.services import check_manager, check_services
 from checks.viewer.page.sides import (check_files, check_forms, check_last_names, check_late, check_list_of_loader,
                                       check_loader, check_no_lists, check_packed_lists, check_renames, check_side,
@@ -98,7 +104,8 @@ OTHERS = parts_of(
     check_files, check_secrets, check_told, check_untimed, check_late, check_hostile, check_methods, check_unnamed,
     check_services, check_manager, check_times, check_loader, check_packed, check_broken, check_timing, check_agreement,
     check_copies, check_bad_books, check_long_books, check_commands, check_sections, check_filled, check_packages,
-    check_bits, check_stacks, check_growth, check_against, check_moments, check_windows)
+    check_bits, check_stacks, check_growth, check_against, check_moments, check_windows, check_fillers, check_losers,
+    check_power)
 
 
 def names() -> list[str]:

@@ -15,12 +15,14 @@ from viewer.database.report import load_findings, load_report
 from viewer.database.side_list import SideList
 from viewer.database.sqlite import open_database
 from viewer.files import Stopped, linked, shown_name, unchanged
+from viewer.malformed import fault_of
 from viewer.methods.known import Methods, load_methods
 from viewer.program_names import called
 from viewer.rules.judging import begin, judge
 from viewer.scratch import remove
 from viewer.started import Started
 from viewer.timing import Timing
+from viewer.zeros import Ended, without_zeros
 
 # The least bytes of a capture of which tables are packed: of fewer, the files of these take longer than they save.
 LEAST_PACKED = 2**20
@@ -35,7 +37,8 @@ def load_facts(database: sqlite3.Connection, files: list[str], malformed: str | 
     names = ("parts", "bytes", "frames", "records", "first_seq", "last_seq", "missing")
     row = database.execute(f"SELECT {', '.join(names)} FROM raw_capture").fetchone()
     known: dict[str, object] = {"file": shown_name(files), "side_list": 0, "side_doubt": None, "books_doubt": None,
-                                "packages_doubt": None, **dict(zip(names, row)), "malformed": malformed, **facts}
+                                "packages_doubt": None, "zeros_doubt": None, **dict(zip(names, row)),
+                                "malformed": malformed, **facts}
     known["first_ts"], known["last_ts"] = database.execute(
         "SELECT (SELECT ts FROM side_time WHERE seq = ?), (SELECT ts FROM side_time WHERE seq = ?)",
         (row[4], row[5])).fetchone()
@@ -127,6 +130,20 @@ def tables_of(root: pathlib.Path, parts: list[pathlib.Path], side: str | None, m
         return fault_in(load_while_read(loading, listing), told), others
 
 
+def fault_with_zeros(root: pathlib.Path, files: list[str], room: pathlib.Path) -> str | None:
+    """The line of the first fault of the files as they are."""
+    room.mkdir()
+    told = room / "told"
+    return fault_in(answer(root, told, "audit", "first-fault", *linked(files, room)), told)
+
+
+def tell_zeros(database: sqlite3.Connection, files: list[str], malformed: str | None, ends: dict[str, Ended]) -> None:
+    """Keeps which files end in zeros, but for the one of which the first fault says that already."""
+    told = fault_of(malformed, files).file if malformed else None
+    doubt = "; ".join(f"{os.path.basename(name)} {end.meaning}" for name, end in ends.items() if name != told)
+    database.execute("UPDATE capture SET value = ? WHERE key = 'zeros_doubt'", (doubt or None,))
+
+
 def database_of(root: pathlib.Path, files: list[str], side: str | None, made: pathlib.Path,
                 tell: Callable[[str], None], methods: Methods | None = None,
                 beside: list[str] | None = None, kept: bool = True, timing: Timing | None = None) -> str | None:
@@ -137,6 +154,7 @@ def database_of(root: pathlib.Path, files: list[str], side: str | None, made: pa
         rows, report = made.with_suffix(".rows"), made.with_suffix(".report")
         rows.mkdir()
         parts = linked(files, rows)
+        ends = without_zeros(files, parts)
         tell("reading the capture")
         with Asked(root, report, "audit", "report", *parts) as audit:
             if not memory_for(files):
@@ -148,6 +166,8 @@ def database_of(root: pathlib.Path, files: list[str], side: str | None, made: pa
             raise Stopped(1, f"{called('listing')} and {called('audit')} do not agree: {listed!r} and {malformed!r}")
     if malformed:
         answer(root, report, "audit", "report", rows / "before-fault.cap")
+    if ends:
+        malformed = fault_with_zeros(root, files, rows / "whole")
     remove(rows)
     database = open_database(made)
     tell("taking the side list and the report")
@@ -156,6 +176,7 @@ def database_of(root: pathlib.Path, files: list[str], side: str | None, made: pa
         if finders:
             begin(database, finders)
         taken = fill(database, files, side, report, malformed, methods, beside, others, finders)
+        tell_zeros(database, files, malformed, ends)
         report.unlink()
         tell("applying the rules")
         judge(database, timing=timing, finders=finders)

@@ -121,7 +121,7 @@ static void add(struct side_list *list, sqlite3_stmt *to, sqlite3_int64 first, s
 	sqlite3_bind_int64(to, 1, first);
 	sqlite3_bind_int64(to, 2, second);
 	if (sqlite3_step(to) != SQLITE_DONE)
-		stop("%s", sqlite3_errmsg(list->database));
+		stop_for(list->database);
 	sqlite3_reset(to);
 }
 
@@ -192,7 +192,14 @@ static void add_sign(struct side_list *list, char sign)
  */
 static void read_lines(struct side_list *list)
 {
+	size_t zeros = 0;
 	for (int sign; (sign = getc_unlocked(list->list)) != EOF;) {
+		if (!sign) {	/* after a loss of power a list may end in very many */
+			zeros++;
+			continue;
+		}
+		for (; zeros; zeros--)
+			add_sign(list, '\0');
 		if (sign != '\n') {
 			add_sign(list, (char)sign);
 			continue;

@@ -1,17 +1,19 @@
 """The side list of the recorder, line by line into the tables `side_..`."""
 
 import itertools
+import os
 import pathlib
 import re
 import sqlite3
-from typing import Iterable, Iterator, NamedTuple
+from typing import BinaryIO, Iterable, Iterator, NamedTuple
 
 from viewer.database import side_belongs
 from viewer.database.finders import Finders, Query
 from viewer.database.last_names import LastNames
 from viewer.database.process_names import is_app, is_not_yet_named, long_name
-from viewer.files import Stopped, for_owner
+from viewer.files import Stopped, errors_of, for_owner
 from viewer.units import signed
+from viewer.zeros import ended_text
 
 # ---- numbers
 
@@ -116,15 +118,41 @@ def refuse_others(paths: list[str]) -> None:
             raise Stopped(4, f"{path}: {error.strerror}") from error
 
 
+def cut_last_line(out: BinaryIO) -> None:
+    """Takes off what comes after the last whole line: a list that was cut may have a part of one there, or zeros."""
+    end, found = out.tell(), -1
+    while end and found < 0:
+        begin = max(0, end - PIECE)
+        out.seek(begin)
+        found = out.read(end - begin).rfind(b"\n")
+        end = begin + found + 1
+    out.seek(end)
+    out.truncate()
+
+
+def with_lines(paths: list[str]) -> list[str]:
+    """The side lists but for those that are empty or have only zeros, as after a loss of power, if another one has
+    more."""
+    some = []
+    for path in paths if len(paths) > 1 else ():
+        with errors_of(path):
+            end = ended_text(path)
+            if end.length if end else os.path.getsize(path):
+                some.append(path)
+    return some or paths
+
+
 def joined_sides(paths: list[str], to: pathlib.Path) -> str:
     """The side lists of the files of a flight recorder as one. Each of them begins with what was met before its file;
     of all but the first one, that is left out."""
+    paths = with_lines(paths)
     refuse_others(paths)
     if len(paths) == 1:
         return paths[0]
     import shutil
-    with open(to, "wb", opener=for_owner) as out:
+    with open(to, "w+b", opener=for_owner) as out:
         for at, path in enumerate(paths):
+            cut_last_line(out)
             with open(path, "rb") as lines:
                 while at and (line := lines.readline(PIECE)):
                     if line.split(b" ", 2)[1:2] == [b"file"]:
@@ -284,6 +312,10 @@ class SideList:
                           machine=keyed["machine"], payloads=keyed.get("payloads"),
                           boottime=number(keyed["boottime"]) if "boottime" in keyed else None)
         self.drivers = drivers_of(keyed["drivers"]) if "drivers" in keyed else None
+
+    def take_file(self, _: int, positional: list[str], __: dict[str, str]) -> None:
+        """The first file counts: above 1, a flight recorder has removed earlier ones."""
+        self.facts.setdefault("first_file", *numbers(positional, 1))
 
     def take_clocks(self, time: int, _: list[str], keyed: dict[str, str]) -> None:
         self.database.execute("INSERT OR REPLACE INTO side_clock VALUES (?, ?, ?)",

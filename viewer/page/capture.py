@@ -35,7 +35,8 @@ class Capture:
         self.again = f"{called('view')} {named}{options}"
         self.facts = dict(database.execute("SELECT key, value FROM capture"))
         malformed = self.facts["malformed"]
-        self.fault = fault_of(malformed, [os.path.basename(file) for file in files]) if malformed else None
+        fault = fault_of(malformed, files) if malformed else None
+        self.fault = fault._replace(file=os.path.basename(fault.file)) if fault else None
         self.who = dict(database.execute("SELECT upid, who FROM who"))
         self.rules = dict(database.execute("SELECT id, text FROM rule"))
         self.looks = dict(database.execute("SELECT id, next FROM rule"))
