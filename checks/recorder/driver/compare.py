@@ -7,6 +7,8 @@ reasons. Any other difference is named. To test the comparison itself, one count
 books: that must be found too.
 """
 
+import contextlib
+import functools
 import pathlib
 import re
 import sqlite3
@@ -26,6 +28,7 @@ from checks.recorder.driver.sections import both
 from checks.recorder.driver.stacked import stack_differences
 from checks.viewer.page.common import groups_due, groups_of
 from viewer.database import loading
+from viewer.page.capture import Capture
 
 HERE = pathlib.Path(__file__).resolve().parent
 
@@ -275,12 +278,18 @@ def copy_differences(how, recording, folder):
             yield "books", "all", f"{when}-{which}", told.get((when, which)), size
 
 
-def view_differences(folder):
-    """What `./view` says of the scenario before: its groups, and that the report agrees with the driver's books."""
+@contextlib.contextmanager
+def database_of(folder):
+    """The database that `./view` makes of the capture."""
     with tempfile.TemporaryDirectory() as room:
         made = pathlib.Path(room) / "made.db"
         loading.database_of(ROOT, [str(folder / "capture-1.cap")], str(folder / "capture.side"), made, lambda _: None)
-        database = sqlite3.connect(made)
+        yield sqlite3.connect(made)
+
+
+def view_differences(folder):
+    """What `./view` says of the scenario before: its groups, and that the report agrees with the driver's books."""
+    with database_of(folder) as database:
         facts = dict(database.execute("SELECT key, value FROM capture WHERE key GLOB 'books_*'"))
         came, due = groups_of(database), groups_due("before")
         for group in sorted(set(came) ^ set(due)):
@@ -298,6 +307,41 @@ def view_differences(folder):
 # The rules of all findings of the scenario before, and how many of its openings are compared at the end.
 RULES_BEFORE = {"P2": 5, "H7": 1, "H6": 1, "H2": 1, "H1": 1, "F2": 1, "D4": 1}
 FACTS_BEFORE = {"books_doubt": None, "books_compared": 5, "books_left_out": 0}
+
+
+# ---- a process that changes its writes under way
+
+CHANGED, CHANGING = ("changed-record", "changed-inside"), "changing"  # the scenarios, and the process
+# What the report lacks then: what the lost writes have.
+OF_CHANGING = {("codes by process", CHANGING, "BC_TRANSACTION"), ("codes by process", CHANGING, "BC_ENTER_LOOPER"),
+               ("codes", "all", "BC_TRANSACTION"), ("codes", "all", "BC_ENTER_LOOPER"), ("oneway", "all", "under way"),
+               ("lost", "all", "broken")}
+
+
+@functools.cache
+def lost_on_page(folder):
+    """What the page says of lost frames."""
+    with database_of(folder) as database:
+        return Capture(database, ["capture-1.cap"]).asked("lost")
+
+
+def changed_differences(recording, output, folder):
+    """The writes that the process changed are lost as broken, and nothing else is: so the last line, the side list and
+    the page say, which name the process. The calls of the others go on after them."""
+    changed = sum(map(int, re.findall(r"^changing: user 1000, (\d+) writes were changed$", output, re.M)))
+    losers = [(recording.names.get(who), why, count) for (who, why), count in recording.losers.items()]
+    if not changed or losers != [(CHANGING, "broken", changed)]:
+        yield "changed", "all", "side", losers, changed
+    if f" frames, {changed} lost (broken {changed}); 1 file, " not in output:
+        yield "changed", "all", "last-line", output.strip(), changed
+    last = max((number for number, _ in recording.lost), default=0)
+    after = {recording.names[frame.device, frame.process] for frame in recording.frames if frame.sequence > last}
+    if not {"client", "later"} <= after:
+        yield "changed", "all", "after", sorted(after), "client later"
+    rows = lost_on_page(folder)
+    if [(why, count, who.split(" ")[0], most) for why, count, who, most in rows] != [
+            ("broken", changed, CHANGING, changed)]:
+        yield "changed", "all", "page", rows, changed
 
 
 # ---- namespaces, and openings from before the recording
@@ -423,6 +467,7 @@ KINDS = [
     Kind("secret", named("secret", "secret-redacted"), lambda it: secret_differences(it.recording)),
     Kind("missed", lambda it: whole(it) and it.how != "stored",
          lambda it: missed_differences(it.name, it.recording, it.output)),
+    Kind("changed", named(*CHANGED), lambda it: changed_differences(it.recording, it.output, it.folder)),
     Kind("witness", played("both"), lambda it: witness_differences(it.recording, it.folder)),
     Kind("stacks", lambda it: whole(it) and it.has_stacks,
          lambda it: stack_differences(it.recording, it.name.endswith("frameless"), it.program)),
@@ -484,6 +529,8 @@ class Scenario:
             sides = both(self.recording, self.report, books_of.Books(texts or self.books))
             found += sides.differences()
             seen |= sides.seen
+        if self.name in CHANGED:
+            found = [item for item in found if item[:3] not in OF_CHANGING]
         return found, seen
 
 
