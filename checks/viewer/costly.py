@@ -4,12 +4,13 @@ import pathlib
 from itertools import chain, count, repeat
 from typing import Callable, Iterator, NamedTuple
 
-from checks.kit.captures import (BC_ACQUIRE, BC_CLEAR_DEATH_NOTIFICATION, BC_CLEAR_FREEZE_NOTIFICATION, BC_FREE_BUFFER,
-                                 BC_RELEASE, BC_REPLY, BC_REQUEST_DEATH_NOTIFICATION, BC_REQUEST_FREEZE_NOTIFICATION,
-                                 BC_TRANSACTION, BR_ACQUIRE, BR_DEAD_BINDER, BR_REPLY, BR_TRANSACTION,
-                                 BR_TRANSACTION_COMPLETE, HANDLE, HEADER_2, changed, each, each_long, entry, frame,
-                                 frozen, node, offsets, record, transaction, u32, u64, watch)
+from checks.kit.captures import (BC_ACQUIRE, BC_CLEAR_DEATH_NOTIFICATION, BC_CLEAR_FREEZE_NOTIFICATION,
+                                 BC_FREE_BUFFER, BC_RELEASE, BC_REPLY, BC_REQUEST_DEATH_NOTIFICATION,
+                                 BC_REQUEST_FREEZE_NOTIFICATION, BC_TRANSACTION, BINDER, BR_ACQUIRE, BR_DEAD_BINDER,
+                                 BR_REPLY, BR_TRANSACTION, BR_TRANSACTION_COMPLETE, HANDLE, HEADER_2, changed, each,
+                                 each_long, entry, frame, frozen, node, offsets, record, transaction, u32, u64, watch)
 from checks.kit.tokens import marked
+from checks.viewer.sessions.session import Session
 
 AT_ONCE = 256  # So many records are in a frame, where that makes no difference.
 ONE_WAY, STATUS_CODE = 0x01, 0x08
@@ -56,6 +57,30 @@ def write_costly(name: str, size: int, path: pathlib.Path) -> None:
 def some(first: int) -> range:
     """The numbers of the records in a frame."""
     return range(first * AT_ONCE, (first + 1) * AT_ONCE)
+
+
+# ---- the driver's books
+
+# The lines that an opening has very many of in the book `state` of the end, by their number.
+CALL = "flags 10 pri 0:120 r1 node 7 size 0:0\n"
+LINES = {"served_calls": "    incoming transaction {0}: 0 from 9:9 to 100:101 code 1 " + CALL,
+         "made_calls": "    outgoing transaction {0}: 0 from 100:101 to 9:9 code 1 " + CALL,
+         "held_handles": "  ref {0}: desc {0} node {0} s 1 w 1 d 0\n",
+         "own_nodes": "  node {0}: u{0:x} c{0:x} hs 1 hw 1 ls 0 lw 0 is 1 iw 1 tr 1 proc 9\n"}
+
+
+def write_costly_book(name: str, size: int, path: pathlib.Path) -> pathlib.Path:
+    """Writes a small capture with a book of at least so many bytes beside it. Returns its side list."""
+    s = Session()
+    service, client = s.two()
+    client.main.asks(service.main)
+    line = LINES[name]
+    s.books("end", of_100="  thread 101: l 12 need_return 0 tr 0\n" + "".join(
+        map(line.format, range(1, size // len(line) + 1))))
+    path.write_bytes(s.capture())
+    path.with_suffix(".side").write_text(s.side(), "utf-8")
+    path.with_suffix(".end.state").write_text(s.copies["end.state"], "utf-8")
+    return path.with_suffix(".side")
 
 
 # ---- processes, threads, devices
@@ -340,11 +365,25 @@ def bad_objects(_: int) -> Iterator[Frame]:
                         entry=(entry(0, bytes(8), u64(0)),)))
 
 
-def of_handles(kind: int, number: int) -> tuple[bytes, bytes]:
-    """A oneway transaction with handles, and its attachment."""
-    body = b"".join(changed(HANDLE, (8, u32(handle))) for handle in range(number))
-    listed = offsets(*range(0, 24 * number, 24))
+def of_objects(kind: int, sort: bytes, numbers: range) -> tuple[bytes, bytes]:
+    """A oneway transaction with objects of this sort, by their handles or ptrs, and its attachment."""
+    body = b"".join(changed(sort, (8, u32(number))) for number in numbers)
+    listed = offsets(*range(0, 24 * len(numbers), 24))
     return (transaction(kind, 1, flags=ONE_WAY, sizes=(len(body), len(listed)), buffer=0x1000), entry(0, body, listed))
+
+
+def of_handles(kind: int, number: int) -> tuple[bytes, bytes]:
+    return of_objects(kind, HANDLE, range(number))
+
+
+@costly
+def objects_at_once(size: int) -> Iterator[Frame]:
+    """One transaction hands over all objects, each of which another process gets a handle of."""
+    sent, sent_entry = of_objects(BC_TRANSACTION, BINDER, range(1, size // 70))
+    came, its_entry = of_objects(BR_TRANSACTION, HANDLE, range(1, size // 70))
+    yield wrote(1, 1, sent, entry=(sent_entry,))
+    yield got(1, 1, record(BR_TRANSACTION_COMPLETE))
+    yield got(2, 2, came, entry=(its_entry,))
 
 
 @costly

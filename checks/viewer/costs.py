@@ -1,7 +1,7 @@
 """Checks that no capture is costly to judge: what the rules take grows as a capture does, whatever it has much of.
 
-    checks/run costs                          judges each capture of costly.py in two sizes, of plain tables and of
-                                              packed ones
+    checks/run costs                          judges each capture of costly.py, and each with a costly book, in two
+                                              sizes, of plain tables and of packed ones
     checks/run costs   -- --bytes N [NAME]    runs `./view --groups` on captures of N bytes, all or those with this text
                                               in the name, and prints what each takes. 8 MiB must end in a minute of the
                                               processor, below 1 GB: half an hour
@@ -24,7 +24,7 @@ from unittest import mock
 from checks.kit.checking import Fail, check, row
 from checks.kit.programs import ROOT
 from checks.kit.runs import measured_run
-from checks.viewer.costly import COSTLY, write_costly
+from checks.viewer.costly import COSTLY, LINES, write_costly, write_costly_book
 from viewer.database import finders, loading, raw_tables
 from viewer.database.programs import build_programs
 from viewer.rules import judging
@@ -52,21 +52,22 @@ class Counted:
 
 
 def instructions(name: str, size: int, packed: bool, room: pathlib.Path) -> int:
-    """How many it takes to judge a costly capture of this size, in one process."""
-    taken = []
+    """How many it takes to judge a costly capture of this size, or with a book of this size, in one process."""
+    taken: list[Counted] = []
 
     def judge(database: sqlite3.Connection, **_: object) -> None:
-        counted = Counted(database)
+        taken.append(Counted(database))
         judging.judge(database)
-        taken.append(counted.instructions)
 
     with tempfile.TemporaryDirectory(dir=room) as folder:
         capture = pathlib.Path(folder, "it.cap")
-        write_costly(name, size, capture)
+        side = str(write_costly_book(name, size, capture)) if name in LINES else None
+        if not side:
+            write_costly(name, size, capture)
         with mock.patch.multiple(loading, judge=judge, LEAST_PACKED=0), \
                 mock.patch.object(finders, "LEAST_RECORDS", 2**63):
-            loading.database_of(ROOT, [str(capture)], None, capture.with_suffix(".db"), lambda _: None, kept=not packed)
-    return taken[0]
+            loading.database_of(ROOT, [str(capture)], side, capture.with_suffix(".db"), lambda _: None, kept=not packed)
+    return taken[0].instructions
 
 
 def growth_of(name: str, packed: bool, room: pathlib.Path) -> str | None:
@@ -102,7 +103,7 @@ def judge(given: argparse.Namespace, room: pathlib.Path, fail: Fail) -> None:
             fail(fault)
         return
     with ProcessPoolExecutor(os.cpu_count()) as pool:
-        for fault in pool.map(growth_of, *zip(*itertools.product(COSTLY, (False, True), [room]))):
+        for fault in pool.map(growth_of, *zip(*itertools.product((*COSTLY, *LINES), (False, True), [room]))):
             if fault:
                 fail(fault)
 

@@ -2,11 +2,12 @@
 -- needs: database/schema.sql: book_handle, raw_delivery, raw_generation, raw_object, raw_process, raw_send, raw_thread,
 --   side_device; database/views.sql: device, process; sums.sql: peer_sum
 -- makes: tables: who, peer, node_of; temporary tables: handed, passed_on, manager; indexes: object_of_record,
---   send_refused, generation_of_handle, passed_on_from, node_of_object
+--   object_of_handle, send_refused, generation_of_handle, passed_on_from, node_of_object
 
 -- ---- indexes: a query below, or one of the page, was slow without them
 
 CREATE INDEX object_of_record ON raw_object(place, idx);
+CREATE INDEX object_of_handle ON raw_object(place, handle) WHERE handle IS NOT NULL;
 CREATE INDEX send_refused ON raw_send(refused) WHERE refused IS NOT NULL;
 CREATE INDEX generation_of_handle ON raw_generation(upid, handle, begin);
 
