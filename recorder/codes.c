@@ -81,6 +81,19 @@ enum word_is word_is(u32 word, u32 direction)
 			: is_listed(returns_listed, COUNT(returns_listed) - 1, COUNT(returns_listed), word);
 }
 
+int returns_refuse(const u8 *commands, u64 bytes)
+{
+	struct record record;
+	for (u64 at = 0; record_at(commands, bytes, at, &record); at = record.end)
+		switch (_IOC_NR(record.word)) {
+		case 0x06: case 0x13: case 0x14:	/* BR_TRANSACTION_COMPLETE, BR_ONEWAY_SPAM_SUSPECT, PENDING_FROZEN */
+			return 0;
+		case 0x05: case 0x11: case 0x12:	/* BR_DEAD_REPLY, BR_FAILED_REPLY, BR_FROZEN_REPLY */
+			return 1;
+		}
+	return 0;
+}
+
 u64 records_with_data(const u8 *commands, u64 bytes, u64 at, u32 direction)
 {
 	struct record record;

@@ -41,6 +41,9 @@ static inline struct sizes record_sizes(const struct record *record)
 	return (struct sizes){ data.data_size, data.offsets_size };
 }
 
+/* Whether the returns say that the driver refused what the thread sent: the first of them that tells what came of a send
+ * is an error. */
+int returns_refuse(const u8 *commands, u64 bytes);
 /* How many of the records from this place on are transactions or replies with data. */
 u64 records_with_data(const u8 *commands, u64 bytes, u64 at, u32 direction);
 #endif

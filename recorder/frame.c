@@ -12,6 +12,7 @@
 
 #define FRAME_HEAD 32u
 #define ENTRY_HEAD 12u
+#define MOST_OF_REFUSED 4096u	/* the most bytes of an attachment of a send that was refused */
 #define LEAST_LENT 4096u	/* the least bytes of an attachment that is written straight from the ring */
 
 static u64 entries_written, entries_left_out;
@@ -264,7 +265,42 @@ static void cut(struct frame *frame, u64 consumed)
 		frame->memory -= pool_room(sizeof *note);
 		pool_give(note, sizeof *note);
 	}
+	frame->last_entry = NULL;
+	frame->last_note = frame->notes;
+	while (frame->last_note && frame->last_note->next)
+		frame->last_note = frame->last_note->next;
 	frame->bytes = consumed;
+}
+
+/* The attachment of the last record that the driver consumed, if it is a large one; or NULL. */
+static struct entry *large_last_entry(const struct frame *frame, u64 consumed)
+{
+	struct entry *last = NULL;
+	struct record record;
+	for (struct entry *entry = frame->entries; entry && entry->record < consumed; entry = entry->next)
+		last = entry;
+	if (!last || whole_bytes(last) <= MOST_OF_REFUSED)
+		return NULL;
+	return record_at(frame->commands, frame->bytes, last->record, &record) && record.end == consumed ? last : NULL;
+}
+
+int frame_is_in_doubt(const struct frame *frame, u64 consumed)
+{
+	return frame->direction == DIRECTION_WRITE && large_last_entry(frame, consumed);
+}
+
+/* Leaves out the data of the last send, if it is much: an app that has no rights can send it as often as it likes. */
+static void leave_out_refused(struct frame *frame)
+{
+	struct entry *last = large_last_entry(frame, frame->bytes), **place = &frame->entries;
+	if (!last)
+		return;
+	while (*place != last)
+		place = &(*place)->next;
+	*place = last->next;
+	frame_add_note(frame, last->record, REASON_REFUSED);
+	frame->memory -= memory_of(last);
+	free_entry(last);
 }
 
 static u64 entry_bytes(const struct frame *frame)
@@ -324,7 +360,7 @@ static void write_lines(const struct frame *frame, int attachments_left_out)
 	if (frame->is_late)
 		side_line(frame->time, "late %llu commands", number);
 	for (const struct note *note = frame->notes; note; note = note->next) {
-		entries_left_out += note->reason == REASON_TOO_LARGE;
+		entries_left_out += note->reason == REASON_TOO_LARGE || note->reason == REASON_REFUSED;
 		if (note->reason == REASON_TOO_MANY)
 			write_left_out(frame, note->record);
 		else if (note->reason)
@@ -343,6 +379,8 @@ enum reason frame_write(struct frame *frame, u64 consumed)
 	if (consumed > frame->bytes || frame->is_broken)
 		return REASON_BROKEN;
 	cut(frame, consumed);
+	if (frame->is_refused)
+		leave_out_refused(frame);
 	if (!grammar_allows(frame))
 		return REASON_BROKEN;
 	u64 attached = entry_bytes(frame);

@@ -37,6 +37,7 @@ struct frame {
 	u32 expected;			/* where the next chunk begins */
 	int is_broken;			/* a chunk is missing */
 	int is_late;			/* the commands were read late */
+	int is_refused;			/* the driver refused the last send, and its data is left out if it is much */
 	u32 stack;			/* of its call, as stacks.h numbers it; 0 if there is none */
 	struct entry *entries, *last_entry;	/* in the order of their records */
 	struct note *notes, *last_note;
@@ -54,6 +55,8 @@ void frame_keep(struct frame *frame);
 /* Copies bytes of an entry that have come, from `at` on. */
 void entry_read(const struct entry *entry, u64 at, void *to, u64 count);
 void frame_add_note(struct frame *frame, u32 record, u32 reason);
+/* Whether the last send of the first `consumed` bytes has so much data that it is left out if the driver refused it. */
+int frame_is_in_doubt(const struct frame *frame, u64 consumed);
 /* Writes the first `consumed` bytes and their entries, and the lines of the side list. Returns REASON_NONE; or, if nothing
  * is written, why the frame is lost, or REASON_LATER: the next file is not begun yet, and the call is due once more. */
 enum reason frame_write(struct frame *frame, u64 consumed);

@@ -84,6 +84,7 @@ static void create_files(const struct options *options)
 		fail("%s: %s", parts_path(), strerror(error));
 	if (options->files) {
 		met_keep(options->size);
+		window_bound_refused();
 		begin_tell_also(missed_tell_again);
 	}
 }

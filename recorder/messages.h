@@ -56,6 +56,7 @@ enum reason {
 	REASON_HELD_TOO_LONG,	/* the driver took too long for the write: later frames had to wait */
 	REASON_FILE_TOO_SMALL,	/* the frame is larger than a file may be */
 	REASON_NOT_WRITTEN,	/* the disk had no room */
+	REASON_REFUSED,		/* the driver refused the send, and its data is much for a flight recorder */
 	REASON_END,
 	REASON_LATER,		/* not lost: the next run of a program copies it, or the frame waits for the next file */
 };

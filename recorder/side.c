@@ -31,6 +31,7 @@ static const char *const reasons[REASON_END] = {
 	[REASON_HELD_TOO_LONG] = "held-too-long",
 	[REASON_FILE_TOO_SMALL] = "file-too-small",
 	[REASON_NOT_WRITTEN] = "not-written",
+	[REASON_REFUSED] = "refused",
 };
 
 const char *reason_word(u32 reason)

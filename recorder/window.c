@@ -1,4 +1,5 @@
 #include "window.h"
+#include "codes.h"
 #include "frame.h"
 #include "names.h"
 #include "parts.h"
@@ -14,6 +15,7 @@
 #define MOST_MEMORY (256u << 20)		/* the most bytes of their frames and lines */
 #define LONGEST_WAIT 10000000000u		/* how long a write may hold back later frames, in nanoseconds */
 #define LONGEST_SETTLE 20000000u		/* how long frames are written before the ring is looked at again */
+#define LONGEST_DOUBT 50000000u			/* how long a send waits for what comes of it, in nanoseconds */
 #define LENT_PART 16u				/* so large a part of the ring may have messages that stay there */
 #define STACK_HEAD offsetof(struct stack, addresses)
 
@@ -26,7 +28,8 @@ struct slot {
 	struct who who;
 	struct frame *frame;
 	u64 consumed;
-	u64 since;				/* when it began to wait */
+	u64 since;				/* when it began to wait: for the driver, or for what comes of a send */
+	int is_answered;			/* what came of its sends is known, or will not be */
 	char *lines;				/* lines of the side list that come after this number */
 	u64 line_bytes, line_room;
 };
@@ -39,10 +42,12 @@ static u64 memory, waiting, frames, lost, lost_because[REASON_END];
 static u64 last_number = UINT64_MAX, last_time = UINT64_MAX;	/* where the recording ends */
 static u64 latest;				/* the latest time of a frame that was written */
 static struct table last_writes;		/* by thread: the number of its last write */
+static int bounds_refused;
 static int is_lent;				/* the message that is heard stays in the ring for a while */
 static u64 *lent;				/* numbers of frames of which something is there */
 static u32 lent_count, lent_room;
 
+void window_bound_refused(void) { bounds_refused = 1; }
 u64 window_waiting(void) { return waiting; }
 u64 window_frames(void) { return frames; }
 u64 window_lost(void) { return lost; }
@@ -143,6 +148,14 @@ static int settle_slot(struct slot *slot)
 	return 1;
 }
 
+/* Whether the frame has much data of a send that the driver may have refused. What the thread reads next says so, mostly
+ * in the same call; a call that is served is answered later, so nothing waits long. */
+static int is_in_doubt(const struct slot *slot, u64 time)
+{
+	return bounds_refused && slot->state == WHOLE && !slot->is_answered && memory <= MOST_MEMORY / 2 &&
+	       slot->since + LONGEST_DOUBT > time && frame_is_in_doubt(slot->frame, slot->consumed);
+}
+
 /* Returns 1 if there is more to write. */
 static int settle(void)
 {
@@ -151,7 +164,7 @@ static int settle(void)
 		struct slot *slot = at(next);
 		if (slot->state == WAITING && (slot->since + LONGEST_WAIT < began || memory > MOST_MEMORY))
 			lose_slot(slot, REASON_HELD_TOO_LONG);
-		if (slot->state != WHOLE && slot->state != LOST)
+		if ((slot->state != WHOLE && slot->state != LOST) || is_in_doubt(slot, began))
 			return 0;
 		if (next > first && memory <= MOST_MEMORY && now() - began > LONGEST_SETTLE)
 			return 1;
@@ -190,6 +203,7 @@ void window_stop(u64 number, u64 time)
 
 void window_end(void)
 {
+	bounds_refused = 0;			/* nothing comes any more */
 	window_silent_until(last_number);
 	for (u64 number = next; number < end; number++)
 		if (at(number)->state == WAITING)
@@ -242,9 +256,23 @@ static void end_wait(u32 thread, u64 but_not)
 	*number = 0;
 }
 
+/* A thread reads, or writes again: what came of the last send of its last write is known. */
+static void answer_write(const struct chunk *chunk)
+{
+	const u64 *number = table_find(&last_writes, chunk->head.thread, 0);
+	struct slot *slot = number && *number && *number != chunk->head.number ? slot_of(*number) : NULL;
+	if (!slot || slot->state != WHOLE)
+		return;
+	slot->is_answered = 1;
+	slot->frame->is_refused = chunk->head.direction == DIRECTION_READ &&
+				  returns_refuse((const u8 *)(chunk + 1), chunk->commands);
+}
+
 static void hear_chunk(const struct chunk *chunk)
 {
 	const struct message *head = &chunk->head;
+	if (bounds_refused)
+		answer_write(chunk);
 	end_wait(head->thread, head->number);
 	struct who who = names_of(head->opening, head->thread, head->time);
 	struct slot *slot = slot_of(head->number);
@@ -332,6 +360,8 @@ static void hear_written(const struct event *event)
 	waiting--;
 	slot->state = WHOLE;
 	slot->consumed = event->written.consumed;
+	if (bounds_refused)
+		slot->since = now();
 }
 
 static void hear_lost(const struct event *event)

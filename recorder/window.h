@@ -5,6 +5,8 @@
 #include "messages.h"
 #include "ring.h"
 
+/* From now on the data of a send that the driver refused is left out if it is much. */
+void window_bound_refused(void);
 /* Takes a message of the ring. */
 void window_hear(const void *message, u64 bytes);
 /* Takes the messages that are in the ring, as ring_drain(). If they have few bytes for its size, large attachments stay

@@ -1,7 +1,9 @@
 /* hostile OUT: a flight recorder's loader among processes that name handles which they do not have, and hold many
  * openings. Each file must have room for frames, whatever its side list begins with. And no memory is kept for what
- * processes have opened and closed, and for their threads. See loader. */
+ * processes have opened and closed, and for their threads, and little of the data of sends that the driver refused. See
+ * loader. */
 #include "begin.h"
+#include "frame.h"
 #include "kit.h"
 #include "met.h"
 #include "names.h"
@@ -31,6 +33,7 @@ enum {
 	FIRST_GONE = 3 * OPENINGS,	/* openings that come and go, */
 	GONE = 100000,			/* so many, each with a thread, a call, a handle and a command line */
 	RETURNS = 2000,			/* codes of a read of the host */
+	MUCH = 1000000,			/* bytes of data of a send */
 	SLICE = 1000,			/* steps of the work that is done in slices */
 };
 
@@ -156,6 +159,64 @@ static void many_liars(void)
 	should_fill("frames of a file beside many processes that name handles");
 }
 
+/* A send with so much data, and what its thread reads then: nothing if that is 0. */
+static void send_data(u32 bytes, u32 answer)
+{
+	struct {
+		struct chunk chunk;
+		u32 word;
+		struct binder_transaction_data sent;
+	} __attribute__((packed)) command = { { .commands = 4 + sizeof command.sent, .next = 4 + sizeof command.sent },
+					      BC_TRANSACTION, { .data_size = bytes } };
+	static union {
+		struct piece piece;
+		u8 bytes[sizeof(struct piece) + CHUNK];
+	} more;
+	u32 returns[] = { BR_NOOP, answer };
+	command.chunk.head = head_of(MESSAGE_CHUNK, DIRECTION_WRITE, ++last, HOST);
+	window_hear(&command, sizeof command);
+	for (u32 at = 0, count; at < bytes; at += count) {
+		count = bytes - at < CHUNK ? bytes - at : CHUNK;
+		more.piece = (struct piece){ .head = head_of(MESSAGE_PIECE, DIRECTION_WRITE, last, HOST), .data = bytes,
+					     .at = at, .bytes = count };
+		window_hear(&more, sizeof more.piece + count);
+	}
+	struct event event = { .head = head_of(MESSAGE_WRITTEN, DIRECTION_WRITE, last, HOST),
+			       .written = { command.chunk.commands } };
+	window_hear(&event, sizeof event);
+	if (answer)
+		hear_frame(DIRECTION_READ, HOST, returns, sizeof returns);
+	settle();
+}
+
+/* How much data of such a send is written. */
+static u32 left_of_send(u32 bytes, u32 answer)
+{
+	u64 entries = frame_entries_written();
+	send_data(bytes, answer);
+	if (!answer) {
+		should(window_last() == last - 1, "a send that is written before what came of it is known", bytes);
+		usleep(100000);
+		settle();
+	}
+	should(window_last() == last, "a send that is not written", (double)last);
+	return frame_entries_written() > entries ? bytes : 0;
+}
+
+/* Of a send that the driver refused, much data is left out, and a line says so; and no data of another one. */
+static void refused_sends(void)
+{
+	char line[64];
+	should(left_of_send(MUCH, BR_FAILED_REPLY) == 0, "much data of a send that was refused", MUCH);
+	snprintf(line, sizeof line, " unattached %llu at=0 why=refused\n", (unsigned long long)last - 1);
+	read_list();
+	should(times(line) == 1, "lines of a send that was refused", times(" unattached "));
+	should(left_of_send(MUCH, BR_DEAD_REPLY) == 0, "much data of a send to a process that is dead", MUCH);
+	should(left_of_send(4096, BR_FAILED_REPLY) == 4096, "little data of a send that was refused", 4096);
+	should(left_of_send(MUCH, BR_TRANSACTION_COMPLETE) == MUCH, "much data of a send", MUCH);
+	should(left_of_send(MUCH, 0) == MUCH, "much data of a send of which is not known what came", MUCH);
+}
+
 static void come_and_go(u32 opening)
 {
 	struct command command = { .head = head_of(MESSAGE_COMMAND, 0, last, opening), .user = 10123,
@@ -238,10 +299,12 @@ int main(int count, char **words)
 		fail("usage: hostile OUT");
 	redact_begin(0);
 	met_keep(SIZE);
+	window_bound_refused();
 	open_process(HOST, MET_FROM_START);
 	open_process(LIAR, MET_FROM_START);
 	a_liar();
 	many_liars();
+	refused_sends();
 	comings_and_goings();
 	many_openings();
 	a_silent_process();

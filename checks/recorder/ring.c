@@ -78,7 +78,8 @@ static struct made_ring ring;
 static u64 last, messages;		/* the number that was taken last, and how many messages came */
 static u64 told;			/* no message of a number up to this one is still to come, but of the end of writes */
 static u32 last_opening, last_thread;
-static int any_lies;
+static int any_lies, fails;		/* fails: among what is read is that the driver refused a send */
+static int may_be_refused;		/* a lie may be that the driver refused an honest send: its data is left out then */
 static u64 most_memory;
 
 static struct message head(u32 type, u32 direction, u64 number, const struct caller *caller)
@@ -144,7 +145,10 @@ static void make_record(void)
 		{ BR_TRANSACTION, BR_REPLY, 0x80487202, BR_NOOP, BR_TRANSACTION_COMPLETE, BR_DEAD_BINDER, 0x8018727f, BR_ACQUIRE },
 	};
 	struct made_record *record = made.records + made.count++;
-	u32 which = one_of(8), word = words[made.direction == DIRECTION_READ][which], bytes = _IOC_SIZE(word);
+	u32 which = one_of(8), word = words[made.direction == DIRECTION_READ][which];
+	if (word == BR_ACQUIRE && fails)
+		word = BR_FAILED_REPLY;
+	u32 bytes = _IOC_SIZE(word);
 	struct binder_transaction_data data = { .target.handle = one_of(40), .flags = one_of(4) ? 0 : TF_ONE_WAY };
 	*record = (struct made_record){ .at = made.bytes, .carries = which < 3 };
 	if (which < 3 && one_of(4)) {
@@ -257,6 +261,8 @@ static void expect(u64 consumed)
 			continue;
 		played_add(&due, entry, sizeof entry);
 		played_add(&due, payload, record->data + record->offsets);
+		if (may_be_refused && record->data + record->offsets > 4096)
+			played_taint(made.number);
 	}
 	played_expect(made.number, due);
 }
@@ -380,7 +386,9 @@ static void dishonest(struct caller *caller)
 {
 	if (one_of(4))
 		end_write(caller);
+	fails = 1;
 	make_frame(one_of(2) ? DIRECTION_WRITE : DIRECTION_READ);
+	fails = 0;
 	played_taint(made.number);
 	if (one_of(2)) {
 		race(caller);
@@ -492,8 +500,11 @@ static void begin(const char *out, u32 files)
 		payload[i] = (u8)(i * 7);
 	redact_begin(0);
 	stacks_begin();
-	if (files)
+	if (files) {
 		met_keep(SIZE);
+		window_bound_refused();
+		may_be_refused = any_lies;
+	}
 	for (u32 i = 0; i < CALLERS; i++)
 		meet(callers + i);
 }
