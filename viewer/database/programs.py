@@ -13,12 +13,11 @@ LARGE_PAGES = {"GLIBC_TUNABLES": "glibc.malloc.hugetlb=1"}
 
 def are_as_proved(root: pathlib.Path) -> bool:
     """Whether the programs and their sources are as they were when the programs were proved. crates/run finds that by
-    several programs, which takes longer than to read a small capture."""
-    from crates.stamps import Stamps
-    try:
-        stamps = Stamps(root)
-    except OSError:
+    several programs, which takes longer than to read a small capture. A folder that has no crates is left to it."""
+    if not (root / "crates.txt").is_file():
         return False
+    from crates.stamps import Stamps
+    stamps = Stamps(root)
     return all(stamps.is_as_it_was(name) for name in BEHIND.values())
 
 
