@@ -1,13 +1,12 @@
 -- Which node each generation of a handle leads to: who talks to whom.
 -- needs: database/schema.sql: book_handle, raw_delivery, raw_generation, raw_object, raw_process, raw_send, raw_thread,
 --   side_device; database/views.sql: device, process; sums.sql: peer_sum
--- makes: tables: who, peer, node_of; temporary tables: handed, passed_on, manager; indexes: object_of_record,
---   object_of_handle, send_refused, generation_of_handle, passed_on_from, node_of_object
+-- makes: tables: who, peer, node_of; temporary tables: crowded, handed, passed_on, manager; indexes: object_of_record,
+--   send_refused, generation_of_handle, crowded_place, crowded_handle, passed_on_from, node_of_object
 
 -- ---- indexes: a query below, or one of the page, was slow without them
 
 CREATE INDEX object_of_record ON raw_object(place, idx);
-CREATE INDEX object_of_handle ON raw_object(place, handle) WHERE handle IS NOT NULL;
 CREATE INDEX send_refused ON raw_send(refused) WHERE refused IS NOT NULL;
 CREATE INDEX generation_of_handle ON raw_generation(upid, handle, begin);
 
@@ -40,12 +39,24 @@ WHERE b.moment = 'begin' AND b.node_upid NOTNULL AND g.n = 1 AND coalesce(g.begi
   AND g.id NOT IN (SELECT generation FROM node_of);
 -- Or else the object that was handed over, if it is certain by which send: one of the sender's own, or one that the
 -- sender has a handle of, which may have been handed over to the sender in its turn.
+-- Of a record with very many objects these are in a table of their own, which finds one without a look at the others.
+CREATE TEMP TABLE crowded(place INTEGER, idx INTEGER, sort INTEGER, binder INTEGER, cookie INTEGER, handle INTEGER);
+INSERT INTO crowded SELECT place, idx, sort, binder, cookie, handle FROM raw_object
+WHERE place IN (SELECT place FROM raw_object WHERE idx = 64);
+CREATE INDEX temp.crowded_place ON crowded(place, idx);
+CREATE INDEX temp.crowded_handle ON crowded(place, handle);
 CREATE TEMP TABLE handed AS
 SELECT g.id AS generation, o.sort, t.upid, o.binder AS ptr, o.cookie, o.handle, s.place,
   s.certain AND s.fits = 1 AS certain
 FROM raw_generation g JOIN raw_delivery d ON d.place = g.given_by JOIN raw_send s ON s.place = d.send
   JOIN raw_object a ON a.place = g.given_by AND a.handle = g.handle AND a.sort IN (:HANDLE, :WEAK_HANDLE)
   JOIN raw_object o ON o.place = s.place AND o.idx = a.idx JOIN raw_thread t ON t.utid = s.utid
+WHERE g.id NOT IN (SELECT generation FROM node_of) AND g.given_by NOT IN (SELECT place FROM crowded) GROUP BY g.id;
+INSERT INTO handed
+SELECT g.id, o.sort, t.upid, o.binder, o.cookie, o.handle, s.place, s.certain AND s.fits = 1
+FROM raw_generation g JOIN raw_delivery d ON d.place = g.given_by JOIN raw_send s ON s.place = d.send
+  JOIN crowded a ON a.place = g.given_by AND a.handle = g.handle AND a.sort IN (:HANDLE, :WEAK_HANDLE)
+  JOIN crowded o ON o.place = s.place AND o.idx = a.idx JOIN raw_thread t ON t.utid = s.utid
 WHERE g.id NOT IN (SELECT generation FROM node_of) GROUP BY g.id;
 CREATE TEMP TABLE passed_on AS
 SELECT h.generation, g.id AS of FROM handed h JOIN raw_generation g

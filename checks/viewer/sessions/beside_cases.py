@@ -430,6 +430,23 @@ def dead_taken_again(s):
     s.wait(1100)
 
 
+@case("H4:1", "handle 66, service 100 node 0x4200", count=66)
+@case("H4:1", "handle 65, service 100 node 0x4100", count=65)
+@case("H4:1", "handle 64, service 100 node 0x4000", count=64)
+@case("H4:1", "handle 3, service 100 node 0x300", count=3)
+def taken_of_many(s, count):
+    """A reply gives so many objects, of which the client takes the last one twice."""
+    service, client = s.two()
+    theirs = b"".join(node_object(0x100 * at) for at in range(1, count + 1))
+    ours = b"".join(of_handle(2, at) for at in range(1, count + 1))
+    address = service.main.gets(client.main.sends(0, 5))
+    got = client.main.answered(service.main.replies(address, theirs, offsets(*range(0, 24 * count, 24))), ours,
+                               free=False)
+    client.main.writes(*each(BC_ACQUIRE, count, count))
+    client.main.frees(got)
+    s.wait(300)
+
+
 @case("H4:1 H5:4", twice=1)
 @case("C4:1 H5:4 A1:2", called=True)
 @case("C4:1 H9:8 A1:2", "(4 held at half of its time, 8 at the end)", called=True, grows=True)
