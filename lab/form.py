@@ -4,10 +4,13 @@ anywhere, so nothing of it is used before it is known to have this form.
 In a file each text of the lists is there once, in `names`: a row has the place of its texts in that list. And a list
 has the names of its columns once, and rows without names. This is form 2; in files of form 1 a row is an object."""
 
+import contextlib
 import math
 import re
+from collections.abc import Iterable, Iterator, Sequence
+from itertools import repeat
 from types import NoneType
-from typing import Callable, Collection, NamedTuple, Sequence
+from typing import Callable, Collection, NamedTuple
 
 from viewer.defects.seen import RANKS
 
@@ -105,7 +108,7 @@ def wrong_in(where: str, given: object, form: dict[str, Kind]) -> str | None:
 
 def wrong_rows(name: str, given: object) -> str | None:
     """What is wrong with a list of a result, if something is."""
-    if not isinstance(given, list):
+    if not isinstance(given, (list, Rows)):
         return f"{name} is no list"
     return next(filter(None, (wrong_in(f"{name}[{at}]", row, ROWS[name]) for at, row in enumerate(given))), None)
 
@@ -145,36 +148,65 @@ def folded(result: dict) -> dict:
     return {"form": FORM, "capture": result["capture"], "names": [*names], **lists}
 
 
+class Rows(Sequence[dict]):
+    """Rows of a list, by columns: a lab takes these as they are, and a row is made only for who asks for it."""
+
+    def __init__(self, columns: dict[str, Sequence[object]], amount: int):
+        self.columns, self.amount = columns, amount
+
+    def __len__(self) -> int:
+        return self.amount
+
+    def __getitem__(self, at):  # type: ignore[no-untyped-def]
+        return {name: values[at] for name, values in self.columns.items()}
+
+    def __iter__(self) -> Iterator[dict]:
+        return (dict(zip(self.columns, row)) for row in zip(*self.columns.values()))
+
+    def column(self, name: str) -> Iterable[object]:
+        return self.columns[name] if name in self.columns else repeat(None, self.amount)
+
+
 class Unfolding:
     """A file of form 2 that is unfolded to a result. What can't be is told by `why`."""
 
     def __init__(self, given: dict):
         names = given.get("names")
-        self.names: dict[object, object] = dict(enumerate(names)) if isinstance(names, list) else {}
+        texts = names if isinstance(names, list) else []
+        self.are_texts = all(map(is_text, texts))
+        self.names: dict[object, object] = {None: None, **dict(enumerate(texts))}
         self.why = None if isinstance(names, list) else "names is no list"
         self.right: set[str] = set()
         self.result = {"capture": given.get("capture"), **{name: self.rows(name, given.get(name)) for name in ROWS}}
 
-    def rows(self, name: str, given: object) -> list[dict]:
+    def rows(self, name: str, given: object) -> Sequence[dict]:
         columns, rows = (given.get("columns"), given.get("rows")) if isinstance(given, dict) else (None, None)
         if not isinstance(columns, list) or not isinstance(rows, list) or any(type(one) is not str for one in columns):
             self.why = self.why or f"{name} has no columns and rows"
             return []
-        if others := [at for at, row in enumerate(rows) if not isinstance(row, list) or len(row) != len(columns)]:
-            self.why = self.why or f"{name}.rows[{others[0]}] is no row of {len(columns)} values"
+        if {*map(type, rows)} - {list} or {*map(len, rows)} - {len(columns)}:
+            at = next(at for at, row in enumerate(rows) if not isinstance(row, list) or len(row) != len(columns))
+            self.why = self.why or f"{name}.rows[{at}] is no row of {len(columns)} values"
         if self.why:
             return []
         there: dict[str, Sequence[object]] = {
             column: self.named(f"{name}.rows", column, values) if is_named(ROWS[name][column]) else values
             for column, values in zip(columns, zip(*rows)) if column in ROWS[name]}
-        if all(kind.takes_all(there.get(column, (None,))) for column, kind in ROWS[name].items()):
+        if all(self.is_right(kind, there.get(column, (None,))) for column, kind in ROWS[name].items()):
             self.right.add(name)
-        return [dict(zip(there, row)) for row in zip(*there.values())]
+        return Rows(there, len(rows) if there else 0)
+
+    def is_right(self, kind: Kind, values: Sequence[object]) -> bool:
+        """Whether all are values of a kind. If each of `names` is a text, so is each value that comes from it."""
+        if is_named(kind) and self.are_texts:
+            return kind.may_lack or None not in values
+        return kind.takes_all(values)
 
     def named(self, where: str, column: str, places: Sequence[object]) -> Sequence[object]:
         """The texts of which the rows have the places in a column."""
-        if {*map(type, places)} <= {int, NoneType} and {*places} - {None} <= self.names.keys():
-            return [*map(self.names.get, places)]
+        if {*map(type, places)} <= {int, NoneType}:
+            with contextlib.suppress(KeyError):
+                return [*map(self.names.__getitem__, places)]
         at = next(at for at, place in enumerate(places)
                   if place is not None and (type(place) is not int or place not in self.names))
         self.why = self.why or f"{where}[{at}].{column} is no place in names"

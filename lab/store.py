@@ -8,9 +8,11 @@ import os
 import pathlib
 import sqlite3
 import time
-from typing import Iterator, NamedTuple
+from collections.abc import Iterable, Iterator, Sequence
+from itertools import repeat
+from typing import NamedTuple
 
-from lab.form import CAPTURE, ROWS, Kind, unfolded
+from lab.form import CAPTURE, ROWS, Kind, Rows, unfolded
 from lab.result import LARGEST
 from viewer.files import Stopped
 
@@ -151,10 +153,15 @@ def insertion(table: str, how: str, more: tuple[str, ...]) -> str:
     return f"{how} INTO {table}({', '.join(columns)}) VALUES ({', '.join('?' * len(columns))})"
 
 
-def insert(lab: sqlite3.Connection, table: str, given: list[dict], how: str = "INSERT", **more: object) -> None:
+def insert(lab: sqlite3.Connection, table: str, given: Sequence[dict], how: str = "INSERT", **more: object) -> None:
     """Puts what a result gives into a table, and these columns more."""
     names, others = [*TABLES[table].values()], [*more.values()]
-    lab.executemany(insertion(table, how, tuple(more)), ([*map(row.get, names), *others] for row in given))
+    rows: Iterable[Sequence[object]]
+    if isinstance(given, Rows):
+        rows = zip(*map(given.column, names), *(repeat(other, len(given)) for other in others))
+    else:
+        rows = ([*map(row.get, names), *others] for row in given)
+    lab.executemany(insertion(table, how, tuple(more)), rows)
 
 
 def put(lab: sqlite3.Connection, result: dict) -> None:

@@ -70,7 +70,7 @@ from checks.lab.tried_again import check_tried_again
 from checks.lab.words import check_words
 from lab import result
 from lab.first_seen import FIRST
-from lab.form import unfolded
+from lab.form import ROWS, unfolded
 from lab.store import open_lab
 from viewer.units import defect_key
 
@@ -94,7 +94,8 @@ def made_of(folder: pathlib.Path, room: pathlib.Path, name: str, *more: object) 
     """The result of a stored capture."""
     to = room / f"{name}.json"
     fleet(folder, "one", *stored(name), "--build", "b1", "--device", "d1", "-o", to, *more)
-    return unfolded(json.loads(to.read_text("utf-8")))[0]
+    made = unfolded(json.loads(to.read_text("utf-8")))[0]
+    return {**made, **{rows: [*made[rows]] for rows in ROWS}}
 
 
 # ---- results
@@ -152,7 +153,8 @@ def check_bound(whole: dict, fail: Fail) -> None:
     phone["talk"] = [{**whole["talk"][0], "caller": f"process.number.{row % 24} on binder", "server":
                       f"process.number.{row // 50} on binder", "call": f"org.example.IInterface{row // 50}.method{row}",
                       "sends": chance.randrange(1000), "longest": chance.randrange(10**9)} for row in range(1200)]
-    compare("a result like a phone's", unfolded(json.loads(result.text_of(result.bounded(phone)))),
+    came, why = unfolded(json.loads(result.text_of(result.bounded(phone))))
+    compare("a result like a phone's", ({**came, **{rows: [*came[rows]] for rows in ROWS}}, why),
             ({**phone, "capture": {**phone["capture"], "left_out": 0}}, None), fail)
     row = {**whole["talk"][0], "caller": "x" * 400}
     large["talk"] = [{**row, "longest": chance.getrandbits(60)} for _ in range(20_000)]
