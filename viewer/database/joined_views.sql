@@ -1,10 +1,10 @@
 -- Views that join what a question needs: both ends of a transaction, with times, names and outcome; who holds whose
 -- object; who asked to be told of whose death; descriptors; loopers and what they serve; and senders in sum. They have
 -- numbers in place of names, and joined lines, as views.sql has.
--- needs: schema.sql: book_handle, capture, method, object_interface, object_service, raw_call, raw_capture,
+-- needs: schema.sql: book_handle, capture, method, object_interface, object_service, package, raw_call, raw_capture,
 --   raw_delivery, raw_generation, raw_interface, raw_object, raw_process, raw_record, raw_send, raw_service,
---   raw_thread, side_process, side_thread, side_time; numbers.sql: kind, verdict; rules/nodes.sql: node_of, who;
---   rules/matters.sql: traffic; rules/defects.sql: call_text
+--   raw_thread, side_device, side_process, side_thread, side_time; numbers.sql: kind, verdict; rules/nodes.sql:
+--   node_of, who; rules/matters.sql: traffic; rules/defects.sql: call_text
 -- makes: views: txn, holder, death_request, fd_sent, looper, sender
 
 -- The outcome of a call is how its thread saw it end; that of a oneway transaction is what became of it at the driver.
@@ -40,13 +40,21 @@ SELECT
   coalesce(c.closer, s.refused) AS closer,
   y.ts - b.ts AS wait,
   z.ts - b.ts AS dur,
-  s.certain
+  s.certain,
+  coalesce(sd.name, 'device ' || p.device) AS device,
+  q.uid AS client_uid,
+  (SELECT group_concat(name) FROM package x WHERE x.uid = q.uid OR x.uid = q.uid % 100000) AS client_package,
+  sq.uid AS server_uid,
+  (SELECT group_concat(name) FROM package x WHERE x.uid = sq.uid OR x.uid = sq.uid % 100000) AS server_package
 FROM raw_send s JOIN raw_record r USING (place) JOIN raw_thread t USING (utid) JOIN raw_process p USING (upid)
   LEFT JOIN side_thread u USING (device, process, thread) LEFT JOIN side_process q USING (device, process)
+  LEFT JOIN side_device sd ON sd.device = p.device
   LEFT JOIN raw_call c USING (place) LEFT JOIN verdict v ON v.number = c.verdict
   LEFT JOIN raw_delivery d ON d.place = s.delivery LEFT JOIN raw_record e ON e.place = d.place
   LEFT JOIN raw_thread g ON g.utid = d.utid LEFT JOIN node_of n ON n.generation = s.generation
   LEFT JOIN who wc ON wc.upid = t.upid LEFT JOIN who ws ON ws.upid = coalesce(g.upid, n.upid)
+  LEFT JOIN raw_process sp ON sp.upid = coalesce(g.upid, n.upid)
+  LEFT JOIN side_process sq ON (sq.device, sq.process) = (sp.device, sp.process)
   LEFT JOIN call_text k ON (k.code, k.upid, k.ptr) = (r.code, coalesce(n.upid, -t.upid), coalesce(n.ptr, r.handle))
   LEFT JOIN raw_interface i ON i.id = r.interface LEFT JOIN method m ON (m.interface, m.code) = (i.name, r.code)
   LEFT JOIN raw_record x ON x.place = coalesce(s.refused, iif(c.verdict = 3, c.closer, NULL))

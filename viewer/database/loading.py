@@ -7,7 +7,7 @@ import select
 import sqlite3
 from typing import Callable
 
-from viewer.database import packages
+from viewer.database import data_hash, packages
 from viewer.database.finders import Finders, finders_of
 from viewer.database.programs import Asked, answer, build_programs, fault_in
 from viewer.database.raw_tables import Loading, can_pack, load_as_it_comes, load_rows
@@ -47,11 +47,13 @@ def load_facts(database: sqlite3.Connection, files: list[str], malformed: str | 
 
 def fill(database: sqlite3.Connection, files: list[str], side: str | None, report: pathlib.Path,
          malformed: str | None, methods: Methods | None = None, beside: list[str] | None = None,
-         others: pathlib.Path | None = None, finders: Finders | None = None) -> SideList:
+         others: pathlib.Path | None = None, finders: Finders | None = None, is_packed: bool = False) -> SideList:
     """Adds the side list, the report and its findings to the raw tables. The driver's books are beside the side lists
     `beside`, or else beside the side list, of which `others` has the lines that are not loaded yet. If there are
     `finders`, `doubt_side_list` tells later whether the side list is that of the capture."""
     database.execute("BEGIN")
+    if not is_packed:
+        data_hash.take_all(database, files)
     taken = SideList(database)
     if side is not None:
         taken.load(side, others)
@@ -175,11 +177,12 @@ def database_of(root: pathlib.Path, files: list[str], side: str | None, made: pa
     with finders or contextlib.nullcontext():
         if finders:
             begin(database, finders)
-        taken = fill(database, files, side, report, malformed, methods, beside, others, finders)
+        taken = fill(database, files, side, report, malformed, methods, beside, others, finders, packs)
         tell_zeros(database, files, malformed, ends)
         report.unlink()
         tell("applying the rules")
-        judge(database, timing=timing, finders=finders)
+        with data_hash.Data(files) as data:
+            judge(database, timing=timing, finders=finders, hash_of=data.hash_of)
         if finders and side is not None:
             doubt_side_list(database, taken, finders)
     compare_with_books(database)

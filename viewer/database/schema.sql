@@ -8,14 +8,16 @@
 -- book_opening are new; the notifications have their names in record; what the driver in Rust does not tell is NULL.
 -- Since version 9, package, txn, holder, death_request, fd_sent, looper, sender, side_failed, side_overrun, refusal,
 -- no_space and the column bits of thread are new.
--- Since version 10, send_time, call_tree, queue_holder, method_time and clock are new.
+-- Since version 10, send_time, call_tree, queue_holder, method_time and clock are new, and the columns data_hash of
+-- record, and device, client_uid, client_package, server_uid and server_package of txn.
 -- needs: nothing
 -- makes: tables: raw_capture, raw_process, raw_thread, raw_frame, raw_record, raw_interface, raw_service, raw_object,
 --   raw_call, raw_generation, raw_send, raw_delivery, raw_slice, raw_level, side_device, side_process, side_thread,
 --   side_time, side_clock, side_lost, method, call_interface, object_interface, object_service, side_missed,
 --   side_failed, side_overrun, side_calls, side_handle, book, book_opening, book_handle, book_node, book_buffer,
 --   book_call, book_process, book_open, book_stats, package, disagreement, side_call, side_pc, side_map,
---   side_unstacked, symbol, capture, report, finding; indexes: side_process_of_pid, side_thread_of_tid, book_call_of
+--   side_unstacked, symbol, data_hash, capture, report, finding; indexes: side_process_of_pid, side_thread_of_tid,
+--   book_call_of
 
 PRAGMA user_version = 10;
 
@@ -358,6 +360,9 @@ CREATE TABLE side_unstacked(id INTEGER PRIMARY KEY, what TEXT NOT NULL, count IN
 -- rises to the one into which the others were put.
 CREATE TABLE symbol(build_id TEXT, address INTEGER, inlined INTEGER, function TEXT NOT NULL, source TEXT,
   PRIMARY KEY(build_id, address, inlined)) STRICT;
+-- A number for the data of a transaction: the same data have the same one. data_hash.py fills it, for all of them, or of a
+-- large capture that is not kept for calls that come again and again.
+CREATE TABLE data_hash(place INTEGER PRIMARY KEY, hash INTEGER NOT NULL) STRICT;
 CREATE TABLE capture(key TEXT PRIMARY KEY, value);
 CREATE TABLE report(id INTEGER PRIMARY KEY, section TEXT NOT NULL, place INTEGER, device INTEGER, process INTEGER,
   text TEXT NOT NULL) STRICT;

@@ -451,6 +451,45 @@ static void sum_sent_names(struct work *work)
 	}
 }
 
+enum { AGAIN_GENERATION, AGAIN_CODE, AGAIN_DATA_SIZE, AGAIN_KEYS, AGAIN_N = AGAIN_KEYS, AGAIN_PLACE, AGAIN_FIRST,
+       AGAIN_LAST, AGAIN_LEAST, AGAIN_MOST, AGAIN_FIELDS };
+
+/* Adds a call at a time: what was between it and the one before it. */
+static void add_time(struct group *group, int64_t ts)
+{
+	if (group->there >> AGAIN_LAST & 1) {
+		int64_t between = ts - group->field[AGAIN_LAST];
+		set_most(group, AGAIN_MOST, between);
+		if (!(group->there >> AGAIN_LEAST & 1) || between < group->field[AGAIN_LEAST])
+			set(group, AGAIN_LEAST, between);
+	} else {
+		set(group, AGAIN_FIRST, ts);
+	}
+	set(group, AGAIN_LAST, ts);
+}
+
+static void sum_again(struct work *work)
+{
+	struct packed_cursor send = cursor_in(work, SENDS), record = cursor_in(work, RECORDS), time = cursor_in(work, TIMES);
+	while (go_on(work, &send, SEND_GENERATION)) {
+		if (!has(&send, SEND_GENERATION) || !look_up(work, &record, send.values[0], RECORD_DATA_SIZE)
+		    || record.values[RECORD_FLAGS] & ONE_WAY || !record.values[RECORD_DATA_SIZE]
+		    || !look_up(work, &time, send.values[SEND_SEQ], TIME_TS))
+			continue;
+		union keys keys = { 0 };
+		set(&keys.group, AGAIN_GENERATION, send.values[SEND_GENERATION]);
+		set_key(&keys.group, AGAIN_CODE, &record, RECORD_CODE);
+		set_key(&keys.group, AGAIN_DATA_SIZE, &record, RECORD_DATA_SIZE);
+		struct group *group = found(work, &keys.group);
+		if (!group)
+			return;
+		if (!(group->there >> AGAIN_PLACE & 1))
+			set(group, AGAIN_PLACE, send.values[0]);
+		add(group, AGAIN_N, 1);
+		add_time(group, time.values[TIME_TS]);
+	}
+}
+
 /* A sum: its name and columns, how many tell its rows apart, which one is a real number (-1: none), and what makes it. */
 struct sum {
 	const char *name, *columns;
@@ -468,6 +507,8 @@ static const struct sum SUMS[] = {
 	  sum_served },
 	{ "came_name", "code, upid, ptr, interface, n", CAME_NAME_KEYS, CAME_NAME_FIELDS, -1, sum_came_names },
 	{ "sent_name", "generation, code, interface, n", SENT_NAME_KEYS, SENT_NAME_FIELDS, -1, sum_sent_names },
+	{ "again_sum", "generation, code, data_size, n, place, first, last, least, most", AGAIN_KEYS, AGAIN_FIELDS, -1,
+	  sum_again },
 };
 
 /* ---- as virtual tables */

@@ -97,8 +97,8 @@ FROM raw_send f LEFT JOIN side_time b ON b.seq = f.seq,
           AND k.parent = v.place AND NOT k.served
       ORDER BY 2 DESC, 1)
     SELECT json_group_array(json_array(place, level)) FROM made)) j
-  JOIN send_time t ON t.place = json_extract(j.value, '$[0]')
-  JOIN (SELECT 0 AS part UNION ALL SELECT 1) z ON z.part = 0 OR t.unknown <> 0;
+  CROSS JOIN send_time t CROSS JOIN (SELECT 0 AS part UNION ALL SELECT 1) z
+WHERE t.place = json_extract(j.value, '$[0]') AND (z.part = 0 OR t.unknown <> 0);
 
 -- What the threads of a server that take calls were in while a send waited for one: a call that they served, a oneway
 -- transaction whose handler was at work, or a call of their own. A thread that was in none has no row. `send` is that of

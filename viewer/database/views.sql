@@ -1,10 +1,10 @@
 -- The views, which docs/DATABASE.md describes. A view can't have parameters, so raw_tables.py puts the numbers in. It
 -- also joins a line that is eight spaces in to the one before it: the database keeps the text of a view, and names are
 -- longer than numbers.
--- needs: schema.sql: book_process, capture, object_interface, object_service, raw_call, raw_delivery, raw_frame,
---   raw_generation, raw_interface, raw_level, raw_object, raw_process, raw_record, raw_send, raw_service, raw_thread,
---   side_device, side_map, side_pc, side_process, side_thread, side_time, symbol; numbers.sql: cause, kind, sort,
---   verdict; rules/nodes.sql: node_of; rules/matters.sql: traffic; rules/defects.sql: call_text, program
+-- needs: schema.sql: book_process, capture, data_hash, object_interface, object_service, raw_call, raw_delivery,
+--   raw_frame, raw_generation, raw_interface, raw_level, raw_object, raw_process, raw_record, raw_send, raw_service,
+--   raw_thread, side_device, side_map, side_pc, side_process, side_thread, side_time, symbol; numbers.sql: cause, kind,
+--   sort, verdict; rules/nodes.sql: node_of; rules/matters.sql: traffic; rules/defects.sql: call_text, program
 -- makes: views: device, process, thread, frame, record, interface, service, object, call, handle, send, delivery,
 --   status, level, reference, listing, came_to, sent_to, node_interface, stack, node_service, talk
 
@@ -35,10 +35,10 @@ CREATE VIEW record AS
 SELECT r.place, r.seq, r.utid, t.upid, k.name AS kind, r.handle, r.ptr, r.cookie, r.address, r.code, r.flags,
   r.flags & :TF_ONE_WAY AS oneway, r.sender_pid, r.sender_euid, r.data_size, r.offsets_size, r.offsets, r.extra,
         r.attachment,
-  r.value, x.ts, i.name AS interface, v.name AS service
+  r.value, x.ts, i.name AS interface, v.name AS service, h.hash AS data_hash
 FROM raw_record r JOIN raw_thread t USING (utid) LEFT JOIN kind k ON k.number = r.kind
   LEFT JOIN side_time x USING (seq) LEFT JOIN interface i ON i.id = r.interface
-  LEFT JOIN service v ON v.id = r.service;
+  LEFT JOIN service v ON v.id = r.service LEFT JOIN data_hash h USING (place);
 
 CREATE VIEW interface AS SELECT id, name FROM raw_interface;
 CREATE VIEW service AS SELECT id, name FROM raw_service;

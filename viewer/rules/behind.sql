@@ -3,7 +3,7 @@
 -- needs: database/schema.sql: finding, raw_delivery, raw_record, raw_send, raw_thread, side_time; nodes.sql: node_of;
 --   records.sql: to_frozen; ages.sql: last, process_life; rule.sql: lossy
 -- after: used_up.sql
--- makes: temporary tables: slow_wait, by_quarter, not_come, behind; indexes: slow_wait_of, not_come_of
+-- makes: temporary tables: slow_wait, by_quarter, not_come, behind, burst; indexes: slow_wait_of, not_come_of
 
 -- ---- what findings are called
 
@@ -13,8 +13,14 @@
 
 -- W4 maybe: Its receiver falls behind: sends to one object wait longer and longer, at last over {VERY_LONG}.
 --   next: how long the receiver takes for each send, and how often they are sent
---   rests on: VERY_LONG, OLD, ENOUGH
+--   rests on: VERY_LONG, OLD, ENOUGH, GROWN
 --   met by: `falls_behind()`: a listener takes one event every 170 ms
+-- W12 maybe: A burst: nearly all sends to one object are of this process, and come faster than it takes them, at last
+--     over {VERY_LONG} late; of these it takes each in less than {LONG}.
+--   next: whether the sender can send less often, or several in one
+--   rests on: VERY_LONG, LONG, NEARLY_ALL, OLD, ENOUGH, GROWN
+--   met by: `bursts()`: a client sends one each 5 ms, and its receiver takes 15 ms for each
+--   fault: bursts of oneway sends
 
 -- ---- what they say of which finding
 
@@ -60,11 +66,21 @@ SELECT z.upid, z.ptr, z.cookie, (SELECT place FROM slow_wait s WHERE s.came
     AND (s.upid, s.ptr, s.cookie) = (z.upid, z.ptr, z.cookie) ORDER BY s.wait DESC, place LIMIT 1), 0,
   (SELECT max(wait) FROM slow_wait s WHERE s.came AND (s.upid, s.ptr, s.cookie) = (z.upid, z.ptr, z.cookie)), a.least
 FROM by_quarter a JOIN by_quarter z USING (upid, ptr, cookie)
-WHERE a.quarter = 1 AND z.quarter = 4 AND z.n >= :ENOUGH AND z.least > max(:VERY_LONG, :OLD * a.median)
+WHERE a.quarter = 1 AND z.quarter = 4 AND z.n >= :ENOUGH AND z.least > max(:VERY_LONG, :GROWN * a.median)
   AND (z.upid, z.ptr, z.cookie) NOT IN (SELECT upid, ptr, cookie FROM behind);
-INSERT INTO finding(section, what, place, seq, upid, utid, code, ptr, cookie, relation, about, node, rule,
-  said, how_long, usually, how_many)
+-- A burst, of one sender; its receiver takes each as soon as it has taken the one before.
+CREATE TEMP TABLE burst AS
+SELECT b.upid, b.ptr, b.cookie, t.upid AS sender, count(*) AS n, w.each
+FROM behind b JOIN slow_wait o USING (upid, ptr, cookie) JOIN raw_send s ON s.place = o.place
+  JOIN raw_thread t ON t.utid = s.utid
+  JOIN (SELECT upid, ptr, cookie, count(*) AS n, (max(iif(came, until, NULL)) - min(iif(came, until, NULL)))
+      / nullif(sum(came) - 1, 0) AS each FROM slow_wait GROUP BY 1, 2, 3) w USING (upid, ptr, cookie)
+WHERE w.each < :LONG GROUP BY 1, 2, 3, 4 HAVING count(*) >= :NEARLY_ALL * w.n;
+INSERT INTO finding(section, what, place, seq, upid, utid, code, ptr, cookie, relation, about, node, rule, culprit,
+  said, how_long, usually, how_many, other_upid)
 SELECT 'queues', 'behind', b.place, r.seq, b.upid, r.utid, r.code, b.ptr, b.cookie, 'at', b.upid, b.ptr,
-  'W4', 'one waited {how_long}, an earlier one {usually}' || iif(b.missing, '; {how_many:send} did not come', ''),
-  b.wait, b.quickest, b.missing
-FROM behind b JOIN raw_record r USING (place);
+  iif(k.sender NOTNULL, 'W12', 'W4'), k.sender,
+  iif(k.sender NOTNULL, '{who} sent {how_many}, and one waited {how_long}; each takes {usually}',
+    'one waited {how_long}, an earlier one {usually}' || iif(b.missing, '; {how_many:send} did not come', '')),
+  b.wait, coalesce(k.each, b.quickest), coalesce(k.n, b.missing), k.sender
+FROM behind b JOIN raw_record r USING (place) LEFT JOIN burst k USING (upid, ptr, cookie);

@@ -10,6 +10,7 @@ from viewer.database.finders import Finders, Given, Query, insert, path_of
 from viewer.database.raw_tables import PACKED_TABLES
 from viewer.database.report import number_of
 from viewer.database.sqlite import named_numbers
+from viewer.page.texts import APPS
 from viewer.rules.effect import ANY_RULE, Effect
 from viewer.rules.names import Names, short_of
 from viewer.rules.notes import note_text
@@ -41,6 +42,13 @@ WORDS: dict[str, Callable] = {
 # The temporary tables that others than the statements of the rules take: here, and in agreement.py.
 OF_RULES, OF_WAITS, OF_BOOKS = ("if_missing",), ("waits", "full_pool", "queued", "step", "waited"), (
     "lossy", "dead_record", "told_death")
+
+
+HashOf = Callable[[int | None, int], int | None]
+
+
+def no_hash(_: int | None, __: int) -> None:
+    """Where there is no capture to read: data_hash has what there is."""
 
 
 def empty_of(database: sqlite3.Connection, tables: Sequence[str]) -> set[str]:
@@ -267,11 +275,14 @@ def views_of(plan: Plan, due: list[tuple[int, Statement]]) -> list[Given]:
 
 def numbers_of(database: sqlite3.Connection) -> dict[str, float]:
     """The values of the parameters of statements."""
-    return {**named_numbers(database), **THRESHOLDS, "FIRST_LETTERS": LETTERS.start, "LAST_LETTERS": LETTERS[-1]}
+    return {**named_numbers(database), **THRESHOLDS, "FIRST_LETTERS": LETTERS.start, "LAST_LETTERS": LETTERS[-1],
+            "FIRST_APP": APPS.start, "LAST_APP": APPS[-1]}
 
 
-def run(database: sqlite3.Connection, plan: Plan, timing: Timing | None = None, finders: Finders | None = None) -> None:
+def run(database: sqlite3.Connection, plan: Plan, timing: Timing | None = None, finders: Finders | None = None,
+        hash_of: HashOf = no_hash) -> None:
     """Runs the statements of a plan: all if it does not say which tables they make."""
+    database.create_function("hash_of", 2, hash_of)
     for name, function in WORDS.items():
         database.create_function(name, -1, functools.lru_cache(4096)(function), deterministic=True)
     database.create_function("number_in", 3, number_of, deterministic=True)
@@ -290,10 +301,11 @@ def write_plan(path: pathlib.Path) -> None:
 
 
 def judge(database: sqlite3.Connection, folder: pathlib.Path = FOLDER, timing: Timing | None = None,
-          whole: bool = False, finders: Finders | None = None) -> None:
+          whole: bool = False, finders: Finders | None = None, hash_of: HashOf = no_hash) -> None:
     """Gives each finding its verdict; `whole`: also by the statements that find nothing. In the statements `:BR_REPLY`
     is the number of that name, and `:LONG` a threshold. They make texts by the functions of WORDS, and after names.sql
     by `call_name(code, upid, ptr)`, the name of a call. `short_name(interface)` is what an interface is called, and
-    `bare_name(interface)` without its package, even if there is another one of that name."""
+    `bare_name(interface)` without its package, even if there is another one of that name. `hash_of` has the number of
+    the data of an attachment, for what is not in data_hash yet."""
     plan = plan_of(folder, run)
-    run(database, plan._replace(empty={}) if whole else plan, timing, finders)
+    run(database, plan._replace(empty={}) if whole else plan, timing, finders, hash_of)

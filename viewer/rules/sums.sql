@@ -2,7 +2,7 @@
 -- many. Of a database that is not kept the loader makes tables of these names (database/sums.c), which have the same rows
 -- in the same order in a tenth of the time. A view can't have parameters, so plan.py puts the numbers in.
 -- needs: database/schema.sql: raw_call, raw_delivery, raw_record, raw_send, raw_thread, side_time
--- makes: temporary views: peer_sum, sent_sum, came_sum, served_sum, came_name, sent_name
+-- makes: temporary views: peer_sum, sent_sum, came_sum, served_sum, came_name, sent_name, again_sum
 
 -- What was sent to a generation of a handle, by the nodes that it came to.
 CREATE TEMP VIEW peer_sum AS
@@ -79,3 +79,15 @@ CREATE TEMP VIEW sent_name AS
 SELECT s.generation, r.code, r.interface, count(*) AS n
 FROM raw_send s JOIN raw_record r USING (place)
 WHERE s.generation NOTNULL AND r.interface NOTNULL GROUP BY 1, 2, 3;
+
+-- The calls to a generation of a handle, by code and by how many bytes of data they have: how many there are, the first of
+-- them, when the first and the last one were, and the least and the most time from one to the next.
+CREATE TEMP VIEW again_sum AS
+SELECT generation, code, data_size, count(*) AS n, min(place) AS place, min(ts) AS first, max(ts) AS last,
+  min(gap) AS least, max(gap) AS most
+FROM (
+  SELECT s.generation, r.code, r.data_size, s.place, x.ts,
+    x.ts - lag(x.ts) OVER (PARTITION BY s.generation, r.code, r.data_size ORDER BY s.place) AS gap
+  FROM raw_send s JOIN raw_record r USING (place) JOIN side_time x ON x.seq = s.seq
+  WHERE s.generation NOTNULL AND r.data_size > 0 AND NOT r.flags & :TF_ONE_WAY)
+GROUP BY 1, 2, 3;

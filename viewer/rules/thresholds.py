@@ -51,6 +51,12 @@ TABLE = {
     # (H13).
     "TOO_MANY": Threshold(10, "so many are no design: sends to what has ended or is frozen, unused handles of a growing"
                           " way, references to one object"),
+    # So often the same request at one period is no accident: it asks for what has not changed (V3).
+    "AGAIN": Threshold(20, "the same request so often, at one period, is polling"),
+    # Sends that are evenly spaced and faster than they are taken wait six times as long in the last quarter as in the
+    # first one (W4, W12).
+    "GROWN": Threshold(4, "sends that at last wait over {GROWN} times as long as the first ones wait longer and"
+                       " longer"),
     # If more than this share of what is kept of a way is in use, it is a cache (H5, H6); and it is no leak if no more
     # than the rest of it is not in use (H10).
     "MOST": Threshold(0.5, "the kept handles of a way are a cache if more than this share is in use"),

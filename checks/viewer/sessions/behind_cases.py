@@ -4,15 +4,16 @@ from checks.viewer.sessions.cases import case
 from checks.viewer.sessions.session import ONE_WAY
 
 
-def told(s, count, came_at, ends=True, lost=False, more=0):
-    """A client tells a service something each 0.1 s, in oneway sends. The service takes each of them at a time, if it
-    does so before the end, `more` milliseconds after the last of them, and then ends or does not. `lost`: its last
-    frame is missing."""
+def told(s, count, came_at, ends=True, lost=False, more=0, every=100, senders=1):
+    """A client tells a service something each 0.1 s, in oneway sends, or clients do so in turns. The service takes each
+    of them at a time, if it does so before the end, `more` milliseconds after the last of them, and then ends or does
+    not. `lost`: its last frame is missing."""
     service, client = s.two()
+    clients = [client, *(s.process(200 + number, "client") for number in range(1, senders))]
     client.main.asks(service.main)
     begin, sent = s.time, {}
-    stops = 100 * count + more
-    steps = [(100 * at, 0, at) for at in range(count)]
+    stops = every * count + more
+    steps = [(every * at, 0, at) for at in range(count)]
     steps += [(came_at(at), 1, at) for at in range(count) if came_at(at) < stops]
     for time, takes, at in sorted(steps):
         s.wait(max(0, time - (s.time - begin) / 1_000_000))
@@ -21,7 +22,8 @@ def told(s, count, came_at, ends=True, lost=False, more=0):
         if takes:
             service.main.frees(service.main.gets(sent[at]))
         else:
-            sent[at] = client.main.sends(0, 7, ONE_WAY)
+            body = bytes([at % senders]) * 4 if senders > 1 else b""
+            sent[at] = clients[at % senders].main.sends(0, 7, ONE_WAY, body=body)
     s.wait(max(0, stops - (s.time - begin) / 1_000_000))
     if ends:
         service.ends()
@@ -49,7 +51,8 @@ def takes_nothing_any_more(s):
 
 @case("W4:1", "one waited 1.1 s, an earlier one 2 ms", wait=1100)
 @case("", wait=900)
-@case("", wait=1100, usual=200)
+@case("W4:1", wait=1100, usual=250)
+@case("", wait=1100, usual=300)
 @case("", wait=1100, late=33)
 @case("", wait=1100, count=8, late=6)
 @case("", wait=900, last=1200)
@@ -65,3 +68,14 @@ def was_late_once(s):
     """The service takes the first ones over a second late, and others at once. It falls behind at last, and what it has
     not taken when it ends has waited for less than a second."""
     told(s, 60, lambda at: 100 * at + 1100 if at < 8 else max(100 * at + 1, 1900) if at < 30 else 140 * at - 1200)
+
+
+@case("W4:1", "one waited 2.34 s, an earlier one", "W4 by service 100: 1", every=60, takes=120, count=40)
+@case("W12:1", "(client 200 sent 160, and one waited 1.59 s; each takes 15 ms)", "W12 by client 200: 1",
+      "maybe bursts of oneway sends: 1 of - code 7 at service 100 node 0x0 W12", every=5, takes=15, count=160)
+@case("W4:1", every=5, takes=15, count=160, senders=2)
+@case("", every=5, takes=15, count=120)
+@case("W12:1", every=60, takes=98, count=60)
+def bursts(s, every, takes, count, senders=1):
+    """The service is idle, and then is sent one each so many milliseconds, evenly, while it takes longer for each."""
+    told(s, count, lambda at: takes * at + 3, ends=False, more=takes * count, every=every, senders=senders)

@@ -1,0 +1,52 @@
+"""Numbers for the data of transactions, by which it is known which calls are alike: the database has no data. In a
+redacted capture the same data have the same bytes too."""
+
+import mmap
+import os
+import sqlite3
+from contextlib import ExitStack
+# As hashlib has it, which loads OpenSSL too.
+from _blake2 import blake2s
+
+# Before the data of an attachment entry come so many bytes, and a file of a capture begins with so many (ENVELOPE.md).
+ENTRY_HEADER, FILE_HEADER = 12, 16
+
+ALL = ("INSERT INTO data_hash SELECT place, hash_of(attachment, data_size) AS hash FROM raw_record WHERE kind IN"
+       " (SELECT number FROM kind WHERE name IN ('BC_TRANSACTION', 'BC_TRANSACTION_SG')) AND attachment NOTNULL")
+
+
+class Data:
+    """The data of the records of a capture in these files, whose places are those of the joined capture."""
+
+    def __init__(self, files: list[str]):
+        self.stack = ExitStack()
+        self.parts: list[tuple[int, mmap.mmap]] = []
+        base = 0
+        for name in files:
+            with open(name, "rb") as file:
+                size = os.fstat(file.fileno()).st_size
+                if size > FILE_HEADER:
+                    mapped = mmap.mmap(file.fileno(), size, access=mmap.ACCESS_READ)
+                    self.parts.append((base, self.stack.enter_context(mapped)))
+                    base += size - FILE_HEADER
+
+    def __enter__(self) -> "Data":
+        return self
+
+    def __exit__(self, *_: object) -> None:
+        self.stack.close()
+
+    def hash_of(self, attachment: int | None, size: int) -> int | None:
+        """The number of so many bytes of data, whose entry begins there."""
+        if attachment is None:
+            return None
+        base, data = next(part for part in reversed(self.parts) if part[0] + FILE_HEADER <= attachment)
+        begin = attachment - base + ENTRY_HEADER
+        return int.from_bytes(blake2s(data[begin:begin + size], digest_size=8).digest(), "little", signed=True)
+
+
+def take_all(database: sqlite3.Connection, files: list[str]) -> None:
+    """Has a number for each transaction."""
+    with Data(files) as data:
+        database.create_function("hash_of", 2, data.hash_of)
+        database.execute(ALL)
