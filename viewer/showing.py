@@ -196,8 +196,9 @@ def is_in_columns(asked: argparse.Namespace) -> bool:
 
 
 def told_at_end(database: sqlite3.Connection, asked: argparse.Namespace, window: windows.Window | None) -> str | None:
-    """What a line on standard error says at the end; None if standard output has an answer for a program."""
-    made = asked.page or asked.trace or is_in_columns(asked) and shown_name(asked.files)
+    """What a line on standard error says at the end; None if standard output has an answer for a program, of the whole
+    capture."""
+    made = asked.page or asked.trace or (is_in_columns(asked) or window) and shown_name(asked.files)
     return f"{made}: {within.told_of(database, window)}" if made else None
 
 

@@ -33,6 +33,8 @@ class Method(NamedTuple):
     client_uid: int | None
     server_uid: int | None
     device: str | None
+    client_package: str | None
+    server_package: str | None
     all_rows: int
 
 

@@ -33,13 +33,34 @@ def groups_within(database: sqlite3.Connection, window: Window | None) -> list[i
     return [group for group, in database.execute(WITHIN, (window.first, window.last, window.begin))]
 
 
+# The calls that were under way in some frames.
+UNDER_WAY = ("SELECT count(*) FROM raw_call WHERE NOT served AND seq <= :last"
+             " AND coalesce(seq + dur_seq, 9223372036854775807) >= :first")
+# What was missed without a number: between a frame before the last one, and one after the first.
+MISSED = "SELECT coalesce(sum(count), 0) FROM side_missed WHERE after >= :first - 1 AND from_seq <= :last"
+
+
+def then_of(database: sqlite3.Connection, window: Window) -> str:
+    """What was recorded in the window, what was under way, and what was lost."""
+    if window.first > window.last:
+        return "then nothing was recorded"
+    frames = {"first": window.first, "last": window.last}
+    came, = database.execute("SELECT count(*) FROM raw_frame WHERE seq BETWEEN :first AND :last", frames).fetchone()
+    (open_then,), (missed,) = (database.execute(query, frames).fetchone() for query in (UNDER_WAY, MISSED))
+    lost = [counted(window.last - window.first + 1 - came, "frame")] if window.last - window.first + 1 > came else []
+    lost += [f"{missed:,} without a number"] if missed else []
+    return (f"then {counted(came, 'frame')}, {counted(open_then, 'call')} under way,"
+            f" {' and '.join(lost) + ' lost' if lost else 'nothing lost'}")
+
+
 def told_of(database: sqlite3.Connection, window: Window | None) -> str:
     """How many groups are shown, and what the capture has, in a line."""
     counts = {verdict: groups for verdict, (groups, _) in counts_of(database, window).items()}
     others = sum(counts.values()) - counts.get("real", 0) - counts.get("maybe", 0)
     frames, missing, malformed = database.execute("SELECT frames, missing, fault FROM raw_capture").fetchone()
     until = " up to its fault" if malformed else ""
-    return (f"{counts.get('real', 0):,} real, {counts.get('maybe', 0):,} maybe, {others:,} others;"
+    then = f" {then_of(database, window)};" if window else ""
+    return (f"{counts.get('real', 0):,} real, {counts.get('maybe', 0):,} maybe, {others:,} others;{then}"
             f" {counted(frames, 'frame')}{until}, {f'{missing % 2**64:,}' if missing else 'none'} missing")
 
 
