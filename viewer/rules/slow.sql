@@ -1,7 +1,7 @@
 -- V: what is slow, which are findings of their own: calls of main threads of apps, by method; and one listener among many.
--- needs: database/schema.sql: data_hash, finding, object_interface, raw_call, raw_delivery, raw_generation, raw_record,
---   raw_send, side_time; database/views.sql: process, thread; database/time_views.sql: call_tree; sums.sql: again_sum,
---   sent_sum; nodes.sql: node_of, who; judging.py: counted, duration, hash_of
+-- needs: database/schema.sql: data_hash, finding, object_interface, raw_call, raw_delivery, raw_generation, raw_object,
+--   raw_record, raw_send, side_time; database/views.sql: process, thread; database/time_views.sql: call_tree; sums.sql:
+--   again_sum, sent_sum; nodes.sql: node_of, who; judging.py: counted, duration, hash_of
 -- after: used_up.sql
 -- makes: temporary tables: timed_path, slow_main, slow_part, listener, late_listener, slow_listener, periodic
 
@@ -67,11 +67,11 @@ SELECT 'slow', 'main thread', m.place, m.seq, m.upid, m.utid, m.code, m.ptr, m.s
   (SELECT server FROM slow_part p WHERE p.place = m.place AND p.nth = 1 AND p.what <> 'unknown')
 FROM slow_main m WHERE m.nth = 1;
 
--- What a process told listeners of one interface by one code, each listener with its longest call.
+-- What a process told listeners of one interface by one code, each process that has some with its longest call.
 CREATE TEMP TABLE listener AS
 SELECT *, count(*) OVER told AS n, row_number() OVER (told ORDER BY longest) AS nth
 FROM (SELECT p.upid, p.code, o.interface, p.server, p.ptr, max(p.longest) AS longest
-  FROM timed_path p JOIN object_interface o ON (o.upid, o.ptr) = (p.server, p.ptr) GROUP BY 1, 2, 3, 4, 5)
+  FROM timed_path p JOIN object_interface o ON (o.upid, o.ptr) = (p.server, p.ptr) GROUP BY 1, 2, 3, 4)
 WINDOW told AS (PARTITION BY upid, code, interface);
 -- Those whose longest call is far longer than that of half of them, and then all their calls: it is the median that counts.
 CREATE TEMP TABLE late_listener AS
@@ -95,13 +95,13 @@ SELECT 'slow', 'listener', place, seq, server, utid, code, ptr, 'at', server, pt
 FROM slow_listener;
 
 -- The calls with as many bytes of data that a process made again and again, where the longest time from one to the next
--- is no more than :USUAL times the shortest.
+-- is no more than :USUAL times the shortest. Who gets an object each time asks for another one.
 -- beside: loading
 CREATE TEMP TABLE periodic AS
 SELECT * FROM again_sum WHERE n >= :AGAIN AND last - first > :VERY_LONG AND most <= :USUAL * least;
 INSERT INTO data_hash
 SELECT s.place, hash_of(r.attachment, r.data_size)
-FROM periodic p CROSS JOIN raw_send s ON s.generation = p.generation JOIN raw_record r USING (place)
+FROM periodic p CROSS JOIN raw_send s ON s.generation = p.generation JOIN raw_record r ON r.place = s.place
 WHERE (r.code, r.data_size) = (p.code, p.data_size) AND hash_of(r.attachment, r.data_size) NOTNULL
   AND s.place NOT IN (SELECT place FROM data_hash);
 INSERT INTO finding(section, what, place, seq, upid, utid, code, ptr, target, relation, about, node, rule, said, how_many,
@@ -111,4 +111,5 @@ SELECT 'slow', 'again', p.place, s.seq, g.upid, s.utid, p.code, n.ptr, n.upid, '
 FROM periodic p JOIN raw_generation g ON g.id = p.generation JOIN node_of n ON n.generation = p.generation
   JOIN raw_send s USING (place) JOIN data_hash f USING (place)
 WHERE p.n = (SELECT count(*) FROM raw_send x JOIN raw_record r USING (place) JOIN data_hash h USING (place)
-  WHERE x.generation = p.generation AND r.code = p.code AND h.hash = f.hash);
+    WHERE x.generation = p.generation AND r.code = p.code AND h.hash = f.hash)
+  AND NOT EXISTS (SELECT 1 FROM raw_call c JOIN raw_object o ON o.place = c.closer WHERE c.place = p.place);

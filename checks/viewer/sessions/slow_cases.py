@@ -54,18 +54,20 @@ def app_waits_for_another(s):
 @case("", calls=3, slow_ones=1)
 @case("V2:1", "it takes 124 ms", calls=3, slow_ones=2)
 @case("", differ=True)
-def listeners(s, slow=120, count=11, usual=0, calls=1, slow_ones=1, differ=False):
-    """A service tells listeners, one process each, of which one is slow, or slow now and then. They may be of two
-    interfaces."""
+@case("", processes=9)
+def listeners(s, slow=120, count=11, usual=0, calls=1, slow_ones=1, differ=False, processes=100):
+    """A service tells listeners, of which one is slow, or slow now and then. Each is of a process of its own, or some
+    processes have several; and they may be of two interfaces."""
     service, _ = s.two()
-    threads = [s.process(300 + at, "listener").main for at in range(count)]
+    threads = [s.process(300 + at, "listener").main for at in range(min(count, processes))]
+    threads += threads[:count - len(threads)]
     for at, thread in enumerate(threads):
-        thread.gives(service.main, 10 + at, node=0x9000)
+        thread.gives(service.main, 10 + at, node=0x9000 + at // processes)
     for call in range(calls):
         for at, thread in enumerate(threads):
             body = marked("example.IOther") if differ and at % 2 else LISTENER
             took = slow if at == count - 1 and call < slow_ones else usual
-            service.main.asks(thread, 1, 10 + at, 0x9000, took=took, body=body)
+            service.main.asks(thread, 1, 10 + at, 0x9000 + at // processes, took=took, body=body)
 
 
 @case("V3:1", "(20 times with the same data, once in 65 ms)", "V3 by client 200: 1", "IPackages code 7 to service 100",
@@ -78,12 +80,17 @@ def listeners(s, slow=120, count=11, usual=0, calls=1, slow_ones=1, differ=False
 @case("V3:1", pause=50)
 @case("", has_data=False)
 @case("", seen=False)
-def asks_again(s, count=20, every=60, other=None, pause=0, has_data=True, seen=True):
+@case("", opens=True)
+def asks_again(s, count=20, every=60, other=None, pause=0, has_data=True, seen=True, opens=False):
     """A client asks for the same, as many milliseconds apart; one call may have other data of the same size, or come
-    later."""
+    later. Or it opens something each time."""
     service, client = s.two()
     for at in range(count):
         body = (PACKAGES + bytes([at == other, 0, 0, 0])) * has_data
+        if opens:
+            client.main.is_given(service.main, 10 + at, 7, take=False, body=body)
+            s.wait(every - 1)
+            continue
         address = service.main.gets(client.main.sends(0, 7, body=body, seen=seen), seen=seen)
         client.main.answered(service.main.replies(address))
         s.wait(every - 1 + (pause if at == 9 else 0))
