@@ -3,8 +3,10 @@
 The guest says on its console what it begins and ends, and each ten seconds of its own time that it is there
 (init.sh). Its limits are of its own time, and init.sh sees to them. Here is told how far it is; and a guest that stands
 still is ended, which one that only waits for a processor of a busy host does not: what counts is the processor time
-that it has had since it said something, and the time in which it neither had a processor nor waited for one."""
+that it has had since it said something, and the time in which it neither had a processor nor waited for one.
+"""
 
+import contextlib
 import os
 import pathlib
 import re
@@ -48,7 +50,7 @@ class Running:
     """A guest that runs. `console` has what it says."""
 
     def __init__(self, guest: Guest, room: pathlib.Path, console: pathlib.Path) -> None:
-        self.console, self.began, self.end_of_line, self.last_used = console, time.monotonic(), 0, (0.0, 0.0)
+        self.console, self.began, self.end_of_line, self.last_used = console, time.monotonic(), 0, 0.0
         self.disk = room / "disk"
         with self.disk.open("wb") as disk:
             disk.truncate(guest.disk)
@@ -72,18 +74,21 @@ class Running:
                 self.end_of_line += len(line)
                 yield line.decode(errors="replace").rstrip()
 
-    def used(self) -> tuple[float, float]:
-        """The seconds for which it had a processor, and those for which it had one or waited for one."""
-        ran = waited = 0
-        for path in pathlib.Path(f"/proc/{self.process.pid}/task").glob("*/schedstat"):
-            try:
-                one, other, _ = map(int, path.read_text("utf-8").split())
-            except (OSError, ValueError):  # a thread that has ended
-                continue
-            ran, waited = ran + one, waited + other
-        if ran:  # else it has ended
-            self.last_used = ran / 1e9, (ran + waited) / 1e9
+    def used(self) -> float:
+        """The seconds for which it had a processor."""
+        if ran := sum(int(text.split()[0]) for text in self.threads("schedstat")):  # else it has ended
+            self.last_used = ran / 1e9
         return self.last_used
+
+    def is_runnable(self) -> bool:
+        """Whether it has a processor or waits for one."""
+        return any(text.rpartition(") ")[2].startswith("R") for text in self.threads("stat"))
+
+    def threads(self, file: str) -> Iterator[str]:
+        """What this file of /proc has of each of its threads."""
+        for path in pathlib.Path(f"/proc/{self.process.pid}/task").glob(f"*/{file}"):
+            with contextlib.suppress(OSError):  # a thread that has ended
+                yield path.read_text("utf-8")
 
     def end(self) -> None:
         self.process.kill()
@@ -98,14 +103,17 @@ class Silence:
         self.heard()
 
     def heard(self) -> None:
-        self.since, (self.ran, self.busy) = time.monotonic(), self.running.used()
+        self.heard_at = self.ran = self.running.used()
+        self.ran_at = time.monotonic()
 
     def why(self) -> str | None:
         """Why a guest stands still; None if it does not."""
-        ran, busy = self.running.used()
-        idle = time.monotonic() - self.since - (busy - self.busy)
-        if ran - self.ran > MOST_SILENT:
-            return f"it has said nothing for {ran - self.ran:.0f} s of the processor"
+        ran = self.running.used()
+        if ran > self.ran or self.running.is_runnable():
+            self.ran, self.ran_at = ran, time.monotonic()
+        idle = time.monotonic() - self.ran_at
+        if ran - self.heard_at > MOST_SILENT:
+            return f"it has said nothing for {ran - self.heard_at:.0f} s of the processor"
         if idle > MOST_IDLE:
             return f"nothing of it has run for {idle:.0f} s"
         return None
@@ -138,7 +146,7 @@ class Told:
         self.wrong: list[str] = []
 
     def hear(self, line: str) -> None:
-        used, _ = self.running.used()
+        used = self.running.used()
         if found := re.fullmatch(r"guest: ended (\S+) status=(.*) seconds=(\S+)", line):
             self.done += 1
             say(f"  {self.done} of {self.count}  {found[1]}: status {found[2]}, {float(found[3]):.1f} s of the guest,"
