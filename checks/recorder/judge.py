@@ -2,6 +2,8 @@
 
     checks/run judge                             judges the recordings that are kept in samples/blind, and prints the
                                                  table that docs/MEASURED.md has of them
+    checks/run judge -- --part                   judges a part of them, as `.ci/run` does, and prints no table: the
+                                                 first set, and those with the driver in Rust, which have each rule
     checks/run judge -- --print                  also puts what came in place of what is stored of it
     checks/run judge -- CASE.. [--keep FOLDER]   judges these sessions alone, as third/6.1/app-update, and prints what
                                                  `./view --groups` prints
@@ -40,7 +42,7 @@ from checks.kit.checking import FLAG, Fail, check
 from checks.kit.programs import AUDITOR, built_programs
 from checks.kit.stored import renew
 from checks.recorder.blind.came import (
-    Came, all_names, came_of, file_beside, names_of, not_recorded, stored_beside, text_of, unlike)
+    NOT_KEPT, Came, absent, all_names, came_of, file_beside, names_of, stored_beside, text_of, unlike)
 from checks.recorder.blind.expected import expectations
 from checks.recorder.blind.judged import Judged, lenient, viewed
 from checks.recorder.blind.recordings import STORED, SUFFIX, Recording, pack, stored_archives, unpack
@@ -74,25 +76,32 @@ def judge_all(recordings: list[Recording], room: pathlib.Path, keep: pathlib.Pat
 # ---- the recordings that are kept, and others
 
 
+def is_in_part(archive: pathlib.Path) -> bool:
+    return archive.parent.name == "first" or archive.name == f"rust{SUFFIX}"
+
+
 def judge_kept(given: argparse.Namespace, room: pathlib.Path, pool: ProcessPoolExecutor, fail: Fail) -> None:
     """Judges those of samples/blind, and compares what came with what is stored, or renews that."""
     cases = given.cases if given.named else None
-    recordings = list(pool.map(functools.partial(unpack, room=given.keep or room, cases=cases), stored_archives()))
+    archives = [archive for archive in stored_archives() if not given.part or is_in_part(archive)]
+    recordings = list(pool.map(functools.partial(unpack, room=given.keep or room, cases=cases), archives))
     all_judged = judge_all(recordings, room, given.keep, pool, fail)
-    for archive, recording, judged in zip(stored_archives(), recordings, all_judged):
+    for archive, recording, judged in zip(archives, recordings, all_judged):
         came, due = came_of(judged), stored_beside(archive)
         if given.print and not given.named:
-            due = not_recorded(due) | came
+            due = absent(due) | came
             renew(file_beside(archive), text_of(due))
         names = [name for name in names_of(archive) if f"{recording.name}/{name}" in given.cases]
         for difference in unlike(recording.name, names, came, due):
             fail(difference)
-        for name in (not_recorded(due).keys() & set(names)) - came.keys() if given.named else ():
+        for name in (absent(due).keys() & set(names)) - came.keys() if given.named else ():
             print(f"{recording.name}/{name}: {'; '.join(due[name])}", flush=True)
     if given.named:
         show(all_judged)
         return
     judge_judge(recordings, all_judged, fail)
+    if given.part:
+        return
     table = table_of(list(zip(recordings, all_judged)))
     print(*table, sep="\n", flush=True)
     if given.print:
@@ -139,8 +148,9 @@ def store(recording: Recording, came: Came) -> None:
         if recording.home != to:
             shutil.copyfile(recording.home / name, to / name)
     archive = to / f"{recording.series}{SUFFIX}"
-    pack(recording, archive)
-    file_beside(archive).write_text(text_of(came), "utf-8")
+    left_out = absent(stored_beside(archive), NOT_KEPT)
+    pack(recording, archive, set(left_out))
+    file_beside(archive).write_text(text_of(came | left_out), "utf-8")
 
 
 def judge(given: argparse.Namespace, room: pathlib.Path, fail: Fail) -> None:
@@ -154,4 +164,4 @@ def judge(given: argparse.Namespace, room: pathlib.Path, fail: Fail) -> None:
 if __name__ == "__main__":
     folder = {"type": lambda word: pathlib.Path(os.path.abspath(word)), "metavar": "FOLDER"}
     check(judge, all_names, set=folder, recorded={**folder, "action": "append", "default": []}, store=FLAG, print=FLAG,
-          keep=folder)
+          keep=folder, part=FLAG)

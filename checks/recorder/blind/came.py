@@ -1,7 +1,7 @@
 """What came of each session of a recording, as SERIES.txt has it beside the archive.
 
-A session that the set expects and that is not in the archive has a line there too: `not recorded: WHY`. So none leaves
-what is judged without a word."""
+A session that the set expects and that is not in the archive has a line there too: `not recorded: WHY`, or `not kept:
+WHY`, and is then left out of new archives too. So none leaves what is judged without a word."""
 
 import pathlib
 from typing import Iterator
@@ -13,7 +13,8 @@ from checks.recorder.blind.recordings import SUFFIX, stored_archives
 # The lines of each session, by its name.
 Came = dict[str, list[str]]
 
-NOT_RECORDED = "not recorded: "
+NOT_RECORDED, NOT_KEPT = "not recorded: ", "not kept: "
+ABSENT = NOT_RECORDED, NOT_KEPT
 
 
 def came_of(judged: list[Judged]) -> Came:
@@ -25,16 +26,17 @@ def file_beside(archive: pathlib.Path) -> pathlib.Path:
 
 
 def stored_beside(archive: pathlib.Path) -> Came:
-    return {name: [line.strip() for line in lines] for name, lines in blocks_of(file_beside(archive)).items()}
+    blocks = blocks_of(beside) if (beside := file_beside(archive)).exists() else {}
+    return {name: [line.strip() for line in lines] for name, lines in blocks.items()}
 
 
 def text_of(came: Came) -> str:
     return "".join(f"{name}\n" + "".join(f"    {line}\n" for line in came[name]) for name in sorted(came))
 
 
-def not_recorded(stored: Came) -> Came:
+def absent(stored: Came, why: str | tuple[str, ...] = ABSENT) -> Came:
     """The sessions of which a line says why they are not in the archive."""
-    return {name: lines for name, lines in stored.items() if lines and lines[0].startswith(NOT_RECORDED)}
+    return {name: lines for name, lines in stored.items() if lines and lines[0].startswith(why)}
 
 
 def names_of(archive: pathlib.Path) -> list[str]:
@@ -54,7 +56,7 @@ def unlike(of: str, names: list[str], came: Came, due: Came) -> Iterator[str]:
     for name in sorted({*names, *came}):
         if name in came or name in due:
             was, is_now = (said(lines.get(name)) for lines in (due, came))
-            if was != is_now and (name in came or name not in not_recorded(due)):
+            if was != is_now and (name in came or name not in absent(due)):
                 yield f"{of}/{name}: expected {was}, came {is_now}"
         else:
             yield f"{of}/{name}: it is expected, and neither is it recorded nor is it said why not"

@@ -3,13 +3,16 @@ keeps in samples/blind."""
 
 import hashlib
 import io
+import lzma
 import pathlib
+import re
 import struct
 import tarfile
-from typing import Iterator, NamedTuple
+from typing import Container, Iterator, NamedTuple
 
 from checks.kit.frames import entries_of, frames_of
 from checks.kit.programs import ROOT
+from checks.kit.side_lists import packed, unpacked
 
 STORED = ROOT / "samples/blind"
 SUFFIX = ".tar.xz"
@@ -80,28 +83,36 @@ def redacted(capture: bytes) -> bytes:
     return bytes(made)
 
 
+def shorter_side(side: bytes) -> bytes:
+    """A side list of whole microseconds, with many frames in a line: times are most of what an archive takes."""
+    whole = re.sub(rb"^(\d+)\d{3} ", rb"\g<1>000 ", side, flags=re.M)
+    return packed(unpacked(whole.decode(errors="surrogateescape"))).encode(errors="surrogateescape")
+
+
 def content_of(path: pathlib.Path) -> bytes:
     """What an archive has of a file."""
-    return redacted(path.read_bytes()) if path.suffix == ".cap" else path.read_bytes()
+    data = path.read_bytes()
+    return redacted(data) if path.suffix == ".cap" else shorter_side(data) if path.name == "capture.side" else data
 
 
 # ---- archives
 
 
-def read_files(recording: Recording) -> Iterator[pathlib.Path]:
+def read_files(recording: Recording, left_out: Container[str]) -> Iterator[pathlib.Path]:
     yield recording.folder / "kernel"
-    for session in recording.sessions:
+    for session in (path for path in recording.sessions if path.name not in left_out):
         for pattern in READ:
             yield from sorted(session.glob(pattern))
 
 
-def pack(recording: Recording, archive: pathlib.Path) -> None:
-    """Makes an archive of a recording. The same files make the same archive."""
-    with tarfile.open(archive, "w:xz", preset=9, format=tarfile.USTAR_FORMAT) as packed:
-        for path in read_files(recording):
+def pack(recording: Recording, archive: pathlib.Path, left_out: Container[str] = ()) -> None:
+    """Makes an archive of a recording without some sessions: first all captures, then all side lists. The same files
+    make the same archive."""
+    with tarfile.open(archive, "w:xz", preset=9 | lzma.PRESET_EXTREME, format=tarfile.USTAR_FORMAT) as archived:
+        for path in sorted(read_files(recording, left_out), key=lambda path: (path.suffix, path)):
             content, member = content_of(path), tarfile.TarInfo(str(path.relative_to(recording.folder)))
             member.size = len(content)
-            packed.addfile(member, io.BytesIO(content))
+            archived.addfile(member, io.BytesIO(content))
 
 
 def unpack(archive: pathlib.Path, room: pathlib.Path, cases: list[str] | None) -> Recording:
@@ -109,9 +120,9 @@ def unpack(archive: pathlib.Path, room: pathlib.Path, cases: list[str] | None) -
     recording = Recording(archive.parent, archive.name.removesuffix(SUFFIX), room)
     recording = recording._replace(folder=room / recording.name)
     recording.folder.mkdir(parents=True)
-    with tarfile.open(archive) as packed:
-        packed.extractall(recording.folder, [
-            member for member in packed
+    with tarfile.open(archive) as archived:
+        archived.extractall(recording.folder, [
+            member for member in archived
             if cases is None or member.name == "kernel"
             or f"{recording.name}/{member.name.partition('/')[0]}" in cases])
     return recording

@@ -106,6 +106,7 @@ def settings_of(kind: Kind, room: pathlib.Path) -> Files:
         "etc/passwd": "root:x:0:0::/root:/bin/sh\nshell:x:2000:2000::/:/bin/sh\n",
         "etc/group": "root:x:0:\nshell:x:2000:\n"}
     if kind.is_enforcing:
+        needs({"secilc": "secilc"})
         run("secilc", "-o", room / "policy", "-f", "/dev/null", POLICY)
         files["policy"] = room / "policy"
     return files
@@ -155,7 +156,6 @@ def play_guest(given: argparse.Namespace, name: str) -> list[str]:
 
 
 def judge(given: argparse.Namespace) -> list[str]:
-    needs({"secilc": "secilc"})
     check_tools(X86_64)
     os.environ["HOME"] = str(given.room)
     for name in ("sid", "bookworm"):
