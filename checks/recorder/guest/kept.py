@@ -1,6 +1,8 @@
 """What the guests of the checks are made of is kept under ~/.cache/binder-audit: packages, kernels and builds, each in
 a folder that is named by a sum of what it was made from. What was changed since in such a folder is not taken."""
 
+import contextlib
+import fcntl
 import hashlib
 import os
 import pathlib
@@ -9,7 +11,7 @@ import subprocess
 import sys
 import tempfile
 import time
-from typing import Callable, Iterable, NoReturn
+from typing import Callable, Iterable, Iterator, NoReturn
 
 CACHE = pathlib.Path(os.environ.get("XDG_CACHE_HOME") or pathlib.Path.home() / ".cache") / "binder-audit"
 SUMS = "checksums"
@@ -59,15 +61,28 @@ def sums_of(folder: pathlib.Path) -> str:
                    and path != folder / SUMS)
 
 
+@contextlib.contextmanager
+def alone(name: str) -> Iterator[None]:
+    """Waits until no other process works at what is called so."""
+    CACHE.mkdir(parents=True, exist_ok=True)
+    with (CACHE / f".{name}.lock").open("w", encoding="utf-8") as lock:
+        fcntl.flock(lock, fcntl.LOCK_EX)
+        yield
+
+
 def kept(what: str, made_of: Iterable[str | bytes | pathlib.Path], make: Callable[[pathlib.Path], None],
          told: str = "") -> pathlib.Path:
     """The folder of what is called so and made of these parts. If it is not there, or not as it was made, `make` fills
     it."""
     folder = CACHE / f"{what}-{sum_of(made_of)}"
-    if folder.exists() and (folder / SUMS).read_text("utf-8") == sums_of(folder):
-        return folder
+    with alone(folder.name):
+        if not folder.exists() or (folder / SUMS).read_text("utf-8") != sums_of(folder):
+            make_anew(folder, what, make, told)
+    return folder
+
+
+def make_anew(folder: pathlib.Path, what: str, make: Callable[[pathlib.Path], None], told: str) -> None:
     began = time.monotonic()
-    CACHE.mkdir(parents=True, exist_ok=True)
     with tempfile.TemporaryDirectory(dir=CACHE, prefix=f".{what}-") as room:
         made = pathlib.Path(room) / "made"
         made.mkdir()
@@ -76,4 +91,3 @@ def kept(what: str, made_of: Iterable[str | bytes | pathlib.Path], make: Callabl
         shutil.rmtree(folder, ignore_errors=True)
         made.rename(folder)
     say(f"{told or f'make {what}'}: {time.monotonic() - began:.0f} s")
-    return folder

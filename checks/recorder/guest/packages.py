@@ -8,7 +8,7 @@ import subprocess
 import time
 from typing import Iterator, Sequence
 
-from checks.recorder.guest.kept import CACHE, kept, run, say
+from checks.recorder.guest.kept import CACHE, alone, kept, run, say
 
 # So many seconds old the lists of a release may be.
 OLD = 12 * 3600
@@ -51,7 +51,8 @@ class Release:
         if marker.exists() and time.time() - marker.stat().st_mtime < OLD:
             return
         try:
-            run("apt-get", *self.options, "update", log=self.log)
+            with alone(self.room.name):
+                run("apt-get", *self.options, "update", log=self.log)
             marker.touch()
         except subprocess.CalledProcessError:
             if not marker.exists():
@@ -60,7 +61,8 @@ class Release:
 
     def apt(self, command: str, *words: str, **options: object) -> str:
         try:
-            return run(command, *self.options, *words, log=self.log, **options)
+            with alone(self.room.name):
+                return run(command, *self.options, *words, log=self.log, **options)
         except subprocess.CalledProcessError:
             raise Missing(f"{self.name} for {self.architecture} has not {' '.join(words)}: see {self.log}") from None
 

@@ -15,7 +15,7 @@ import time
 from checks.kit.checking import Fail, compare
 from checks.kit.programs import DRIVER, ROOT
 from checks.kit.runs import answer
-from checks.recorder.driver.compare import SECRETS, TO_CLEAR
+from checks.recorder.driver.kinds import SECRETS, TO_CLEAR
 from checks.viewer.page.columns import check_columns
 from checks.viewer.page.common import AT_END, stored, texts_of, view
 from checks.viewer.page.reports import check_harmless, shown_of
