@@ -9,6 +9,7 @@ What must hold:
   output and its status; without one SIGINT ends the recording, and a line says so. Lines before say what is done.
 - Apps, or the processes that are named, collect garbage before the recording ends, and none ends by that.
 - The packages of a device are in a file beside the side list, and a device that does not tell them holds up nothing.
+- A recorder ends whose folder and whose adb are gone.
 - If the connection is lost, if bytes come wrong, or if a file is in the way, a line says so, the recording stays on the
   device, and --fetch fetches it. So it does what --detach began.
 - One command at a time has the folder on the device. Another one says who has it, and takes nothing from it, but what
@@ -476,6 +477,19 @@ def check_lost(device: Device) -> None:
     device.fetched("lost")
 
 
+def check_gone(device: Device) -> None:
+    device.what = "a recorder whose folder and adb are gone"
+    program = device.start("-o", "gone")
+    device.wait_until_recording()
+    recorder = pathlib.Path("/proc", (device.folder() / "pid").read_text("ascii").strip())
+    shutil.rmtree(device.folder())
+    with device.with_file("cut", ""):
+        device.ends(program, 1, *PREPARED, READY, BEGUN,
+                    r"record: the connection to one is lost \(error: device offline\); when one is back, this fetches"
+                    r" what was recorded there: \S+record --adb one --fetch -o gone")
+    device.wait_until("the end of the recorder", lambda: not recorder.exists())
+
+
 def check_lost_early(device: Device) -> None:
     device.what = "the connection is lost in the check"
     lost = r"record: the connection to one is lost \(adb says nothing\); "
@@ -551,7 +565,7 @@ def judge(_: argparse.Namespace, room: pathlib.Path, fail: Fail) -> None:
     device = Device(room, fail)
     for part in (check_sessions, check_detached, check_packages, check_garbage, check_two, check_left, check_restarted,
                  check_power, check_quoted, check_interrupted, check_fetched_twice, check_lacking, check_lacking_here,
-                 check_lost, check_lost_early, check_strange, check_devices, check_server):
+                 check_lost, check_gone, check_lost_early, check_strange, check_devices, check_server):
         part(device)
 
 

@@ -118,6 +118,12 @@ prepare() {
 	: >messages
 }
 
+# Ends a recorder whose folder is gone: what it records is nobody's. The second signal ends its wait for a program.
+end_without_folder() { # RECORDER
+	while [ -e state ]; do sleep 2; done
+	while kill -INT "-$1"; do sleep 10; done
+} </dev/null >/dev/null 4>&-
+
 # Runs the recorder in a session of its own, so that it and its program can be signalled as one.
 run() { # NAMES COLLECT [OPTION..] [-- PROGRAM ARGUMENT..]
 	names=$1 asker= program=
@@ -138,8 +144,10 @@ run() { # NAMES COLLECT [OPTION..] [-- PROGRAM ARGUMENT..]
 	while [ -e /proc/$recorder/exe ] && ! [ /proc/$recorder/exe -ef record ]; do sleep 0.1; done
 	echo $recorder >pid
 	if [ "$names" != none ]; then ask_names & fi
+	end_without_folder $recorder & watcher=$!
 	wait $recorder
 	status=$?
+	kill $watcher
 	if [ "$asker" ]; then kill $asker; fi	# what it puts there later would be in the way of the folder's removal
 	echo $status >state
 }
