@@ -72,6 +72,7 @@ def asked_of(capture: Capture, shown: Shown) -> dict[str, object]:
             "axis": lambda: axis_of(capture), "has_stacks": groups.stacks.are_there, "gone": shown.gone,
             "calls": calls, "spent": Spent(capture), "slow": capture.slow,
             "slow_calls": lambda: capture.asked("main_thread", ROWS, capture.slow),
+            "waited": sum(call[5] != "answered" or (call[8] or 0) >= capture.slow for call in calls()),
             "groups_shown": len(capture.groups), "ruled": capture.count("rule", "id IN (SELECT rule FROM finding)"),
             "faults": sum(len(groups.rows(verdict)) for verdict in ("real", "maybe"))}
 

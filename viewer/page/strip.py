@@ -17,8 +17,8 @@ LEAST = 3
 # How many gaps between frames are shown.
 GAPS = 400
 
-# The calls that a lane shows took at least such a part of the recording, or had no answer.
-LONG = 1 / 1000
+# A call is long if it had no answer, took such a part of the recording, or as long as a slow call of a main thread.
+LONG = 1 / 100
 
 # Where ticks are named, in parts of the strip.
 NAMED = 4
@@ -144,10 +144,11 @@ class Strip:
                     yield Mark(span, title, f"group-{group}")
 
     def long(self, calls: list[tuple]) -> Iterator[Mark]:
-        """The calls that had no answer, or took a visible part of the time."""
+        """The calls that are long."""
         for place, _, _, _, _, verdict, _, frames, dur, *_, ts in calls:
             span = self.axis.span(ts, None, dur, frames)
-            if span and (verdict != "answered" or span.end - span.begin >= self.axis.length * LONG):
+            is_slow = dur is not None and dur >= self.capture.slow
+            if span and (verdict != "answered" or is_slow or span.end - span.begin >= self.axis.length * LONG):
                 took = duration_of(dur) if dur is not None else counted(frames or 0, "frame")
                 yield Mark(span, f"a call at place {place}, {verdict}, {took}", f"call-{place}")
 
