@@ -79,13 +79,12 @@ class Parts:
         """The rows of a table, each of which begins so. The first ones are on the page at once."""
         if len(markup) <= OF_TABLE and self.take(len(markup)):
             return Rows(markup, None)
-        first, *others = markup.split(begin)
-        kept, size = 0, 0
+        first, *others = (begin + one if at else one for at, one in enumerate(markup.split(begin)))
+        kept, size = 0, len(first)
         most = min(OF_TABLE, max(self.left, 0))
         while kept < len(others) and (kept < LEAST_ROWS or size + len(others[kept]) <= most):
             size += len(others[kept])
             kept += 1
         self.left -= size
-        at = len(first) + size + len(begin) * kept
         left = len(others) - kept
-        return Rows(markup[:at], packed(left, markup[at:]) if left else None)
+        return Rows(markup[:size], packed(left, markup[size:]) if left else None)
