@@ -14,7 +14,7 @@ from checks.viewer.page.words import check_hostile
 
 # Widths and colours. At others only the width is looked at.
 LOOKS = ((420, False), (420, True), (1280, False), (1280, True), (1920, False), (1920, True))
-WIDTHS = (360, 600, 761, 1001, 1400, 2560)
+WIDTHS = (360, 600, 901, 1001, 1400, 2560)
 
 OPEN_ALL = "for (const one of document.querySelectorAll('section.tab:not([hidden]) details')) one.open = true"
 TABS = "[...document.querySelectorAll('section.tab')].map(one => one.id)"

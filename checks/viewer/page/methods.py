@@ -141,9 +141,9 @@ def check_hostile_methods(folder: pathlib.Path, room: pathlib.Path, fail: Fail) 
 
 
 def check_unnamed(folder: pathlib.Path, room: pathlib.Path, fail: Fail) -> None:
-    """A table changes nothing on the page of a capture whose calls have no interface."""
+    """A table changes nothing on the page of a capture whose calls have no interface, but the command that makes it."""
     (room / "any").write_text("a.I\t1\tf\t-\n", "utf-8")
     for name, more in ("with", ("--methods", "any")), ("without", ()):
         view(folder, room, *stored("leaks"), *more, "-o", f"{name}.html")
-    pages = {(room / f"{name}.html").read_text("utf-8") for name in ("with", "without")}
+    pages = {(room / f"{name}.html").read_text("utf-8").replace(" --methods any", "") for name in ("with", "without")}
     compare("pages with a table and without", len(pages), 1, fail)
