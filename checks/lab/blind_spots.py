@@ -19,6 +19,7 @@ from lab.doubts import doubts
 from lab.fail_on import FailOn, fail_on
 from lab.known_until import Known
 from lab.order import put_order
+from lab.page import page
 from lab.renamed import Renamed
 from lab.uncounted import too_few
 
@@ -222,5 +223,27 @@ def check_basis(_: pathlib.Path, room: pathlib.Path, fail: Fail) -> None:
         (root / name).write_bytes(before)
 
 
-BLIND_SPOTS = (check_worse_beside_one, check_too_few, check_power, check_uncounted, check_grown_fails, check_first_seen,
-               check_renamed, check_clocks, check_basis)
+# The bytes that a page may have for a defect of ten builds.
+OF_A_DEFECT = 3000
+
+
+def check_page_of_many(_: pathlib.Path, __: pathlib.Path, fail: Fail) -> None:
+    """The page of many defects is short, and says what is first seen, what has grown, and the days of builds."""
+    builds = {f"b{at:02d}": [[finding(f"app{number}", "maybe", 1 + number % 3) for number in range(120) if
+                              (number + session) % 5 == 0] + [finding("grows", "real", 1 if at < 5 else 9)]
+                             for session in range(10)] for at in range(10)}
+    builds["b09"][0].append(finding("hung", "real", kind="calls without an answer"))
+    with closing(small_lab(builds)) as lab:
+        lab.execute("UPDATE capture SET file = 's.cap',"
+                    " begun = 1800000000000000000 + substr(build, 2) * 86400000000000")
+        text = "".join(page.document(lab, "LAB.db", Enough(), {}, Renamed({})))
+    with closing(small_lab({build: [[finding("app0")]] * 10 for build in builds})) as lab:
+        more = len(text) - sum(len(piece) for piece in page.document(lab, "LAB.db", Enough(), {}, Renamed({})))
+    compare(f"a page of 122 defects: {more} bytes more than of one", more < 121 * OF_A_DEFECT, True, fail)
+    first = text.partition("First seen in")[2].partition("All others")[0]
+    compare("a page of many: first seen", first.count("calls without an answer") > 0, True, fail)
+    compare("a page of many: state, day", ["grown in b05" in text, "b09</bdi> 2027-01-24" in text], [True] * 2, fail)
+
+
+BLIND_SPOTS = (check_worse_beside_one, check_too_few, check_power, check_uncounted, check_grown_fails,
+               check_first_seen, check_renamed, check_clocks, check_basis, check_page_of_many)
