@@ -101,7 +101,7 @@ def programs_for(machine: Machine, room: pathlib.Path) -> Files:
 
 def settings_of(kind: Kind, room: pathlib.Path) -> Files:
     files: Files = {
-        "init": PHONE / "init.sh", "shell": f"{kind.commands}\n", "root": None,
+        "init": (PHONE / "init.sh").read_text("utf-8"), "shell": f"{kind.commands}\n", "root": None,
         "other/uname": '#!/bin/sh\nif [ "$1" = -m ]; then echo armv7l; else /bin/uname "$@"; fi\n',
         "etc/passwd": "root:x:0:0::/root:/bin/sh\nshell:x:2000:2000::/:/bin/sh\n",
         "etc/group": "root:x:0:\nshell:x:2000:\n"}
