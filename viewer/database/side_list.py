@@ -1,7 +1,6 @@
 """The side list of the recorder, line by line into the tables `side_..`."""
 
 import itertools
-import os
 import pathlib
 import re
 import sqlite3
@@ -131,13 +130,12 @@ def cut_last_line(out: BinaryIO) -> None:
 
 
 def with_lines(paths: list[str]) -> list[str]:
-    """The side lists but for those that are empty or have only zeros, as after a loss of power, if another one has
-    more."""
+    """The side lists but for those that have only zeros, as after a loss of power, if another one has more."""
     some = []
     for path in paths if len(paths) > 1 else ():
         with errors_of(path):
             end = ended_text(path)
-            if end.length if end else os.path.getsize(path):
+            if not end or end.length:
                 some.append(path)
     return some or paths
 
