@@ -15,6 +15,10 @@ NODE = r"node (\d+): u([0-9a-f]+) c([0-9a-f]+) (?:pri \d+:\d+ )?hs (\d+) hw (\d+
 REF = r"ref \d+: desc (\d+) (dead )?node (\d+) s (-?\d+) w (-?\d+) d ([0-9a-f]+|\(____ptrval____\))"
 BUFFER = r"buffer (\d+): ([0-9a-f]+) size (\d+):(\d+):(\d+) (active|delivered)"
 TF_ONE_WAY = 1
+# Bits of a thread, in hexadecimal digits: it said that it is a looper, as the driver asked for or by itself; and that
+# it is none any more.
+THREAD = r"  thread (\d+):(?: l ([0-9a-f]+))?"
+IS_LOOPER, HAS_LEFT = 0x01 | 0x02, 0x04
 
 # Lines of the driver in Rust. It ends no line of a handle: the next one, or what comes after the handles, is on the
 # same line. A buffer has no number, but its place in the mapping, in decimal digits, and its data, offsets and the rest
@@ -77,6 +81,7 @@ class Opening:
         self.pending: list[Transaction] = []
         self.errors: Counter[int] = Counter()
         self.calls: Counter[int] = Counter()
+        self.loopers = 0
         self.deaths = self.clears = self.cleared_and_dead = 0
         self.freezes = self.freeze_clears = 0
 
@@ -95,6 +100,9 @@ class Opening:
     def is_requested(self, handle: int) -> bool | None:
         """Whether the death of the handle is asked for, as far as the driver tells."""
         return handle in self.requests
+
+    def take_thread(self, bits: int) -> None:
+        self.loopers += bool(bits & IS_LOOPER) and not bits & HAS_LEFT
 
     def take_line(self, line: str, thread: int) -> None:
         self.take(line, thread)
@@ -234,8 +242,9 @@ def openings_of(driver: str, section: str) -> list[Opening]:
         elif found := re.match(r"context (\S+)$", line):
             openings[-1].context = found[1]
         else:
-            if found := re.match(r"  thread (\d+):", line):
+            if found := re.match(THREAD, line):
                 thread = int(found[1])
+                openings[-1].take_thread(int(found[2] or "0", 16))
             openings[-1].take_line(line, thread)
     return openings
 

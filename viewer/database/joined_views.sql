@@ -1,10 +1,10 @@
 -- Views that join what a question needs: both ends of a transaction, with times, names and outcome; who holds whose
 -- object; who asked to be told of whose death; descriptors; loopers and what they serve; and senders in sum. They have
 -- numbers in place of names, and joined lines, as views.sql has.
--- needs: schema.sql: book_handle, capture, method, object_interface, object_service, package, raw_call, raw_capture,
---   raw_delivery, raw_generation, raw_interface, raw_object, raw_process, raw_record, raw_send, raw_service,
---   raw_thread, side_device, side_process, side_thread, side_time; numbers.sql: kind, verdict; rules/nodes.sql:
---   node_of, who; rules/matters.sql: traffic; rules/defects.sql: call_text
+-- needs: schema.sql: book_handle, capture, finding, method, object_interface, object_service, package, raw_call,
+--   raw_capture, raw_delivery, raw_generation, raw_interface, raw_object, raw_process, raw_record, raw_send,
+--   raw_service, raw_thread, side_device, side_process, side_thread, side_time; numbers.sql: kind, verdict;
+--   rules/nodes.sql: node_of, who; rules/matters.sql: traffic; rules/defects.sql: call_text
 -- makes: views: txn, holder, death_request, fd_sent, looper, sender
 
 -- The outcome of a call is how its thread saw it end; that of a oneway transaction is what became of it at the driver.
@@ -124,8 +124,8 @@ SELECT
   n.ptr,
   i.name AS interface,
   v.name AS service,
-  CASE WHEN q.ended_by IS NULL THEN 'waiting' WHEN e.kind = :BR_DEAD_BINDER THEN 'notified' ELSE 'cleared' END
-    AS outcome,
+  CASE WHEN u.place IS NOT NULL THEN 'unread' WHEN q.ended_by IS NULL THEN 'waiting'
+    WHEN e.kind = :BR_DEAD_BINDER THEN 'notified' ELSE 'cleared' END AS outcome,
   q.ended_by,
   y.ts AS ended
 FROM (
@@ -140,6 +140,7 @@ FROM (
         WHERE r.kind IN (:BC_REQUEST_DEATH_NOTIFICATION, :BC_CLEAR_DEATH_NOTIFICATION, :BR_DEAD_BINDER)) r
     WHERE r.kind = :BC_REQUEST_DEATH_NOTIFICATION) q
   LEFT JOIN raw_record e ON e.place = q.ended_by
+  LEFT JOIN (SELECT place FROM finding WHERE rule IN ('D12', 'D13')) u ON u.place = q.place
   LEFT JOIN node_of n USING (generation)
   LEFT JOIN who wq ON wq.upid = q.upid LEFT JOIN who wo ON wo.upid = n.upid
   LEFT JOIN object_interface j ON (j.upid, j.ptr) = (n.upid, n.ptr) LEFT JOIN raw_interface i ON i.id = j.interface

@@ -138,10 +138,10 @@ def load_state(database: sqlite3.Connection, copy: Copy, openings: list[Opening]
               for node, number in one.opening.node_numbers.items()}
     threads = {(upid, tid): utid for upid, tid, utid in database.execute("SELECT upid, tid, utid FROM thread")}
     for upid, opening in found:
-        database.execute("INSERT INTO book_opening VALUES (?, ?, ?, ?, ?, ?, ?, ?)",
+        database.execute("INSERT INTO book_opening VALUES (?, ?, ?, ?, ?, ?, ?, ?, ?)",
                          (moment, upid, is_quiet(database, copy, upid), opening.deaths > 0,
                           opening.clears + opening.cleared_and_dead, opening.freezes > 0, opening.freeze_clears,
-                          opening.driver))
+                          opening.loopers, opening.driver))
         database.executemany("INSERT OR REPLACE INTO book_handle VALUES (?, ?, ?, ?, ?, ?, ?, ?, ?, ?)", (
             (moment, upid, handle, ref.strong, ref.weak, ref.is_dead, opening.is_requested(handle),
              *owners.get((opening.driver, ref.node), (None, None, None))) for handle, ref in opening.refs.items()))

@@ -323,8 +323,8 @@ CREATE TABLE side_handle(device INTEGER, process INTEGER, handle INTEGER, PRIMAR
 CREATE TABLE book(moment TEXT NOT NULL, what TEXT NOT NULL, from_seq INTEGER NOT NULL, after INTEGER NOT NULL,
   ts INTEGER NOT NULL, PRIMARY KEY(moment, what)) STRICT;
 CREATE TABLE book_opening(moment TEXT NOT NULL, upid INTEGER NOT NULL, quiet INTEGER NOT NULL, deaths INTEGER NOT NULL,
-  clears INTEGER NOT NULL, freezes INTEGER NOT NULL, freeze_clears INTEGER NOT NULL, driver TEXT NOT NULL,
-  PRIMARY KEY(moment, upid)) STRICT;
+  clears INTEGER NOT NULL, freezes INTEGER NOT NULL, freeze_clears INTEGER NOT NULL, loopers INTEGER NOT NULL,
+  driver TEXT NOT NULL, PRIMARY KEY(moment, upid)) STRICT;
 CREATE TABLE book_handle(moment TEXT NOT NULL, upid INTEGER NOT NULL, handle INTEGER NOT NULL, strong INTEGER NOT NULL,
   weak INTEGER NOT NULL, dead INTEGER NOT NULL, requested INTEGER, node_upid INTEGER, ptr INTEGER,
   cookie INTEGER, PRIMARY KEY(moment, upid, handle)) STRICT;

@@ -82,7 +82,7 @@ WHERE upid NOT IN (SELECT upid FROM book_opening WHERE moment = 'begin' AND deat
     # handle; then the number may mean another object, with a request of its own.
     "requests": f"""
 SELECT upid, 'request for handle ' || handle, max(report), max(books) FROM (
-  SELECT upid, handle, 1 AS report, 0 AS books FROM finding WHERE rule = 'D5'
+  SELECT upid, handle, 1 AS report, 0 AS books FROM finding WHERE rule IN ('D5', 'D12', 'D13')
   UNION ALL SELECT upid, handle, 0, 1 FROM book_handle b WHERE moment = 'end' AND requested
     AND coalesce((SELECT max(place) FROM dead_record q WHERE (q.upid, q.handle) = (b.upid, b.handle)
         AND q.kind = :BC_REQUEST_DEATH_NOTIFICATION)

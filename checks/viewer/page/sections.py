@@ -54,7 +54,7 @@ DUE = {
              "answered"],
         "Who sends most": ["client 447", "0", "8", "1", "0", "620", "1.58", "109"],
         "Death recipients: who asked to be notified of whose death":
-            ["hello 444", "names 443", "android.os.IServiceManager", "1", "1", "0", "0"]},
+            ["hello 444", "names 443", "android.os.IServiceManager", "1", "1", "0", "0", "0"]},
     "hello-sessions": {
         "Who holds whose objects":
             ["client 351", "hello 344", "org.example.ISession", "", "6", "6", "5.353 s"]},
