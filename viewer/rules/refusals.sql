@@ -3,7 +3,8 @@
 --   side_overrun; database/views.sql: thread; nodes.sql: node_of, who; names.sql: call_named, code_named; ages.sql:
 --   life; failures.sql: failure; judging.py: call_words, counted, short_name, status_name
 -- after: failures.sql, strays.sql
--- makes: tables: refusal, no_space; temporary tables: failing, refused_first, filling, in_the_way
+-- makes: tables: refusal, no_space; temporary tables: failing, logged, fits, best_shift, refused_first, filling,
+--   in_the_way; indexes: logged_of
 
 -- ---- why
 
@@ -30,9 +31,32 @@ FROM (SELECT 1 FROM side_failed LIMIT 1) CROSS JOIN raw_call m CROSS JOIN raw_se
   JOIN life l ON l.utid = m.utid
 WHERE NOT m.served AND m.verdict IN (0, 3) AND c.served AND c.verdict = 2 AND p.refused IS NULL
   AND (m.verdict = 3 OR l.ended_after < q.seq);
--- Of a thread the log and the capture have the same failures in the same order, the last ones for certain. What the log
--- has of a send was in it at a look after the send was begun, and not yet at the look before that, unless the send was
--- under way then.
+-- Of a thread the log and the capture have the same failures in the same order. What the log has of a send was in it
+-- at a look after the send was begun, and not yet at the look before that, unless the send was under way then. `nth`
+-- counts from the last one.
+CREATE TEMP TABLE logged AS
+SELECT *, row_number() OVER (PARTITION BY tid, what, handle, answer ORDER BY id DESC) AS nth
+FROM (SELECT id, what, tid, to_pid, iif(what = 'reply', NULL, handle) AS handle, data_size, answer, errno, from_seq,
+    after
+  FROM side_failed);
+CREATE INDEX temp.logged_of ON logged(tid, what, answer, nth);
+-- The last look comes after the last frame, so the log may also have what failed later, or what a lost frame has. So of
+-- each thread, kind, target and answer the last entries are left out, as few as leave the most pairs that fit.
+CREATE TEMP TABLE fits AS
+SELECT f.place, e.id, e.tid, e.what, e.handle, e.answer, e.nth - f.nth AS shift
+FROM (
+  SELECT x.*, t.tid, row_number() OVER (PARTITION BY t.tid, x.what, x.handle, x.answer ORDER BY x.place DESC) AS nth
+  FROM failing x JOIN thread t USING (utid)) f
+  CROSS JOIN logged e
+    ON e.tid = f.tid AND e.what = f.what AND e.answer = f.answer AND e.nth BETWEEN f.nth AND f.nth + :LOGGED
+    AND e.handle IS f.handle
+WHERE f.seq <= e.after AND f.told > e.from_seq AND e.data_size IN (0, f.data_size);
+CREATE TEMP TABLE best_shift AS
+SELECT tid, what, handle, answer, shift
+FROM (
+  SELECT *, row_number() OVER (PARTITION BY tid, what, handle, answer ORDER BY n DESC, shift) AS nth
+  FROM (SELECT tid, what, handle, answer, shift, count(*) AS n FROM fits GROUP BY 1, 2, 3, 4, 5))
+WHERE nth = 1;
 CREATE TABLE refusal(place INTEGER PRIMARY KEY, errno INTEGER NOT NULL, why TEXT NOT NULL) STRICT;
 INSERT INTO refusal
 SELECT
@@ -49,15 +73,9 @@ SELECT
     WHEN e.errno = 9 THEN 'a descriptor that is not open'
     WHEN e.errno = 14 THEN 'its data could not be read'
     ELSE 'an error' END || iif(e.errno, ' (' || status_name(-e.errno) || ')', '')
-FROM (
-  SELECT x.*, t.tid, row_number() OVER (PARTITION BY t.tid, x.what, x.handle, x.answer ORDER BY x.place DESC) AS nth
-  FROM failing x JOIN thread t USING (utid)) f
-JOIN (
-  SELECT id, what, tid, to_pid, iif(what = 'reply', NULL, handle) AS handle, data_size, answer, errno, from_seq, after,
-    row_number() OVER (PARTITION BY tid, what, iif(what = 'reply', NULL, handle), answer ORDER BY id DESC) AS nth
-  FROM side_failed) e
-  ON e.tid = f.tid AND e.what = f.what AND e.handle IS f.handle AND e.answer = f.answer AND e.nth = f.nth
-WHERE f.seq <= e.after AND f.told > e.from_seq AND e.data_size IN (0, f.data_size);
+FROM fits f JOIN best_shift b
+  ON b.tid = f.tid AND b.what = f.what AND b.handle IS f.handle AND b.answer = f.answer AND b.shift = f.shift
+  JOIN logged e USING (id);
 
 -- ---- what filled the space of the receiver
 
@@ -135,8 +153,10 @@ UPDATE finding SET note = w.why
     ELSE '' END
 FROM failure e JOIN refusal w USING (place)
 WHERE finding.rule = 'E5' AND e.id = finding.id AND e.refused;
-UPDATE finding SET note = 'why is not known, as the driver''s log was overrun' || coalesce(': ' || finding.note, '')
-FROM failure e JOIN failing f USING (place) JOIN side_overrun o ON f.seq <= o.after AND f.told > o.from_seq
+UPDATE finding SET note = 'why is not known, as '
+  || iif(EXISTS (SELECT 1 FROM side_overrun o WHERE f.seq <= o.after AND f.told > o.from_seq),
+    'the driver''s log was overrun', 'no entry of the driver''s log fits') || coalesce(': ' || finding.note, '')
+FROM failure e JOIN failing f USING (place)
 WHERE finding.rule = 'E5' AND e.id = finding.id AND e.refused AND e.place NOT IN (SELECT place FROM refusal);
 UPDATE finding SET said = 'the reply at {other}: ' || w.why, other = w.place
 FROM raw_send s JOIN raw_call c ON c.place = s.delivery JOIN refusal w ON w.place = c.closer

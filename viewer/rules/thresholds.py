@@ -78,6 +78,8 @@ TABLE = {
     # STEPS from each, the shortest ways first. Of the full pools that a call keeps busy, so many count for what waits
     # for it.
     "MOST_STEPS": Threshold(100_000), "POOLS": Threshold(64),
+    # The driver's log of failed transactions has so many entries: as many may have come to it after the last frame.
+    "LOGGED": Threshold(32),
     # So many refused sends have a note of what was in the way, and so many others are named that keep handles, too.
     "NOTED": Threshold(16), "NAMED": Threshold(4),
 }

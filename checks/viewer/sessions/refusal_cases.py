@@ -5,6 +5,7 @@ from checks.viewer.sessions.cases import case
 from checks.viewer.sessions.session import DONE, ONE_WAY, Sent, Session, Thread
 
 NO_SPACE, BAD, DENIED, NO_CALL = 28, 22, 1, 71
+NOT_THERE = "code 1 to service 100 node 0x0 (why is not known, as no entry of the driver's log fits)"
 # Code words of error replies.
 DEAD, FAILED, FROZEN = (int.from_bytes(record(kind)[:4], "little") for kind in (
     BR_DEAD_REPLY, BR_FAILED_REPLY, BR_FROZEN_REPLY))
@@ -35,14 +36,14 @@ def refused(thread: Thread, code: int = 1, size: int = 0, flags: int = 0, handle
 @case("E5:1", "(an error (-12 ENOMEM))", errno=12)
 @case("E5:1", "(an error)", errno=0)
 @case("E5:1", "(a bad object (-22 EINVAL))", errno=BAD, size=40, data=40)
-@case("E5:1", "code 1 to service 100 node 0x0 ()", errno=BAD, size=40, data=48)
-@case("E5:1", "code 1 to service 100 node 0x0 ()", errno=BAD, handle=3)
-@case("E5:1", "code 1 to service 100 node 0x0 ()", errno=BAD, what="oneway")
-@case("E5:1", "code 1 to service 100 node 0x0 ()", errno=BAD, answer=DEAD)
-@case("E5:1", "code 1 to service 100 node 0x0 ()", errno=BAD, of="service")
-@case("E5:1", "code 1 to service 100 node 0x0 ()", errno=BAD, since=9)
+@case("E5:1", NOT_THERE, errno=BAD, size=40, data=48)
+@case("E5:1", NOT_THERE, errno=BAD, handle=3)
+@case("E5:1", NOT_THERE, errno=BAD, what="oneway")
+@case("E5:1", NOT_THERE, errno=BAD, answer=DEAD)
+@case("E5:1", NOT_THERE, errno=BAD, of="service")
+@case("E5:1", NOT_THERE, errno=BAD, since=9)
 @case("E5:1", "(a bad object (-22 EINVAL))", errno=BAD, since=8)
-@case("E5:1", "code 1 to service 100 node 0x0 ()", errno=BAD, until=7)
+@case("E5:1", NOT_THERE, errno=BAD, until=7)
 @case("E5:1", "(a bad object (-22 EINVAL))", errno=BAD, until=8)
 @case("M3:1", "(a bad object (-22 EINVAL))", errno=BAD, lost=True)
 def refused_by_the_log(s, errno=NO_SPACE, size=0, data=0, to=100, handle=0, what="call", answer=FAILED, of="client",
@@ -61,8 +62,8 @@ def refused_by_the_log(s, errno=NO_SPACE, size=0, data=0, to=100, handle=0, what
 @case("E5:3", "code 1 to service 100 node 0x0 (why is not known, as the driver's log was overrun)", "code 2 to service"
       " 100 node 0x0 (denied, by ",
       "code 3 to service 100 node 0x0 (a bad object (", log=(DENIED, BAD), overrun=True)
-@case("E5:3", "code 1 to service 100 node 0x0 (a bad object (", "code 2 to service 100 node 0x0 ()",
-      "code 3 to service 100 node 0x0 ()", log=(BAD, BAD, BAD), each=2)
+@case("E5:3", "code 1 to service 100 node 0x0 (a bad object (", "code 2 to service 100 node 0x0 (why is not known, as",
+      "code 3 to service 100 node 0x0 (why is not known, as no entry", log=(BAD, BAD, BAD), each=2)
 def refused_in_a_row(s, log, overrun=False, each=3):
     """Three calls of a thread are refused alike, and the log has all of them, or the last ones; or each look finds only
     what came long before."""
@@ -75,6 +76,71 @@ def refused_in_a_row(s, log, overrun=False, each=3):
         s.tell(f"overrun from={begin} after={s.sequence}")
     for errno in log:
         logs(s, client.main, errno, since=begin, until=begin + 2 if each == 2 else None)
+
+
+ALL_THREE = ("code 1 to service 100 node 0x0 (no space (-28 ENOSPC)", "code 2 to service 100 node 0x0 (denied, by ",
+             "code 3 to service 100 node 0x0 (a bad object (")
+
+
+@case("E5:3", *ALL_THREE, more=(DENIED,))
+@case("E5:3", *ALL_THREE, more=(DENIED, BAD, NO_SPACE, DENIED))
+@case("E5:3", *ALL_THREE, more=(DENIED, BAD), at_once=True)
+@case("E5:3", "code 1 to service 100 node 0x0 (denied, by ", "code 2 to service 100 node 0x0 (a bad object (",
+      "code 3 to service 100 node 0x0 (no space (-28 ENOSPC)", more=(NO_SPACE,), at_once=True, sizes=(0, 0, 0))
+@case("E5:3", *ALL_THREE, more=(DENIED,), of="client's other thread")
+@case("E5:3", *ALL_THREE, more=(DENIED,), handle=3)
+@case("E5:3", *ALL_THREE, more=(DENIED,), what="oneway")
+@case("E5:3", *ALL_THREE, more=(DENIED,), answer=DEAD)
+@case("E5:3", *ALL_THREE, more=(DENIED,), works=0)
+@case("E5:3", *ALL_THREE, more=(DENIED,), ends=False)
+@case("E5:3", *ALL_THREE, more=(DENIED,) * 32)
+@case("E5:3", "code 1 to service 100 node 0x0 (why is not known, as no entry of the driver's log fits)",
+      "code 2 to service 100 node 0x0 (why is not known, as no", more=(DENIED,) * 33)
+def refused_after_the_last_frame(s, more, at_once=False, sizes=(40, 80, 120), of="client", handle=0, what="call",
+                                 answer=FAILED, works=1, ends=True):
+    """The driver refuses three calls of a thread, and more when the recording has ended: of the same thread or another
+    one. Looks find the calls one by one or all at once, and the last look also what came later, with what another
+    process did before the end, or nothing. Not `ends`: that was no last look."""
+    service, client = s.two()
+    client.main.asks(service.main)
+    second, entries = client.thread(1), []
+    begin = since = s.sequence
+    for code, size, errno in zip((1, 2, 3), sizes, (NO_SPACE, DENIED, BAD)):
+        refused(client.main, code, size)
+        entries.append((errno, size, begin if at_once else since, s.sequence))
+        since = s.sequence
+    for _ in range(works):
+        s.process(300, "other").main.asks(service.main, 9)
+    for errno, size, before, after in entries:
+        logs(s, client.main, errno, data=size, since=before, until=s.sequence if at_once else after)
+    for errno in more:
+        logs(s, client.main if of == "client" else second, errno, what, handle=handle, data=sizes[-1], answer=answer,
+             since=begin if at_once else since)
+    if not ends:
+        s.process(301, "other").main.asks(service.main, 9)
+
+
+@case("E5:6", *ALL_THREE, "code 4 to service 100 node 0x0 (an error (-12 ENOMEM))", other="thread")
+@case("E5:6", *ALL_THREE, "code 4 to service 100 node 0x0 (an error (-12 ENOMEM))", other="kind")
+@case("E5:6", *ALL_THREE, "code 4 to handle 3 (an error (-12 ENOMEM))", other="handle")
+@case("E5:3 E2:2 E3:1", *ALL_THREE, other="answer")
+def refused_by_turns(s, other):
+    """The driver refuses calls of a thread, by turns with others, which go wrong alike, and twice after the recording
+    has ended. A look finds all of it."""
+    service, client = s.two()
+    client.main.asks(service.main)
+    begin, entries = s.sequence, []
+    thread = client.thread(1) if other == "thread" else client.main
+    ways = {"thread": {}, "kind": {"flags": ONE_WAY}, "handle": {"handle": 3}, "answer": {"kind": BR_DEAD_REPLY}}
+    told = {"thread": {}, "kind": {"what": "oneway"}, "handle": {"handle": 3}, "answer": {"answer": DEAD}}
+    for at, (size, errno) in enumerate(((40, NO_SPACE), (80, DENIED), (120, BAD)), 1):
+        refused(client.main, at, size)
+        entries.append((client.main, errno, size, {}))
+        refused(thread, 4 if other != "answer" else 5, size, **ways[other])
+        entries.append((thread, 12, size, told[other]))
+    s.process(300, "other").main.asks(service.main, 9)
+    for one, errno, size, how in [*entries, *[(client.main, 14, 120, {})] * 2]:
+        logs(s, one, errno, data=size, since=begin, **how)
 
 
 @case("E4:1", "code 1 to service 100 node 0x0 ()", kind=BR_FROZEN_REPLY, answer=FROZEN)
