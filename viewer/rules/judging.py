@@ -6,6 +6,7 @@ import pathlib
 import sqlite3
 from typing import Callable, Sequence
 
+from viewer.clocks import Times
 from viewer.database.finders import Finders, Given, Query, insert, path_of
 from viewer.database.raw_tables import PACKED_TABLES
 from viewer.database.report import number_of
@@ -230,6 +231,8 @@ class Judging:
             names_of = Names(self.database)
             self.database.create_function("call_name", 3, names_of.call, deterministic=True)
             self.database.create_function("short_name", 1, names_of.short.get, deterministic=True)
+            times = Times(self.database)
+            self.database.create_function("moment", 1, lambda ts: times.clock(ts) or times.since(ts) or None)
         elif file == "rule.sql":
             self.make(OF_RULES)
             for table, rows in self.plan.rows.items():
@@ -304,8 +307,8 @@ def judge(database: sqlite3.Connection, folder: pathlib.Path = FOLDER, timing: T
           whole: bool = False, finders: Finders | None = None, hash_of: HashOf = no_hash) -> None:
     """Gives each finding its verdict; `whole`: also by the statements that find nothing. In the statements `:BR_REPLY`
     is the number of that name, and `:LONG` a threshold. They make texts by the functions of WORDS, and after names.sql
-    by `call_name(code, upid, ptr)`, the name of a call. `short_name(interface)` is what an interface is called, and
-    `bare_name(interface)` without its package, even if there is another one of that name. `hash_of` has the number of
-    the data of an attachment, for what is not in data_hash yet."""
+    by `call_name(code, upid, ptr)`, the name of a call, and `moment(ts)`, the time of day. `short_name(interface)` is
+    what an interface is called, and `bare_name(interface)` without its package, even if there is another one of that
+    name. `hash_of` has the number of the data of an attachment, for what is not in data_hash yet."""
     plan = plan_of(folder, run)
     run(database, plan._replace(empty={}) if whole else plan, timing, finders, hash_of)

@@ -87,9 +87,10 @@ CREATE TEMP TABLE status_of(call INTEGER, value INTEGER);
 INSERT INTO status_of
 SELECT d.call, x.value FROM (SELECT 1 FROM object_of LIMIT 1) CROSS JOIN status x JOIN raw_delivery d USING (place);
 CREATE INDEX temp.status_of_call ON status_of(call);
--- How many were answered, and how many of these with a status; and the name of such calls, if those that have one
--- agree.
-CREATE TEMP TABLE answered(code INTEGER, way INTEGER, about INTEGER, node INTEGER, n INTEGER, others INTEGER);
+-- How many were answered, and how many of these with a status; how many with no error, and the last of these; and the
+-- name of such calls, if those that have one agree.
+CREATE TEMP TABLE answered(code INTEGER, way INTEGER, about INTEGER, node INTEGER, n INTEGER, others INTEGER,
+  good INTEGER, last_good INTEGER);
 INSERT INTO answered
 SELECT
   r.code,
@@ -97,7 +98,9 @@ SELECT
   iif(o.way IS NULL, o.about, NULL) AS about,
   iif(o.way IS NULL, o.node, NULL) AS node,
   count(*) AS n,
-  count(x.call) AS others
+  count(x.call) AS others,
+  sum(x.call IS NULL OR x.value = 0) AS good,
+  max(iif(x.call IS NULL OR x.value = 0, c.place, NULL)) AS last_good
 FROM (SELECT 1 FROM object_of LIMIT 1) CROSS JOIN raw_call c JOIN raw_send s USING (place)
   JOIN raw_record r USING (place) JOIN object_of o USING (generation)
   LEFT JOIN status_of x ON x.call = c.place
