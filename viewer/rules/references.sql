@@ -1,11 +1,11 @@
--- H3 to H12, H14, H15, T, U: references to handles and nodes that are held, and those that are balanced.
--- needs: database/schema.sql: finding, raw_generation, raw_record, raw_thread, side_time; nodes.sql: manager, node_of,
---   who; records.sql: dead_record, told_death; paths.sql: given, given_way, thing_path; ages.sql: ended, last, leaving,
---   process_life, recorded; handles.sql: handle_row; rule.sql: lossy; waits.sql: waits; ways.sql: collector, earlier,
---   kept_handle, kept_way, let_go, of_way, outlived
--- makes: temporary tables: mourned, dead_way, outlives, let_go_later, reference_level, most_held, more_references,
---   each_again, nearly_all, growing, by_design, overdue, unused, outliving, not_collected, kept_elsewhere, weakly_kept;
---   temporary views: held_change; indexes: most_held_of, more_references_of, by_design_of
+-- H3 to H12, H14 to H17, T, U: references to handles and nodes that are held, and those that are balanced.
+-- needs: database/schema.sql: finding, raw_generation, raw_record, raw_send, raw_thread, side_time; nodes.sql: manager,
+--   node_of, who; records.sql: dead_record, told_death; paths.sql: given, given_way, thing_path; ages.sql: ended, last,
+--   leaving, process_life, recorded; handles.sql: handle_row; rule.sql: lossy; waits.sql: waits; ways.sql: collector,
+--   earlier, kept_handle, kept_way, let_go, of_way, outlived
+-- makes: temporary tables: mourned, dead_way, outlives, let_go_later, told_by_reply, reference_level, most_held,
+--   more_references, each_again, nearly_all, growing, by_design, overdue, unused, outliving, not_collected,
+--   kept_elsewhere, weakly_kept; temporary views: held_change; indexes: most_held_of, more_references_of, by_design_of
 
 -- ---- what findings are called
 
@@ -76,6 +76,20 @@
 --   met by: `each_taken_twice()`: a client takes twice what replies give it
 --   fault: references taken more than once
 --   where frames are missing: H4
+-- H16 real: {TOO_MANY} or more of its way are held over {VERY_LONG} after BR_DEAD_REPLY told that their process had
+--     ended.
+--   next: what the process does with BR_DEAD_REPLY: it lets go of nothing that is dead
+--   rests on: TOO_MANY, VERY_LONG, OLD
+--   met by: `holds_the_dead()`: a client calls ten objects of a process that ended, and keeps them
+--   fault: references to ended processes
+--   where frames are missing: M2
+-- H17 maybe: {TOO_MANY} or more of its way are held over {VERY_LONG} after their process ended, and no death was asked
+--     for.
+--   next: whether the process can tell that they are dead: it asks for no death, and calls few of them
+--   rests on: TOO_MANY, VERY_LONG, OLD
+--   met by: `holds_the_dead()`: a client keeps ten objects of a process that ended, and calls nine
+--   fault: references to ended processes
+--   where frames are missing: M1
 
 -- ---- what they say of which finding
 
@@ -131,6 +145,29 @@ UPDATE finding SET
 FROM outlives o JOIN (SELECT upid, way FROM outlives GROUP BY 1, 2 HAVING count(DISTINCT owner) >= :OFTEN) w
   USING (upid, way)
 WHERE o.id = finding.id;
+-- Many of one process, of which BR_DEAD_REPLY told or not.
+CREATE TEMP TABLE told_by_reply AS
+SELECT o.id
+FROM outlives o JOIN finding f USING (id) JOIN recorded l ON l.upid = o.upid
+  JOIN raw_send s ON s.generation = f.generation JOIN raw_record e ON e.place = s.refused JOIN side_time x ON x.seq = e.seq
+WHERE e.kind = :BR_DEAD_REPLY
+GROUP BY 1
+HAVING max(l.last_ts) - min(x.ts) > :VERY_LONG;
+UPDATE finding SET
+  rule = iif(w.told >= :TOO_MANY, 'H16', 'H17'),
+  relation = 'given',
+  way = o.way,
+  giver = (SELECT iif(g.reply, NULL, g.sender) FROM given g WHERE g.generation = finding.generation),
+  said = 'held for {how_long} after {who} ended; BR_DEAD_REPLY told so of {how_many} of {of_how_many}',
+  other_upid = o.owner,
+  how_long = o.since,
+  how_many = w.told,
+  of_how_many = w.n
+FROM outlives o JOIN (SELECT d.upid, d.way, d.owner, count(*) AS n, count(t.id) AS told
+    FROM outlives d LEFT JOIN told_by_reply t USING (id)
+    GROUP BY 1, 2, 3 HAVING count(*) >= :TOO_MANY) w
+  ON (w.upid, w.way, w.owner) = (o.upid, o.way, o.owner)
+WHERE rule IS NULL AND o.id = finding.id;
 -- The most that a generation that is held had at once, if one thread took and let go of all. Records of several threads
 -- say nothing of that: one may write late that it let go, when another has taken it again. By these a generation has
 -- more only if it has three now, besides one for each of them that is in a call, and may let go after it. A handle may

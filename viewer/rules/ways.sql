@@ -69,7 +69,7 @@ GROUP BY 1;
 CREATE UNIQUE INDEX temp.collector_of ON collector(upid);
 -- Each that is kept. `idle` goes from the last send to it, or else from when it came, to the end of its process or of
 -- the capture. It is in use if something was sent to it in the last half of the time from when it came to the last
--- frame of its process.
+-- frame of its process. A send that the driver refused since the object is dead is no use.
 CREATE TEMP TABLE kept_handle AS
 SELECT
   way,
@@ -91,7 +91,8 @@ FROM (
     l.end_seq,
     l.end_ts
   FROM of_way o JOIN kept_way w ON w.id = o.way JOIN recorded l USING (upid)
-    LEFT JOIN (SELECT generation, max(seq) AS seq FROM raw_send
-      WHERE generation IN (SELECT generation FROM of_way WHERE kept) GROUP BY 1) u USING (generation)
+    LEFT JOIN (SELECT s.generation, max(s.seq) AS seq FROM raw_send s LEFT JOIN raw_record e ON e.place = s.refused
+      WHERE s.generation IN (SELECT generation FROM of_way WHERE kept) AND e.kind IS NOT :BR_DEAD_REPLY
+      GROUP BY 1) u USING (generation)
   WHERE o.kept);
 CREATE UNIQUE INDEX temp.kept_handle_of ON kept_handle(generation);
