@@ -19,7 +19,8 @@ class Finding(NamedTuple):
     came to a good end, of `good` ones; `lasted` is how long it has lasted, and `at` where it is on the strip."""
     section: str
     place: int | None
-    utid: int | None
+    lane: int | None
+    lane_utid: int | None
     upid: int
     rule: str
     note: str | None
@@ -41,7 +42,7 @@ class Group:
         (self.number, self.verdict, self.title, self.path, self.n, self.n_all, self.first, self.last, self.waiting,
          rules, self.note) = row
         self.rules = rules.split(",")
-        self.found = [Finding(*row, lasted=spans.lasted[row[8]], at=spans.word(row[8]))
+        self.found = [Finding(*row, lasted=spans.lasted[row[9]], at=spans.word(row[9]))
                       for row in capture.asked("findings", self.number, FINDINGS + 1)]
         self.who = [upid for upid, in capture.asked("group_who", self.number)]
         keys = [key for key, in capture.asked("group_keys", self.number)]
@@ -99,7 +100,7 @@ class Groups:
     def give_lane(self, group: Group) -> None:
         """Gives a group the place of its first finding that has a thread, and the lines around that."""
         for one in group.found:
-            if one.place is not None and one.utid is not None:
+            if one.lane is not None and one.lane_utid is not None:
                 self.lanes += 1
-                group.lane = one.place, list(lane_of(self.capture, one.utid, one.place))
+                group.lane = one.lane, list(lane_of(self.capture, one.lane_utid, one.lane))
                 return

@@ -95,7 +95,7 @@ UPDATE finding SET rule = 'C3'
 WHERE rule IS NULL AND id IN (SELECT id FROM ring) AND finding.id IN (SELECT id FROM old);
 UPDATE finding SET rule = 'C8'
 WHERE rule IS NULL AND id IN (SELECT id FROM lock_ring) AND n_good >= :ENOUGH;
-UPDATE finding SET rule = 'C10' WHERE rule IS NULL AND id IN (SELECT id FROM own_ring);
+UPDATE finding SET rule = 'C10', other = o.outer FROM own_ring o WHERE rule IS NULL AND o.id = finding.id;
 -- What waits for another call, and the call that a full pool waits for. If frames are missing, a delivery may be too.
 UPDATE finding SET waiting = w.n FROM waited w WHERE w.id = finding.id;
 UPDATE finding SET rule = 'C7', note = coalesce((SELECT p.doing FROM waits w JOIN full_pool p ON p.upid = w.server_upid

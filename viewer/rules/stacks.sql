@@ -7,8 +7,9 @@
 -- makes: tables: finding_stack; temporary tables: tells
 
 CREATE TEMP TABLE tells AS
--- A handle: the call whose reply gave it, or the send of another process that did.
-SELECT f.id, 1 AS n, iif(r.kind = :BR_REPLY, d.call, d.send) AS place,
+-- A handle: the call whose reply gave it, or the send of another process that did. Who keeps what others send is at
+-- fault itself, so its own stack comes before that, unless the one that sent it takes nothing back.
+SELECT f.id, iif(r.kind = :BR_REPLY OR f.rule = 'H13', 1, 4) AS n, iif(r.kind = :BR_REPLY, d.call, d.send) AS place,
   iif(r.kind = :BR_REPLY, 'the call whose reply gave the handle', 'the send that gave the handle') AS whose
 FROM finding f JOIN raw_generation g ON g.id = f.generation JOIN raw_delivery d ON d.place = g.given_by
   JOIN raw_record r ON r.place = d.place
@@ -22,6 +23,9 @@ WHERE f.section <> 'handles' AND EXISTS (SELECT 1 FROM side_call)
 UNION ALL SELECT f.id, 2, d.send, 'the send of it' FROM finding f JOIN raw_delivery d USING (place)
   JOIN raw_record r USING (place)
 WHERE f.section <> 'handles' AND r.kind <> :BR_REPLY AND EXISTS (SELECT 1 FROM side_call)
+-- A call that came back to a thread that waits: the call in which it waits, over which it holds its lock.
+UNION ALL SELECT f.id, 1, f.other, 'the call within which its thread got it' FROM finding f
+WHERE f.rule = 'C10' AND EXISTS (SELECT 1 FROM side_call)
 -- An error reply: the send that the driver refused.
 UNION ALL SELECT f.id, 1, s.place, 'the send that was refused' FROM finding f JOIN raw_send s ON s.refused = f.place
 WHERE f.section IN ('refused', 'strays') AND EXISTS (SELECT 1 FROM side_call)

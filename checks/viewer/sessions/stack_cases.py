@@ -3,7 +3,8 @@
 from checks.kit.captures import (BC_ACQUIRE, BC_CLEAR_DEATH_NOTIFICATION, BC_REPLY, BC_REQUEST_DEATH_NOTIFICATION,
                                  BR_ACQUIRE, BR_CLEAR_DEATH_NOTIFICATION_DONE, BR_DEAD_BINDER, BR_FAILED_REPLY, ENTER,
                                  each, each_long, node, of_handle, offsets, record, watch)
-from checks.viewer.sessions.cases import case
+from checks.viewer.sessions.cases import case, with_each_other
+from checks.viewer.sessions.giver_cases import giver_forgets
 from checks.viewer.sessions.session import ONE_WAY, Sent, node_object
 
 
@@ -63,8 +64,8 @@ def handle_of_reply(s):
     s.wait(300)
 
 
-@case("H4:1", "finding_stack 1: 7, the send that gave the handle",
-      "finding_stack 2: 8, the call that wrote it, which may be a later one")
+@case("H4:1", "finding_stack 1: 8, the call that wrote it, which may be a later one",
+      "finding_stack 2: 7, the send that gave the handle")
 def handle_of_send(s):
     """A client hands an object over to a service, which takes it twice."""
     service, client = s.two()
@@ -151,3 +152,26 @@ def bad_object_read(s):
     s.with_stack(4)
     address = service.main.gets(sent, 0, body, listed)
     client.main.answered(service.main.replies(address))
+
+
+@case("C10:1 C7:1 A1:4", "finding_stack 1: 3, the call within which its thread got it",
+      "finding_stack 2: 4, its own call", wait=1100)
+@case("C4:1 C7:1 A1:4", "finding_stack 1: 4, its own call", "finding_stack 2: -", wait=900)
+def comes_back_with_stacks(s, wait):
+    """A call comes back to a thread that waits, and that never replies: the call within which it waits tells first."""
+    service, client, _ = with_each_other(s)
+    s.with_stack(3)
+    service.main.gets(client.main.sends(0, 11))
+    s.with_stack(4)
+    sent = service.main.sends(7, 2)
+    s.with_stack(None)
+    client.main.gets(sent, 0x9700)
+    s.wait(wait)
+
+
+@case("H13:12", "finding_stack 1: 7, the send that gave the handle",
+      "finding_stack 2: 7, the call that wrote it, which may be a later one")
+def forgotten_with_stacks(s):
+    """A server keeps what a client hands over and does not take back: the send tells first."""
+    s.with_stack(7)
+    giver_forgets(s)
