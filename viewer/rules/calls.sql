@@ -1,8 +1,8 @@
 -- A, C, T, U: calls and served calls that are open.
 -- needs: database/schema.sql: finding, raw_call, raw_delivery, raw_record, raw_thread, side_time; nodes.sql: who;
 --   records.sql: from_before; paths.sql: path_of; ages.sql: ended, last, life, old; rule.sql: lossy; waits.sql:
---   full_pool, lock_ring, own_ring, pool, ring, step, waited, waits, waits_for; pools.sql: full_wait; judging.py:
---   counted, duration
+--   full_pool, lock_ring, own_ring, pool, pool_ring, ring, step, waited, waits, waits_for; pools.sql: full_wait;
+--   judging.py: counted, duration
 -- makes: temporary tables: keeps_busy
 
 -- ---- what findings are called
@@ -64,6 +64,13 @@
 --   met by: `comes_back_and_hangs()`: a call comes back to a thread that waits, and that never replies
 --   where frames are missing: M2
 --   ring: yes
+-- C11 real: A ring through a pool: its process, or that which should get it, waits and has no free thread for a call
+--     back.
+--   next: how many threads the pool has, and what calls out of it while it serves: the call back needs one more
+--   rests on: VERY_LONG, OLD, LONG
+--   met by: `calls_back_to_a_full_pool()`: a service calls a client with its only looper, and another thread calls back
+--   where frames are missing: M2
+--   ring: yes
 
 -- ---- what they say of which finding
 
@@ -119,6 +126,10 @@ WITH RECURSIVE way(at) AS (SELECT -w.server_upid FROM waits w JOIN finding q USI
 SELECT at AS id FROM way;
 UPDATE finding SET rule = 'C6'
 WHERE rule IS NULL AND finding.id IN (SELECT id FROM old) AND finding.id IN (SELECT id FROM keeps_busy);
+-- If it waits for a call back to that pool, both are the ring.
+UPDATE finding SET rule = 'C11' WHERE rule = 'C6' AND id IN (SELECT id FROM pool_ring);
+UPDATE finding SET rule = 'C11' WHERE rule = 'C7' AND id IN (SELECT p.next FROM pool_ring p JOIN finding f USING (id)
+  WHERE f.rule = 'C11');
 UPDATE finding SET rule = 'U2'
 WHERE rule IS NULL AND section IN ('calls', 'served') AND what = 'open' AND n_good >= :ENOUGH
   AND coalesce(age > max(:LONG, :OLD * longest), age_seq > :OLD * longest_seq);
@@ -148,11 +159,13 @@ UPDATE finding SET note = iif(waiting > 0, counted(waiting, 'waits', 'wait') || 
           FROM raw_thread t JOIN raw_call d ON d.place = w.delivery WHERE t.utid = w.server), '')
       || coalesce((SELECT ', within its own call at ' || outer FROM own_ring o WHERE o.id = finding.id), '') END
   || coalesce((SELECT '; in a ring with ' || n.called || ' of ' || o.who || ', ' || q.path
-    FROM lock_ring l JOIN waits n ON n.id = l.next JOIN path_of q ON q.id = l.next JOIN who o ON o.upid = n.upid
+    FROM (SELECT id, next FROM lock_ring UNION ALL SELECT id, next FROM pool_ring
+        UNION ALL SELECT next, id FROM pool_ring) l
+      JOIN waits n ON n.id = l.next JOIN path_of q ON q.id = l.next JOIN who o ON o.upid = n.upid
     WHERE l.id = finding.id), '')
-FROM waits w WHERE w.id = finding.id AND rule IN ('B1', 'C3', 'C4', 'C5', 'C6', 'C8', 'C9', 'C10', 'U2');
+FROM waits w WHERE w.id = finding.id AND rule IN ('B1', 'C3', 'C4', 'C5', 'C6', 'C8', 'C9', 'C10', 'C11', 'U2');
 UPDATE finding SET rule = 'C4' WHERE rule IS NULL AND section = 'served' AND what = 'open';
 -- How long what hangs has been open, at least: the recording ended before it did.
 UPDATE finding SET note = 'open for ≥ ' || duration(age) || coalesce('; ' || note, '')
-WHERE rule IN ('B1', 'C3', 'C4', 'C5', 'C6', 'C7', 'C8', 'C9', 'C10', 'U2') AND section IN ('calls', 'served', 'books')
+WHERE rule IN ('B1', 'C3', 'C4', 'C5', 'C6', 'C7', 'C8', 'C9', 'C10', 'C11', 'U2') AND section IN ('calls', 'served', 'books')
   AND what = 'open' AND age NOTNULL;

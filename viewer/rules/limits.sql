@@ -1,4 +1,4 @@
--- What limits the driver sets. To C6, C7 and E5 its book `stats` of the end says for how many threads it asks the
+-- What limits the driver sets. To C6, C7, C11 and E5 its book `stats` of the end says for how many threads it asks the
 -- process of the pool, and how much of the receiver's space for oneway sends was free. The driver in Rust hands calls
 -- and oneway sends only to threads that have said that they take calls.
 -- needs: database/schema.sql: book_stats, finding, raw_thread; database/views.sql: device, process; ages.sql:
@@ -15,11 +15,11 @@ SELECT upid, CASE WHEN most = 0 AND started + requested = 0 THEN 'the driver ask
 FROM book_stats WHERE moment = 'end';
 -- The pool that a call keeps busy, or else the one that it waits in.
 UPDATE finding SET note = note || '; ' || p.limits FROM pool_limit p
-WHERE finding.rule = 'C6' AND p.upid = (SELECT min(h.upid) FROM occupies h JOIN full_pool USING (upid)
+WHERE finding.rule IN ('C6', 'C11') AND p.upid = (SELECT min(h.upid) FROM occupies h JOIN full_pool USING (upid)
   WHERE h.id = finding.id);
 UPDATE finding SET note = coalesce(note || '; ', '') || p.limits FROM waits w JOIN full_pool f ON f.upid = w.server_upid
   JOIN pool_limit p ON p.upid = f.upid
-WHERE finding.rule = 'C7' AND w.id = finding.id AND w.delivery IS NULL;
+WHERE finding.rule IN ('C7', 'C11') AND w.id = finding.id AND w.delivery IS NULL;
 -- The note of the first refused oneway send says what was in the way then.
 UPDATE finding SET note = note || '; at the end ' || counted(b.oneway_free, 'byte') || ' of its oneway space '
   || iif(b.oneway_free = 1, 'was', 'were') || ' free'

@@ -38,7 +38,7 @@ WHERE nth = (n + 1) / 2;
 -- If a call keeps the pool busy to the end, or is in a ring, that call is the finding, also where the loopers wait for
 -- it by other calls.
 CREATE TEMP TABLE told_by_call AS
-WITH RECURSIVE told(at) AS (SELECT id FROM finding WHERE rule IN ('C3', 'C6', 'C8', 'C10')
+WITH RECURSIVE told(at) AS (SELECT id FROM finding WHERE rule IN ('C3', 'C6', 'C8', 'C10', 'C11')
     AND EXISTS (SELECT 1 FROM full_wait)
   UNION SELECT s.id FROM told t JOIN step s ON s.next = t.at LEFT JOIN finding f ON f.id = s.id
     WHERE s.id < 0 OR f.rule = 'C7')

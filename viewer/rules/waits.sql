@@ -4,9 +4,10 @@
 --   from_before, to_frozen; ages.sql: last, life, old, process_life; judging.py: call_name, duration
 -- after: counts.sql
 -- makes: temporary tables: waits, few, waits_for, main_thread, ring_step, ring, lock_step, lock_way, lock_ring,
---   own_ring, serves_on, queued, loop, taker, taken, came, occupies, pool, full_pool, step, waited; indexes: waits_id,
---   waits_process, waits_place, waits_thread, waits_server, waits_delivery, next_wait, ring_step_from, lock_step_from,
---   lock_way_from, lock_ring_of, own_ring_of, queued_at, came_place, pool_of, full_pool_of, step_from, step_to
+--   own_ring, serves_on, queued, loop, taker, taken, came, occupies, pool, full_pool, pool_ring, step, waited; indexes:
+--   waits_id, waits_process, waits_place, waits_thread, waits_server, waits_delivery, next_wait, ring_step_from,
+--   lock_step_from, lock_way_from, lock_ring_of, own_ring_of, queued_at, came_place, pool_of, full_pool_of,
+--   pool_ring_of, step_from, step_to
 
 -- Open calls, and what they wait for: the innermost call that the thread that got the call has made since; or, for a
 -- call that nobody got, the calls of the process that should get it. A call back to a process that waits for this very
@@ -190,6 +191,18 @@ CREATE TEMP TABLE full_pool AS
 SELECT upid, n, doing || '; ' || iif(n = 1, '1 send waits', n || ' sends wait') AS doing FROM pool
 WHERE threads = busy AND upid IN (SELECT upid FROM occupies);
 CREATE UNIQUE INDEX temp.full_pool_of ON full_pool(upid);
+
+-- A call that keeps a full pool busy, of a process that waits for another one: if that one calls back with another
+-- thread than the one that got the call, no thread is left to take it. `next` is the first such call back.
+CREATE TEMP TABLE pool_ring AS
+SELECT k.id, n.id AS next, min(n.place) AS place
+FROM last, occupies o JOIN full_pool USING (upid) JOIN waits k ON k.id = o.id AND k.upid = o.upid
+  JOIN raw_thread t ON t.utid = k.server LEFT JOIN side_time x ON x.seq = t.last_seq
+  JOIN waits n ON n.upid = k.server_upid AND n.server_upid = k.upid
+WHERE k.replied = 0 AND n.delivery IS NULL AND coalesce(last.ts - x.ts > :LONG, 1)
+  AND NOT EXISTS (SELECT 1 FROM waits_for f WHERE f.id = k.id AND NOT f.by_main)
+GROUP BY 1;
+CREATE UNIQUE INDEX temp.pool_ring_of ON pool_ring(id);
 
 -- What waits for what. The steps go from a full pool to what its threads are in, from a call that nobody got to the
 -- pool, and from a call to the one that it waits for: a pool is its process below 0.

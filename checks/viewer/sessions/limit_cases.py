@@ -2,6 +2,7 @@
 
 from checks.kit.captures import BC_TRANSACTION, BR_FAILED_REPLY, record
 from checks.viewer.sessions.cases import case
+from checks.viewer.sessions.pool_cases import calls_back_to_a_full_pool
 from checks.viewer.sessions.session import ONE_WAY, Sent
 
 
@@ -35,6 +36,15 @@ def pool_with_a_limit(s, threads, driver="C", wait=1100):
     s.process(300, "other").main.sends(0, 1)
     s.wait(wait)
     counts(s, threads, driver=driver)
+
+
+@case("C11:2 C7:1 A1:4", "code 2 to client 200 node 0x9700 (open for ≥ 1.1 s; 2 wait for it; client 200 got it at ",
+      "of service 100, code 2 to client 200 node 0x9700; the driver asks it for no threads)",
+      "of client 200, code 3 to service 100 node 0x0; the driver asks it for no threads)")
+def ring_through_a_pool_with_a_limit(s):
+    """The only looper of a service waits for a client that calls back."""
+    calls_back_to_a_full_pool(s)
+    counts(s, "0+0/0")
 
 
 @case("E5:1 W5:1", "held at service 100: 1 send from client 200; most by code 1, the largest has 8 bytes; at the end 16"

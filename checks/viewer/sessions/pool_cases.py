@@ -67,6 +67,35 @@ def calls_wait(s, victims=3, took=1100, longer=0, idle=0, usual=0, free=None, lo
         is_served(service, others[at % 2 if victims < 3 else at > 0], waiting)
 
 
+@case("C11:2 C7:1 A1:4", "real calls without an answer", "C11 by service 100: 2",
+      "(open for ≥ 1.1 s; 2 wait for it; client 200 got it at ",
+      " and thread 201 has done nothing since; in a ring with the call at ",
+      " of client 200, code 3 to service 100 node 0x0", "; in a ring with the call at ",
+      "not got: its only looper is in a call of its own, code 2 since",
+      " of service 100, code 2 to client 200 node 0x9700")
+@case("C4:1 C7:2 A1:4", wait=900)
+@case("C6:1 C7:2 A1:4", by="another process")
+@case("C6:1 C7:2 A1:4", active=True)
+@case("C11:2 C7:2 A1:4", times=2)
+@case("M2:2 C7:1 A1:4", lost="client")
+def calls_back_to_a_full_pool(s, wait=1100, by="another thread", active=False, times=1, lost=None):
+    """The only looper of a service serves a call, and calls a client meanwhile. Another thread of the client calls
+    back, or another process calls the service, and no thread of the service is free."""
+    service, client = s.two()
+    client.main.gives(service.main, 7)
+    back, other = client.looper(1), s.process(300, "other")
+    if lost:
+        s.loses(client)
+    service.main.gets(other.main.sends(0, 10))
+    back.gets(service.main.sends(7, 2), 0x9700)
+    for at in range(times):
+        (client.thread(2 + at) if by == "another thread" else s.process(301, "late").main).sends(0, 3)
+    if active:
+        s.wait(wait - 50)
+        back.writes(ENTER)
+    s.wait(50 if active else wait)
+
+
 @case("Q2:1", "code 10 at service 100 node 0x0", more=150)
 @case("Q2:1", "code 10, code 11 at service 100 (", more=300)
 @case("Q2:1", "code 11, code 10 at service 100 (", more=1000)
