@@ -163,9 +163,11 @@ UPDATE finding SET note = iif(waiting > 0, counted(waiting, 'waits', 'wait') || 
         UNION ALL SELECT next, id FROM pool_ring) l
       JOIN waits n ON n.id = l.next JOIN path_of q ON q.id = l.next JOIN who o ON o.upid = n.upid
     WHERE l.id = finding.id), '')
-FROM waits w WHERE w.id = finding.id AND rule IN ('B1', 'C3', 'C4', 'C5', 'C6', 'C8', 'C9', 'C10', 'C11', 'U2');
+FROM waits w WHERE w.id = finding.id
+  AND (rule IN ('B1', 'C3', 'C4', 'C5', 'C6', 'C8', 'C9', 'C10', 'U2') OR rule = 'C11');
 UPDATE finding SET rule = 'C4' WHERE rule IS NULL AND section = 'served' AND what = 'open';
 -- How long what hangs has been open, at least: the recording ended before it did.
 UPDATE finding SET note = 'open for ≥ ' || duration(age) || coalesce('; ' || note, '')
-WHERE rule IN ('B1', 'C3', 'C4', 'C5', 'C6', 'C7', 'C8', 'C9', 'C10', 'C11', 'U2') AND section IN ('calls', 'served', 'books')
+WHERE (rule IN ('B1', 'C3', 'C4', 'C5', 'C6', 'C7', 'C8', 'C9', 'C10', 'U2') OR rule = 'C11')
+  AND section IN ('calls', 'served', 'books')
   AND what = 'open' AND age NOTNULL;

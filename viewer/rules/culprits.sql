@@ -7,8 +7,10 @@
 -- Of an open call, the process that should answer it. In a ring, the call that nobody got is a matter of its caller,
 -- for which another one in the ring waits; in one through a pool, both calls are a matter of the process with the pool.
 UPDATE finding SET culprit = w.server_upid FROM waits w
-WHERE w.id = finding.id AND (rule IN ('B1', 'C4', 'C5', 'C6', 'C7', 'C8', 'C9', 'C10', 'M2', 'U1', 'U2', 'U6')
-  OR rule = 'C3' AND w.delivery NOTNULL OR rule = 'C11' AND w.delivery IS NULL);
+WHERE w.id = finding.id AND rule IN ('B1', 'C3', 'C4', 'C5', 'C6', 'C7', 'C8', 'C9', 'C10', 'M2', 'U1', 'U2', 'U6')
+  AND (rule <> 'C3' OR w.delivery NOTNULL);
+UPDATE finding SET culprit = w.server_upid FROM waits w
+WHERE w.id = finding.id AND rule = 'C11' AND w.delivery IS NULL;
 -- What failed, or never came, because of its receiver: it ended, was frozen, gave a bad reply, or reads nothing.
 -- Who goes on calling what is frozen, or takes no file descriptors, causes that.
 UPDATE finding SET culprit = target WHERE rule IN ('E3', 'E4', 'E6', 'E8', 'E9', 'E10', 'W2', 'W3')

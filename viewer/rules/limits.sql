@@ -15,11 +15,11 @@ SELECT upid, CASE WHEN most = 0 AND started + requested = 0 THEN 'the driver ask
 FROM book_stats WHERE moment = 'end';
 -- The pool that a call keeps busy, or else the one that it waits in.
 UPDATE finding SET note = note || '; ' || p.limits FROM pool_limit p
-WHERE finding.rule IN ('C6', 'C11') AND p.upid = (SELECT min(h.upid) FROM occupies h JOIN full_pool USING (upid)
+WHERE (finding.rule = 'C6' OR finding.rule = 'C11') AND p.upid = (SELECT min(h.upid) FROM occupies h JOIN full_pool USING (upid)
   WHERE h.id = finding.id);
 UPDATE finding SET note = coalesce(note || '; ', '') || p.limits FROM waits w JOIN full_pool f ON f.upid = w.server_upid
   JOIN pool_limit p ON p.upid = f.upid
-WHERE finding.rule IN ('C7', 'C11') AND w.id = finding.id AND w.delivery IS NULL;
+WHERE (finding.rule = 'C7' OR finding.rule = 'C11') AND w.id = finding.id AND w.delivery IS NULL;
 -- The note of the first refused oneway send says what was in the way then.
 UPDATE finding SET note = note || '; at the end ' || counted(b.oneway_free, 'byte') || ' of its oneway space '
   || iif(b.oneway_free = 1, 'was', 'were') || ' free'

@@ -1,7 +1,7 @@
 """Sessions that end with the driver's book `stats`: how many threads a process may have, and its oneway space."""
 
 from checks.kit.captures import BC_TRANSACTION, BR_FAILED_REPLY, record
-from checks.viewer.sessions.cases import case
+from checks.viewer.sessions.cases import case, embrace_through_a_pool
 from checks.viewer.sessions.pool_cases import calls_back_to_a_full_pool
 from checks.viewer.sessions.session import ONE_WAY, Sent
 
@@ -10,12 +10,12 @@ def with_driver(s, driver):
     s.lines[0] = s.lines[0].replace("\n", f" drivers=10:1:{driver}\n")
 
 
-def counts(s, threads, free=None, driver="C"):
+def counts(s, threads, free=None, driver="C", of=100):
     """The book of the service at the end. `threads` is how many the driver asked for that have not come, how many have
     come, and how many it asks for at most; `free` is how much of its oneway space is free."""
     oneway = {"C": "free async space", "Rust": "free oneway space:"}[driver]
     told = "  outstanding transactions: 0\n" if driver == "Rust" else ""
-    text = f"binder stats:\nBC_REPLY: 1\nproc 100\ncontext binder\n  threads: 2\n  requested threads: {threads}\n{told}"
+    text = f"binder stats:\nBC_REPLY: 1\nproc {of}\ncontext binder\n  threads: 2\n  requested threads: {threads}\n{told}"
     text += f"  {oneway} {free}\n" if free is not None else ""
     s.copies["end.stats"] = text
     with_driver(s, driver)
@@ -45,6 +45,13 @@ def ring_through_a_pool_with_a_limit(s):
     """The only looper of a service waits for a client that calls back."""
     calls_back_to_a_full_pool(s)
     counts(s, "0+0/0")
+
+
+@case("C3:2 C6:1 C7:1 A1:4", "not got: its only looper is in code 3 since 1.1 s)")
+def embrace_through_a_pool_with_a_limit(s):
+    """A call that nobody got is in a ring of mains."""
+    embrace_through_a_pool(s)
+    counts(s, "0+0/0", of=200)
 
 
 @case("E5:1 W5:1", "held at service 100: 1 send from client 200; most by code 1, the largest has 8 bytes; at the end 16"

@@ -76,12 +76,15 @@ def calls_wait(s, victims=3, took=1100, longer=0, idle=0, usual=0, free=None, lo
 @case("C4:1 C7:2 A1:4", wait=900)
 @case("C6:1 C7:2 A1:4", by="another process")
 @case("C6:1 C7:2 A1:4", active=True)
-@case("C11:2 C7:2 A1:4", times=2)
+@case("C11:2 C7:2 A1:4", "; in a ring with the call at 1144 of client 200, code 3 to service", times=2)
 @case("M2:2 C7:1 A1:4", lost="client")
-def calls_back_to_a_full_pool(s, wait=1100, by="another thread", active=False, times=1, lost=None):
+@case("C6:2 C7:2 A1:6", served=True)
+def calls_back_to_a_full_pool(s, wait=1100, by="another thread", active=False, times=1, lost=None, served=False):
     """The only looper of a service serves a call, and calls a client meanwhile. Another thread of the client calls
-    back, or another process calls the service, and no thread of the service is free."""
+    back, or another process calls the service, and no thread of the service is free. `served`: a second looper serves
+    that, and never replies."""
     service, client = s.two()
+    second = service.looper(1) if served else None
     client.main.gives(service.main, 7)
     back, other = client.looper(1), s.process(300, "other")
     if lost:
@@ -89,7 +92,10 @@ def calls_back_to_a_full_pool(s, wait=1100, by="another thread", active=False, t
     service.main.gets(other.main.sends(0, 10))
     back.gets(service.main.sends(7, 2), 0x9700)
     for at in range(times):
-        (client.thread(2 + at) if by == "another thread" else s.process(301, "late").main).sends(0, 3)
+        sent = (client.thread(2 + at) if by == "another thread" else s.process(301, "late").main).sends(0, 3)
+    if second:
+        second.gets(sent)
+        s.process(301, "late").main.sends(0, 3)
     if active:
         s.wait(wait - 50)
         back.writes(ENTER)
