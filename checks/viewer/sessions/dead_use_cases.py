@@ -7,7 +7,8 @@ from checks.viewer.sessions.kept_cases import SERVER, calls_back
 
 
 @case("E3:10 H16:10", "real references to ended processes: 10 of 10 given by replies to code 5 of server 300 node"
-      " 0x9000 H16 (held for 1.", " after server 300 ended; BR_DEAD_REPLY told so of 10 of 10)", "groups that are real: 1",
+      " 0x9000 H16 (held for 1.", " after server 300 ended; BR_DEAD_REPLY told so of 10 of 10)",
+      "groups that are real: 1",
       "H16 by client 200: 10", "| given by replies to code 5 of server; key ")
 @case("E3:9 H17:10", "maybe references to ended processes: 10 of 10 given by replies to code 5 of server 300 node"
       " 0x9000 H17 (held for 1.", "BR_DEAD_REPLY told so of 9 of 10)", calls=9)

@@ -15,7 +15,8 @@ def counts(s, threads, free=None, driver="C", of=100):
     come, and how many it asks for at most; `free` is how much of its oneway space is free."""
     oneway = {"C": "free async space", "Rust": "free oneway space:"}[driver]
     told = "  outstanding transactions: 0\n" if driver == "Rust" else ""
-    text = f"binder stats:\nBC_REPLY: 1\nproc {of}\ncontext binder\n  threads: 2\n  requested threads: {threads}\n{told}"
+    text = f"binder stats:\nBC_REPLY: 1\nproc {of}\ncontext binder\n  threads: 2\n"
+    text += f"  requested threads: {threads}\n{told}"
     text += f"  {oneway} {free}\n" if free is not None else ""
     s.copies["end.stats"] = text
     with_driver(s, driver)
