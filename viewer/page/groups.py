@@ -42,7 +42,7 @@ class Group:
         (self.number, self.verdict, self.title, self.path, self.n, self.n_all, self.first, self.last, self.waiting,
          rules, self.note) = row
         self.rules = rules.split(",")
-        self.found = [Finding(*row, spans.lasted[row[9]], spans.word(row[9]))
+        self.found = [Finding._make((*row, spans.lasted[row[9]], spans.word(row[9])))
                       for row in capture.asked("findings", self.number, FINDINGS + 1)]
         self.who = [upid for upid, in capture.asked("group_who", self.number)]
         keys = [key for key, in capture.asked("group_keys", self.number)]
