@@ -11,7 +11,7 @@
 
 -- ---- the rules
 
--- V1 maybe: The main thread of an app waited over {LONG} for it; the note says whose the time was.
+-- V1 explained: The main thread of an app waited over {LONG} for it; the note says whose the time was.
 --   next: what the process does whose part of the time is the longest: ./view --call has all parts of the call
 --   rests on: LONG, NAMED
 --   met by: `app_waits()`: a main thread waits for a service that waits for another one
@@ -21,7 +21,7 @@
 --   rests on: TOO_MANY, LONG, OLD
 --   met by: `listeners()`: eleven listeners are told, and one takes 120 ms
 --   fault: a listener that is slower than others
--- V3 maybe: It asks {AGAIN} times or more, for over {VERY_LONG}, with the same data and at one period.
+-- V3 explained: It asks {AGAIN} times or more, for over {VERY_LONG}, with the same data and at one period.
 --   next: whether the caller can wait to be told, or keep the answer
 --   rests on: AGAIN, VERY_LONG, USUAL
 --   met by: `asks_again()`: a client asks a service each 60 ms, 20 times
