@@ -68,7 +68,7 @@ def check_against(folder: pathlib.Path, room: pathlib.Path, fail: Fail) -> None:
             (0, due, "1 new, 0 worse, 1 grown, 1 gone, 1 same, 1 not met"), fail)
     text = texts_of(room / "new.html")
     compare("--against: marks of the page", ("real new replies never freed" in text, "real grown replies" in text,
-                                             " Gone Defects of the other" in text, text.count("client on binder: ")),
+                                             " Gone 1 Defects of the other" in text, text.count("client on binder: ")),
             (True, True, True, 1), fail)
     status, groups, _ = view(folder, room, *new, "--groups")
     keys = {line.split("\t")[-1] for line in groups.splitlines() if line.startswith("real")}
