@@ -74,8 +74,10 @@ SELECT b.upid, b.ptr, b.cookie, t.upid AS sender, count(*) AS n, w.each
 FROM behind b JOIN slow_wait o USING (upid, ptr, cookie) JOIN raw_send s ON s.place = o.place
   JOIN raw_thread t ON t.utid = s.utid
   JOIN (SELECT upid, ptr, cookie, count(*) AS n, (max(iif(came, until, NULL)) - min(iif(came, until, NULL)))
-      / nullif(sum(came) - 1, 0) AS each FROM slow_wait GROUP BY 1, 2, 3) w USING (upid, ptr, cookie)
-WHERE w.each < :LONG GROUP BY 1, 2, 3, 4 HAVING count(*) >= :NEARLY_ALL * w.n;
+      / nullif(sum(came) - 1, 0) AS each, max(iif(came, until - max(since, before), NULL)) AS longest
+    FROM (SELECT *, lag(until, 1, 0) OVER (PARTITION BY upid, ptr, cookie ORDER BY place) AS before FROM slow_wait)
+    GROUP BY 1, 2, 3) w USING (upid, ptr, cookie)
+WHERE w.longest < :LONG GROUP BY 1, 2, 3, 4 HAVING count(*) >= :NEARLY_ALL * w.n;
 INSERT INTO finding(section, what, place, seq, upid, utid, code, ptr, cookie, relation, about, node, rule, culprit,
   said, how_long, usually, how_many, other_upid)
 SELECT 'queues', 'behind', b.place, r.seq, b.upid, r.utid, r.code, b.ptr, b.cookie, 'at', b.upid, b.ptr,
