@@ -83,7 +83,8 @@ FROM (SELECT server, since, until, sum(begins) OVER (PARTITION BY server ORDER B
 GROUP BY server, n;
 -- What its loopers were in then, and for how long.
 CREATE TEMP TABLE kept_by AS
-SELECT p.server, b.utid, b.place, min(b.until, p.until) - max(b.since, p.since) AS ns, p.since, p.until
+SELECT p.server, b.utid, b.place, min(b.until, p.until) - max(b.since, p.since) AS ns, p.since, p.until,
+  b.since AS busy_since, b.until AS busy_until
 FROM full_time p CROSS JOIN pool_looper k ON k.upid = p.server CROSS JOIN busy b ON b.utid = k.utid
   AND b.since < p.until AND b.since >= coalesce((SELECT max(x.since) FROM busy x WHERE x.utid = k.utid
     AND x.since <= p.since), p.since)

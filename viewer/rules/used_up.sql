@@ -1,9 +1,9 @@
 -- Q: pools that are used up, which are findings of their own, one for each server.
 -- needs: database/schema.sql: finding, raw_call, raw_delivery, raw_record, raw_send, raw_thread, side_time; nodes.sql:
---   who; ages.sql: process_life; waits.sql: occupies, step; pools.sql: full_wait, kept_by, kept_by_method, kept_for;
---   judging.py: counted, duration
+--   who; ages.sql: process_life; waits.sql: occupies, step; pools.sql: full_wait, kept_by, kept_by_method, kept_for,
+--   pool_looper; judging.py: counted, duration
 -- after: calls.sql
--- makes: temporary tables: usual_wait, told_by_call, keeper, used_up; indexes: keeper_of
+-- makes: temporary tables: usual_wait, told_by_call, keeper, waited_for, used_up; indexes: keeper_of
 
 -- ---- what findings are called
 
@@ -43,17 +43,31 @@ WITH RECURSIVE told(at) AS (SELECT id FROM finding WHERE rule IN ('C3', 'C6', 'C
   UNION SELECT s.id FROM told t JOIN step s ON s.next = t.at LEFT JOIN finding f ON f.id = s.id
     WHERE s.id < 0 OR f.rule = 'C7')
 SELECT DISTINCT upid AS server FROM occupies WHERE id IN (SELECT at FROM told);
--- The processes whose calls kept its loopers busy, and when. A process that waits for its own calls delays itself.
+-- The processes whose calls kept its loopers busy, with when each call did so; `before` is how long a looper was busy
+-- with calls of the process before.
 CREATE TEMP TABLE keeper AS
-SELECT k.server, t.upid, k.since, k.until
-FROM kept_by k JOIN raw_delivery d USING (place) JOIN raw_send s ON s.place = d.send JOIN raw_thread t ON t.utid = s.utid;
-CREATE INDEX temp.keeper_of ON keeper(server, upid, since);
+SELECT k.server, t.upid, k.utid, k.busy_since AS since, k.busy_until AS until,
+  sum(k.busy_until - k.busy_since) OVER (PARTITION BY k.server, t.upid, k.utid ORDER BY k.busy_since)
+    - (k.busy_until - k.busy_since) AS before
+FROM (SELECT DISTINCT server, utid, place, busy_since, busy_until FROM kept_by) k JOIN raw_delivery d USING (place)
+  JOIN raw_send s ON s.place = d.send JOIN raw_thread t ON t.utid = s.utid;
+CREATE INDEX temp.keeper_of ON keeper(server, upid, utid, since);
+-- How long each wait was, and how long calls of the process that waits kept loopers busy meanwhile: who waits for its own
+-- calls delays itself.
+CREATE TEMP TABLE waited_for AS
+SELECT w.server, w.until - w.since AS ns, (
+  SELECT sum(
+    coalesce((SELECT k.before + min(k.until, w.until) - k.since FROM keeper k WHERE k.server = w.server
+      AND k.upid = t.upid AND k.utid = l.utid AND k.since <= w.until ORDER BY k.since DESC LIMIT 1), 0)
+    - coalesce((SELECT k.before + min(k.until, w.since) - k.since FROM keeper k WHERE k.server = w.server
+      AND k.upid = t.upid AND k.utid = l.utid AND k.since <= w.since ORDER BY k.since DESC LIMIT 1), 0))
+  FROM pool_looper l WHERE l.upid = w.server) AS own
+FROM full_wait w JOIN raw_thread t USING (utid);
+-- If most calls waited so long, the median is no measure of what is usual.
 CREATE TEMP TABLE used_up AS
-SELECT w.server, count(*) AS n, max(w.until - w.since) AS longest, u.dur AS usual,
-  coalesce(sum(w.until - w.since > :OLD * u.dur
-    AND coalesce((SELECT k.until FROM keeper k WHERE k.server = w.server AND k.upid = t.upid AND k.since <= w.since
-      ORDER BY k.since DESC LIMIT 1) < w.until, 1)) >= :OFTEN, 0) AS is_real
-FROM full_wait w JOIN raw_thread t USING (utid) LEFT JOIN usual_wait u USING (server)
+SELECT w.server, count(*) AS n, max(w.ns) AS longest, u.dur AS usual,
+  coalesce(sum((w.ns > :OLD * u.dur OR u.dur > :VERY_LONG) AND w.own < (1 - :NEARLY_ALL) * w.ns) >= :OFTEN, 0) AS is_real
+FROM waited_for w LEFT JOIN usual_wait u USING (server)
 WHERE w.server NOT IN (SELECT server FROM told_by_call)
 GROUP BY w.server;
 -- Named are the method that kept its loopers longest, and those that took their share, too.

@@ -145,6 +145,30 @@ def waits_for_its_own(s, times=3, victims=(), keeps=None):
         caller.answered(service.main.replies(service.main.gets(waiting)))
 
 
+@case("Q1:1", "6 calls waited up to 1.6", "(the median is 1 ms) for its 1 looper: 3 of victim 300, 3 of victim 350",
+      "Q1 by service 100: 1")
+@case("Q1:1", "18 calls waited up to 1.6", "(the median is 1.6", good=0, each=3)
+@case("Q2:1", "6 calls waited up to 1.6", own=True)
+def starves(s, good=30, each=1, own=False):
+    """A slow client calls the only looper of a service again and again. Two victims call it by turns, with so many
+    threads, and the looper serves each for a moment; so at any time one of them waits. `own`: all calls are of one
+    process."""
+    service, client = s.two()
+    victims = [client, client] if own else [s.process(300, "victim"), s.process(350, "victim")]
+    callers = [[one.thread(5 + at + 2 * nth) for nth in range(each)] for at, one in enumerate(victims)]
+    for _ in range(good):
+        callers[0][0].asks(service.main, 1)
+    waiting = []
+    for at in range(7):
+        address = service.main.gets(client.main.sends(0, 10))
+        s.wait(550)
+        late, waiting = waiting, [(one, one.sends(0, 1)) for one in callers[at % 2]] if at < 6 else []
+        s.wait(550)
+        client.main.answered(service.main.replies(address))
+        for caller, sent in late:
+            caller.answered(service.main.replies(service.main.gets(sent)))
+
+
 @case("Q1:2", "3 of other 300", "3 of client 200")
 def waits_elsewhere(s):
     """A client keeps the only looper of a service, and waits for that of another one meanwhile, which others keep."""
