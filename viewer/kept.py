@@ -3,6 +3,7 @@ beside the sources. In the repository they are made anew when a source is newer;
 
 import os
 import pathlib
+import threading
 from typing import Callable, Iterator
 
 from viewer.program_names import PACKED
@@ -30,7 +31,7 @@ def kept(name: str, folders: tuple[pathlib.Path, ...], write: Callable[[pathlib.
     path = folders[0] / "out" / name
     if not PACKED and not is_fresh(path, folders):
         path.parent.mkdir(exist_ok=True)
-        new = path.with_name(f"{name}.{os.getpid()}")
+        new = path.with_name(f"{name}.{threading.get_native_id()}")
         write(new)
         new.replace(path)
     return path
