@@ -101,7 +101,7 @@ def refused(room: Room, clone: Repository, last: str, says: str, why: str) -> No
 
 
 def judge_lines(room: Room) -> None:
-    clone, good = room.clone(), LAST.replace("WORDS", GOOD)
+    clone, good = room.clone("cache of lines"), LAST.replace("WORDS", GOOD)
     lines = [(LAST.replace("WORDS", f"{word} {GOOD}"), "", why) for word, why in BAD_WORDS.items()]
     lines += [(line, "", "does not know") for line in BAD_LINES]
     lines += [(good, f"{text}\n", why) for text, why in BAD_TEXTS.items()]

@@ -14,7 +14,7 @@ from checks.hostile.mutations import WORDS, changed_bytes, changed_capture, chan
 from checks.hostile.plays import Play, Player
 from checks.kit.programs import CHECKS, DRIVER, ROOT, SMALL
 from checks.kit.side_lists import LONGEST as LONGEST_LINE, packed
-from checks.lab.mutated import VALUES, mutated_results
+from checks.lab.mutated import VALUES, by_rows, mutated_results
 from lab import store
 
 # The longest captures that are changed, so that a run is short.
@@ -51,7 +51,7 @@ def stock_of(player: Player, room: pathlib.Path) -> Stock:
         words = str(DRIVER / name / "capture-1.cap"), "--side", str(DRIVER / name / "capture.side")
         player.play(Play("./fleet", ("one", *words, "--build", "b1", "--device", "d1", "-o", f"{name}.json")), room)
         text = (room / f"{name}.json").read_bytes()
-        made.append(store.read(room / f"{name}.json", text))
+        made.append(by_rows(store.read(room / f"{name}.json", text)))
         if not number:
             player.play(Play("./view", (*words, "--groups", "--database", "kept.db")), room)
     player.play(Play("./fleet", ("load", "lab.db", *(f"{name}.json" for name in ("leaks", "twice")))), room)

@@ -62,7 +62,7 @@ from checks.kit.runs import answer
 from checks.lab.full_disk import check_full_disk
 from checks.lab.keys import CUT, check_keys_of_cut, print_keys_of_two
 from checks.lab.lab_page import check_browser, check_commands, check_page, check_page_of_strangers
-from checks.lab.mutated import check_mutated, check_wrong
+from checks.lab.mutated import by_rows, check_mutated, check_wrong
 from checks.lab.names import check_names, made_up
 from checks.lab.nightly import check_nightly
 from checks.lab.nodes import check_by_make, check_by_slurm
@@ -70,7 +70,7 @@ from checks.lab.tried_again import check_tried_again
 from checks.lab.words import check_words
 from lab import result
 from lab.first_seen import FIRST
-from lab.form import ROWS, unfolded
+from lab.form import unfolded
 from lab.store import open_lab
 from viewer.units import defect_key
 
@@ -94,8 +94,7 @@ def made_of(folder: pathlib.Path, room: pathlib.Path, name: str, *more: object) 
     """The result of a stored capture."""
     to = room / f"{name}.json"
     fleet(folder, "one", *stored(name), "--build", "b1", "--device", "d1", "-o", to, *more)
-    made = unfolded(json.loads(to.read_text("utf-8")))[0]
-    return {**made, **{rows: [*made[rows]] for rows in ROWS}}
+    return by_rows(unfolded(json.loads(to.read_text("utf-8")))[0])
 
 
 # ---- results
@@ -154,7 +153,7 @@ def check_bound(whole: dict, fail: Fail) -> None:
                       f"process.number.{row // 50} on binder", "call": f"org.example.IInterface{row // 50}.method{row}",
                       "sends": chance.randrange(1000), "longest": chance.randrange(10**9)} for row in range(1200)]
     came, why = unfolded(json.loads(result.text_of(result.bounded(phone))))
-    compare("a result like a phone's", ({**came, **{rows: [*came[rows]] for rows in ROWS}}, why),
+    compare("a result like a phone's", (by_rows(came), why),
             ({**phone, "capture": {**phone["capture"], "left_out": 0}}, None), fail)
     row = {**whole["talk"][0], "caller": "x" * 400}
     large["talk"] = [{**row, "longest": chance.getrandbits(60)} for _ in range(20_000)]

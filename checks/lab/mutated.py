@@ -12,6 +12,7 @@ from typing import Iterator
 from checks.kit.checking import Fail, compare
 from checks.lab.played import played
 from lab import result
+from lab.form import ROWS
 from viewer.terminal import is_sign
 
 # Where a result has another value than one that it may have.
@@ -63,6 +64,11 @@ def changed_text(chance: random.Random, text: bytes) -> bytes:
     return chance.choice((
         text[:at] + bytes([text[at] ^ 1 << chance.randrange(8)]) + text[at + 1:], text[:at],
         text[:at] + text[at + length:], text[:at] + text[at:at + length] + text[at:]))
+
+
+def by_rows(made: dict) -> dict:
+    """A result that was read, with lists of rows in the place of columns."""
+    return {**made, **{name: [*made[name]] for name in ROWS}}
 
 
 def mutated_results(good: dict, chance: random.Random, count: int) -> Iterator[bytes]:
