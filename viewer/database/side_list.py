@@ -162,6 +162,9 @@ def joined_sides(paths: list[str], to: pathlib.Path) -> str:
 # The fields of `begin` since version 2. Lists of version 1 may lack some of them.
 BEGIN_FIELDS = frozenset(("realtime", "boottime", "kernel", "machine", "payloads", "drivers"))
 
+# The numbers of `kept`; which there are depends on why.
+KEPT_FIELDS = ("after", "frame", "at", "pid", "since", "limit")
+
 # The most addresses of a stack.
 MOST_OF_STACK = 64
 
@@ -314,6 +317,12 @@ class SideList:
     def take_file(self, _: int, positional: list[str], __: dict[str, str]) -> None:
         """The first file counts: above 1, a flight recorder has removed earlier ones."""
         self.facts.setdefault("first_file", *numbers(positional, 1))
+
+    def take_kept(self, time: int, positional: list[str], keyed: dict[str, str]) -> None:
+        """Why the capture was kept of a recording that went on, in a list that has nothing later."""
+        numbered = {name: number(keyed[name]) for name in KEPT_FIELDS if name in keyed}
+        self.facts.update({"kept": positional[0], "kept_ts": time, "kept_name": keyed.get("name", ""),
+                           **{f"kept_{name}": value for name, value in numbered.items()}})
 
     def take_clocks(self, time: int, _: list[str], keyed: dict[str, str]) -> None:
         self.database.execute("INSERT OR REPLACE INTO side_clock VALUES (?, ?, ?)",
