@@ -5,7 +5,7 @@
 It goes through three captures with one worker. With --all, as `.ci/run` calls it, it goes through eight, with one
 worker and with four, and then through the calls of the built crates/refusal_cases; `rows`, `text` and the faults of
 audits are also compared with kit/second_reading.py. It builds only `refuse.c` beside it, for which it needs `cc`. With
---table it prints the two tables that docs/MEASURED.md has, of the program and of the calls.
+--table it prints two tables, of the program and of the calls; docs/MEASURED.md has their sums.
 
 A run has its n-th growth refused, for n = 1, 2 and so on until a run meets no refusal. It answers Memory: nothing on
 standard output, `fault Memory`, status 3; a call answers with the line `Memory`. No refused growth is ignored, with one
@@ -232,7 +232,7 @@ def judged(sweep, workers, least, fail):
 
 
 class Table:
-    """Rows that are printed in the form of docs/MEASURED.md: a name is only in its first row."""
+    """Rows that are printed as a table: a name is only in its first row."""
 
     def __init__(self, names, *numbers):
         self.name_count = len(names)

@@ -26,7 +26,7 @@ JUDGED = ("healthy sessions", "sessions with a fault", "faults found as `real`",
           "wrong `maybe` lines in healthy sessions", "wrong `real` lines in faulty sessions",
           "wrong `maybe` lines in faulty sessions")
 # The kernels on which all was played, also with a second recorder.
-KERNELS = "6.1.192 | x86-64", "7.2.13 | x86-64"
+KERNELS = "6.1.0-57 | x86-64", "7.2.13 | x86-64"
 
 
 def cells(text: str, begin: str) -> list[int]:
