@@ -8,7 +8,8 @@
 
 Each folder in systems/ has these files of a system with the kernel of its name: `format` files of tracepoints, some
 lines of kallsyms and of the functions that can be probed, and of BTF the types that the recorder's programs read, which
-`checks/run compiled` tries. A file that another system has too is a link to it. On each of them nothing may be lacking.
+`checks/run compiled` tries. What another system has too is stored once: a line of the file `same` has the path, and where
+it is in systems/. On each of them nothing may be lacking.
 Then one tracepoint or field after the other is renamed, moved, of another size or away: each of these systems must be
 refused in a line that names the file. So must one whose kernel is too old. And where a compiler has renamed the
 driver's functions, those are found.
@@ -34,7 +35,7 @@ from checks.recorder.guest.machines import MACHINES, OWN_TIME, Machine
 from checks.recorder.guest.plans import command, compiler_for, first_files
 
 SYSTEMS = CHECKS / "recorder/systems"
-BTF = "sys/kernel/btf/vmlinux"
+BTF, SAME = "sys/kernel/btf/vmlinux", "same"
 # What the recorder looks by.
 SOURCES = ("needs", "drivers", "devices", "tracefs", "tracepoints", "lack", "common")
 # Of a tracepoint the fields that the recorder reads.
@@ -62,15 +63,45 @@ def store_types(whole: pathlib.Path, machine: Machine, to: pathlib.Path, room: p
         env={**os.environ, "PATH": f"{os.environ['PATH']}:/usr/sbin"})
 
 
-def link_what_is_there(folder: pathlib.Path) -> None:
-    """Makes links of the files that another system has too."""
-    for path in sorted(path for path in folder.rglob("*") if path.is_file()):
-        name = path.relative_to(folder)
-        for other in sorted(SYSTEMS.glob(f"*/{name}")):
-            if other != path and not other.is_symlink() and other.read_bytes() == path.read_bytes():
-                path.unlink()
-                path.symlink_to(os.path.relpath(other, path.parent))
-                break
+def copy_of(system: pathlib.Path, to: pathlib.Path) -> None:
+    """Copies a stored system, with what it has from others."""
+    shutil.rmtree(to, ignore_errors=True)
+    shutil.copytree(system, to, ignore=shutil.ignore_patterns(SAME))
+    for line in (system / SAME).read_text("utf-8").splitlines() if (system / SAME).exists() else ():
+        path, other = line.split()
+        (to / path).parent.mkdir(parents=True, exist_ok=True)
+        run("cp", "-R", SYSTEMS / other, to / path)
+
+
+def files_below(path: pathlib.Path) -> dict[str, bytes]:
+    return {str(file.relative_to(path)): file.read_bytes() for file in [path, *path.rglob("*")] if file.is_file()}
+
+
+def leave_out_same(system: pathlib.Path) -> None:
+    """Removes from a stored system what a system before it has, but for the BTF, which others read there."""
+    same = []
+    for path in sorted(system.rglob("*")):
+        name = str(path.relative_to(system))
+        for other in sorted(SYSTEMS.glob(f"*/{name.replace('rust_binder', 'binder')}")):
+            if (path.exists() and other < system and not BTF.startswith(name)
+                    and files_below(other) == files_below(path)):
+                same.append(f"{name} {other.relative_to(SYSTEMS)}\n")
+                run("rm", "-r", path)
+    if same:
+        (system / SAME).write_text("".join(same), "utf-8")
+
+
+def store_system(made: pathlib.Path, name: str, room: pathlib.Path) -> None:
+    """Stores a system. The others are stored anew, since they may have been without what this one had before."""
+    for system in SYSTEMS.glob("*/"):
+        copy_of(system, room / "systems" / system.name)
+    shutil.rmtree(room / "systems" / name, ignore_errors=True)
+    shutil.copytree(made, room / "systems" / name)
+    for system in sorted((room / "systems").iterdir()):
+        shutil.rmtree(SYSTEMS / system.name, ignore_errors=True)
+        shutil.copytree(system, SYSTEMS / system.name)
+    for system in sorted(SYSTEMS.glob("*/")):
+        leave_out_same(system)
 
 
 def store(given: argparse.Namespace) -> list[str]:
@@ -89,9 +120,7 @@ def store(given: argparse.Namespace) -> list[str]:
     whole = given.room / f"{name}.btf"
     shutil.copy(kept / BTF, whole)
     store_types(whole, machine, kept / BTF, given.room)
-    shutil.rmtree(SYSTEMS / name, ignore_errors=True)
-    shutil.copytree(kept, SYSTEMS / name)
-    link_what_is_there(SYSTEMS / name)
+    store_system(kept, name, given.room)
     return []
 
 
@@ -110,8 +139,7 @@ class Tried:
 
     def __init__(self, system: pathlib.Path, program: pathlib.Path, room: pathlib.Path) -> None:
         self.name, self.program, self.copy = system.name, program, room / "changed"
-        shutil.rmtree(self.copy, ignore_errors=True)
-        shutil.copytree(system, self.copy)
+        copy_of(system, self.copy)
         self.language = "Rust" if self.name.startswith("rust-") else "C"
 
     def said(self) -> tuple[int, str]:
