@@ -3,6 +3,7 @@
 #include "codes.h"
 #include "grammar.h"
 #include "met.h"
+#include "open_calls.h"
 #include "parts.h"
 #include "pool.h"
 #include "redact.h"
@@ -397,5 +398,6 @@ enum reason frame_write(struct frame *frame, u64 consumed)
 		write_entries(frame);
 	write_lines(frame, left_out);
 	met_frame(frame);
+	open_calls_frame(frame);
 	return REASON_NONE;
 }

@@ -1,6 +1,7 @@
 #include "known.h"
 #include "command.h"
 #include "met.h"
+#include "open_calls.h"
 #include <stdlib.h>
 
 struct link known_openings = LINK_LIST(known_openings), known_uses = LINK_LIST(known_uses);
@@ -28,6 +29,7 @@ static int forget_use(struct ending *ending)
 	if (table_thing(&uses, use->opening->id, use->thread->id) == use)
 		table_drop(&uses, use->opening->id, use->thread->id);
 	met_thread_ended(use->who);
+	open_calls_thread_ended(use->who);
 	link_take_out(&use->ending.link);
 	link_take_out(&use->of_opening);
 	link_take_out(&use->of_thread);
@@ -64,8 +66,10 @@ static int forget_opening(struct ending *ending)
 		return 0;
 	while (!link_is_alone(&o->uses))
 		forget_use(&LINKED(o->uses.next, struct use, of_opening)->ending);
-	if (o->numbered)
+	if (o->numbered) {
 		met_process_ended(o->device, o->process);
+		open_calls_process_ended(o->device, o->process);
+	}
 	command_forget(o->id);
 	table_empty(&o->thread_numbers);
 	table_drop(&openings, o->id, 0);

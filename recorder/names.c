@@ -3,6 +3,7 @@
 #include "devices.h"
 #include "known.h"
 #include "met.h"
+#include "open_calls.h"
 #include "side.h"
 #include "slice.h"
 #include "table.h"
@@ -188,7 +189,9 @@ static struct who name_use(u32 opening, u32 thread, u64 time)
 	number_opening(o, time);
 	struct who who = { o->device, o->process,
 			   free_number(&o->thread_numbers, 0, t->thread_id, t->thread_id != 0) };
-	tell_thread(known_add_use(o, t, who), time);
+	struct use *use = known_add_use(o, t, who);
+	open_calls_thread(use);
+	tell_thread(use, time);
 	return who;
 }
 

@@ -1,0 +1,80 @@
+#define _GNU_SOURCE
+#include "interfaces.h"
+#include "table.h"
+#include "token.h"
+#include <stdio.h>
+#include <string.h>
+
+#define MOST_INTERFACES 16384u
+#define TOKEN_ROOM 544u			/* the longest token that token.c takes has fewer bytes */
+#define NUMBERS_BEFORE 12u		/* the most bytes before a name of a Parcel, which differ from call to call */
+
+static struct table numbers;		/* by a hash of the name */
+static char (*names)[INTERFACE_BYTES];
+static u32 count, room;
+
+/* Where the name begins in a token, and how many bytes each of its characters has there. */
+static u64 name_begin(const u8 *token, u64 bytes, u64 *step)
+{
+	*step = 2;
+	for (u64 head = NUMBERS_BEFORE; head >= 4; head -= 4) {
+		u64 begin = head + 4;
+		if (begin < bytes && ((begin + ((u64)load_u32(token + head) + 1) * 2 + 3) & ~3ull) == bytes)
+			return begin;
+	}
+	*step = 1;
+	return 0;
+}
+
+static u64 hash_of(const u8 *name, u64 bytes)
+{
+	u64 hash = 14695981039346656037u;
+	for (u64 i = 0; i < bytes; i++)
+		hash = (hash ^ name[i]) * 1099511628211u;
+	return hash;
+}
+
+/* What follows the last dot of a Java name; the whole of one in HIDL, whose version has dots. */
+static void keep_name(char *to, const u8 *name, u64 bytes, u64 step)
+{
+	char text[TOKEN_ROOM];
+	u64 length = 0;
+	for (u64 at = 0; at < bytes && name[at]; at += step)
+		text[length++] = (char)name[at];
+	text[length] = 0;
+	const char *dot = step == 2 ? strrchr(text, '.') : NULL;
+	snprintf(to, INTERFACE_BYTES, "%.*s", (int)INTERFACE_BYTES - 1, dot ? dot + 1 : text);
+}
+
+static u32 number_of(const u8 *name, u64 bytes, u64 step)
+{
+	u64 *number = table_make(&numbers, hash_of(name, bytes), (u32)bytes);
+	if (*number || count == MOST_INTERFACES)
+		return (u32)*number;
+	if (count == room) {
+		room = room ? 2 * room : 64;
+		names = resize(names, room * sizeof *names);
+	}
+	keep_name(names[count], name, bytes, step);
+	return (u32)(*number = ++count);
+}
+
+u32 interface_of(const struct frame *frame, u32 record)
+{
+	u8 data[TOKEN_ROOM];
+	const struct entry *entry = frame->entries;
+	while (entry && entry->record < record)
+		entry = entry->next;
+	if (!entry || entry->record != record || entry->got != (u64)entry->data + entry->offsets)
+		return 0;
+	u64 bytes = entry->data < sizeof data ? entry->data : sizeof data, step;
+	entry_read(entry, 0, data, bytes);
+	bytes = token_bytes(data, bytes);
+	u64 begin = bytes ? name_begin(data, bytes, &step) : 0;
+	return bytes ? number_of(data + begin, bytes - begin, step) : 0;
+}
+
+const char *interface_name(u32 interface)
+{
+	return interface && interface <= count ? names[interface - 1] : "-";
+}
