@@ -3,6 +3,7 @@
 #include "devices.h"
 #include "met.h"
 #include "names.h"
+#include "narrowed.h"
 #include "side.h"
 #include "slice.h"
 #include "stacks.h"
@@ -10,7 +11,7 @@
 #include <string.h>
 #include <sys/utsname.h>
 
-static char line[LONGEST_LINE];	/* empty before the recording has begun */
+static char line[LONGEST_LINE + NARROWED_BYTES];	/* empty before the recording has begun */
 static void (*tell_also)(u64 number);
 
 /* The devices, with their drivers, as many as have room in a line. */
@@ -24,16 +25,17 @@ static void add_device(u32 device, enum driver driver)
 			 device_minor(device), driver_language(driver));
 }
 
-void begin_tell(const char *payloads)
+void begin_tell(const char *payloads, const char *narrowed)
 {
 	struct utsname name;
 	struct moment moment = clocks_read();
 	uname(&name);
 	devices_all(add_device);
 	snprintf(line, sizeof line,
-		 "%llu begin realtime=%lld%09ld boottime=%lld%09ld kernel=%s machine=%s payloads=%s drivers=%s\n",
+		 "%llu begin realtime=%lld%09ld boottime=%lld%09ld kernel=%s machine=%s payloads=%s%s drivers=%s\n",
 		 (unsigned long long)moment.time, (long long)moment.wall.tv_sec, moment.wall.tv_nsec,
-		 (long long)moment.boot.tv_sec, moment.boot.tv_nsec, name.release, name.machine, payloads, devices);
+		 (long long)moment.boot.tv_sec, moment.boot.tv_nsec, name.release, name.machine, payloads, narrowed,
+		 devices);
 	side_text(line);
 }
 

@@ -47,11 +47,14 @@ static __noinline int look_whether_wanted(struct opening *o)
 	u64 time = bpf_ktime_get_ns();
 	if (!s || !o || time < o->look_at)
 		return 0;
+	int is_first = !o->look_at;
 	o->look_at = time + LOOK_AGAIN;
 	read_command(&s->command, task);
 	u32 user = s->command.user;
 	if (bpf_map_lookup_elem(&wanted_users, &user) || has_wanted_name(s, task)) {
 		o->recorded = WANTED;
+		if (!is_first)
+			o->born = 0;		/* its calls until now are in no frame */
 		o->look_at = 0;			/* its command line is told at once */
 	}
 	return 0;

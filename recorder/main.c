@@ -12,6 +12,7 @@
 #include "met.h"
 #include "missed.h"
 #include "names.h"
+#include "narrowed.h"
 #include "needs.h"
 #include "options.h"
 #include "parts.h"
@@ -327,7 +328,8 @@ static void begin(const struct options *options, FILE *for_ready)
 	missed_begin();
 	failures_begin();
 	kernel_start();
-	begin_tell(options->no_attachments ? "none" : options->redact ? "redacted" : "whole");
+	begin_tell(options->no_attachments ? "none" : options->redact ? "redacted" : "whole",
+		   narrowed_field(options));
 	books_copy(options->out, "begin");
 	books_keep_names(options->out);
 	books_tell();

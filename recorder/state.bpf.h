@@ -9,7 +9,7 @@ enum wanted { NOT_WANTED, WANTED, WANTED_BY_NAME_PERHAPS };
 struct opening {
 	u32 id;
 	u8 recorded, told;	/* recorded: enum wanted */
-	u8 born;		/* it was opened after the recording began */
+	u8 born;		/* it was opened after the recording began, and all its calls are recorded */
 	u8 has_command;		/* a command line was reported */
 	u32 process, device;
 	u32 space, id_there;	/* the namespace of the process's ids, if it is not the first one, and its id there */

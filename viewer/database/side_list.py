@@ -9,6 +9,7 @@ from typing import BinaryIO, Iterable, Iterator, NamedTuple
 from viewer.database import side_belongs
 from viewer.database.finders import Finders, Query
 from viewer.database.last_names import LastNames
+from viewer.database.narrowed import narrowed_of
 from viewer.database.process_names import is_app, is_not_yet_named, long_name
 from viewer.files import Stopped, errors_of, for_owner
 from viewer.units import signed
@@ -311,7 +312,8 @@ class SideList:
             raise KeyError("begin")
         self.facts.update(begin_ts=time, realtime=number(keyed["realtime"]), kernel=keyed["kernel"],
                           machine=keyed["machine"], payloads=keyed.get("payloads"),
-                          boottime=number(keyed["boottime"]) if "boottime" in keyed else None)
+                          boottime=number(keyed["boottime"]) if "boottime" in keyed else None,
+                          **(narrowed_of(keyed["narrowed"], unescaped).facts() if "narrowed" in keyed else {}))
         self.drivers = drivers_of(keyed["drivers"]) if "drivers" in keyed else None
 
     def take_file(self, _: int, positional: list[str], __: dict[str, str]) -> None:

@@ -31,8 +31,8 @@ def head_of(capture: Capture) -> dict[str, object]:
     """The facts of the capture, and of its side list. Of lists that are cut the page shows 20, and here is one more."""
     ask = capture.ask
     return {
-        "first_ts": None, "until_ts": None, "payloads": None, "zeros_doubt": None, **capture.facts,
-        "has_end": "end_ts" in capture.facts,
+        "first_ts": None, "until_ts": None, "payloads": None, "zeros_doubt": None, "narrowed": None,
+        "narrowed_processes": 0, **capture.facts, "has_end": "end_ts" in capture.facts,
         "fault": capture.fault,
         "kernel": capture.facts.get("kernel"), "machine": capture.facts.get("machine"),
         "begin_ts": capture.facts.get("begin_ts"),

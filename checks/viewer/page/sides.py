@@ -110,6 +110,29 @@ def check_forms(_: pathlib.Path, room: pathlib.Path, fail: Fail) -> None:
                 fail)
 
 
+# What `begin` says was recorded alone, and the facts that come of it; none if such a list is refused.
+PARTS = (
+    ("pid:412,pid:7", ("--pid 412 --pid 7", 1, 0)),
+    ("only:my\\x20app,only:a\\x2cb\\x07", ("--only 'my app' --only 'a,b\x07'", 1, 0)),
+    ("device:binder", ("--device binder", 0, 1)),
+    ("pid:1,device:hwbinder,more:3", ("--pid 1 --device hwbinder and 3 more", 1, 1)),
+    ("cgroup:apps", ("by other options", 1, 1)),
+    ("", None), ("412", None), ("pid:1,,pid:2", None), ("more:many", None))
+
+
+def check_narrowed(_: pathlib.Path, room: pathlib.Path, fail: Fail) -> None:
+    """What alone was recorded, as a side list says it."""
+    keys = "narrowed", "narrowed_processes", "narrowed_devices"
+    for number, (narrowed, due) in enumerate(PARTS):
+        list_ = room / f"part-{number}.side"
+        list_.write_text("binder side list 3\n5 begin " + OLD_BEGIN + " boottime=1 payloads=whole narrowed=" + narrowed
+                         + " drivers=\n", "utf-8")
+        taken = side_list.SideList(empty_database())
+        refused = refusal(lambda: taken.load(str(list_)))
+        compare(f"narrowed={narrowed} is refused", bool(refused), due is None, fail)
+        compare(f"narrowed={narrowed}", tuple(taken.facts.get(key) for key in keys), due or (None,) * 3, fail)
+
+
 def as_files(side: str, first: int) -> list[str]:
     """The side lists of a recorder that keeps the newest files, and whose second file begins with frame `first`."""
     head, begun, lines = side.partition("\n")[0] + "\n", "", [[], []]
