@@ -6,7 +6,7 @@
 # it ends, that the last side list tells of the driver's books of the end, and each one of what was missed meanwhile,
 # since older side lists are removed then. And that a recording ends at one moment: what has its number by then is
 # written later, and what comes later is in no line. And that the side list says what the clocks show after a sleep, and
-# after the wall clock was set back, at once and in each later list, and at the end. And that
+# after the wall clock was set back, at once and in each later list, and at the end; and what alone is recorded. And that
 # no process can take the files of a flight recorder for what it names and opens: each file has its frames, be the first
 # lines of its side list ever so many. If there is no room for more openings, the side lists say who has them. And that
 # names which somebody else makes in the same folder end no recording. And that a command line that the program in the
@@ -128,6 +128,23 @@ fails 2 ''
 fails 4 "failed 3 what=call pid=7 tid=3 $of"$'\n'"failed 4 what=oneway pid=7 tid=4 $of"
 fails 33 "failed 3 what=call pid=7 tid=3 $of"$'\n'"failed 4 what=oneway pid=7 tid=4 $of"$'\n'"failed 33 what=call pid=7 tid=33 $of"
 fails 34 "overrun from=0 after=103"$'\n'"failed 3 what=call pid=7 tid=3 $of"$'\n'"failed 34 what=oneway pid=7 tid=34 $of"
+
+# Each list says what alone is recorded, if not all is, and how many words had no room.
+narrowed() { # OUT DUE WORD..: the recorder with these words
+  local told
+  "$room/flight" -o "$room/$1" "${@:3}" 2>/dev/null
+  told=$(for list in "$room/$1"*.side; do sed -nE 's/^[0-9]+ begin .* payloads=(.*) drivers=.*/\1/p' "$list"; done |
+    uniq -c)
+  if [[ ! $told =~ ^\ *$2$ ]]; then
+    printf 'checks/loader: what alone is recorded: %s\n' "$told" && failed=1
+  fi
+}
+narrowed all-of-it '1 whole'
+narrowed part '2 none narrowed=pid:412,pid:7,only:my\\x20app\\x2cx\\x5c,only:10123,device:binder' --pid 412 --pid 7 \
+  --only 'my app,x\' --only 10123 --device /dev/binderfs/binder --no-attachments --size 65536 --files 2
+many=()
+for ((i = 100; i < 250; i++)); do many+=(--only "$i$(printf ' %.0s' {1..60})"); done
+narrowed many '1 whole narrowed=(only:[0-9]{3}(\\x20){60},){32}more:118' "${many[@]}"
 
 # When there is no room for openings, the list says who has the most, after what was missed, and so does each later list.
 CROWDED=1 "$room/flight" -o "$room/crowd" --size 65536 2>/dev/null

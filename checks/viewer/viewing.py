@@ -105,10 +105,10 @@ OTHERS = parts_of(
     check_malformed, check_pipes, check_names, check_changing, check_again, check_whole, check_terminal, check_beside,
     check_side, check_forms, check_narrowed, check_no_lists, check_list_of_loader, check_packed_lists, check_renames,
     check_last_names, check_files, check_secrets, check_told, check_untimed, check_late, check_hostile, check_methods,
-    check_unnamed, check_services, check_manager, check_times, check_loader, check_packed, check_broken, check_timing, check_agreement,
-    check_copies, check_bad_books, check_long_books, check_commands, check_sections, check_filled, check_packages,
-    check_bits, check_stacks, check_growth, check_against, check_moments, check_windows, check_fillers, check_losers,
-    check_power, check_parts, check_strip, check_floors)
+    check_unnamed, check_services, check_manager, check_times, check_loader, check_packed, check_broken, check_timing,
+    check_agreement, check_copies, check_bad_books, check_long_books, check_commands, check_sections, check_filled,
+    check_packages, check_bits, check_stacks, check_growth, check_against, check_moments, check_windows, check_fillers,
+    check_losers, check_power, check_parts, check_strip, check_floors)
 
 
 def names() -> list[str]:
