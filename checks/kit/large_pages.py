@@ -17,7 +17,8 @@ class Crowd:
 
     def __init__(self) -> None:
         self.frames, self.lines, self.now, self.buffers = [HEADER_2], [], BEGIN, Counter[int]()
-        self.lines.append(f"{BEGIN} begin realtime=1795867397000000000 boottime={BEGIN} kernel=6.1 machine=aarch64\n")
+        self.lines.append(f"{BEGIN} begin realtime=1795867397000000000 boottime={BEGIN}"
+                          " kernel=6.1 machine=aarch64 payloads=whole drivers=10:1:C\n")
         self.lines.append(f"{BEGIN} device 0 major=10 minor=1 name=binder\n")
         self.process(SERVER, "system_server")
         self.add(SERVER, 1, [record(BC_ENTER_LOOPER)])

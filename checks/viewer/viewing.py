@@ -56,8 +56,8 @@ What must hold:
   `view` did not make so. `--fail-on` gives status 10 for what is not known.
 - SIGKILL leaves a folder, which the next `view` removes.
 - The loader puts each row as it is into its table, and refuses rows that are not whole.
-- Of a large page nothing is lost that is packed. The strip of time has each group where its findings were, and Growth
-  draws what stays.
+- Of a large page nothing is lost that is packed. The strip of time has each group where its findings were, and the
+  moment at which a capture was kept; the page opens at what it was kept for. Growth draws what stays.
 - No statement of the rules takes the square of what a capture has.
 - The rules in docs/RULES.md are those of the database, and so are the names, columns, types and keys in
   docs/DATABASE.md.
@@ -77,7 +77,7 @@ from checks.viewer.page.books import (check_agreement, check_bad_books, check_co
                                       check_long_books)
 from checks.viewer.page.browser import check_browser
 from checks.viewer.page.culprits import check_fillers, check_losers
-from checks.viewer.page.drawn import check_floors, check_parts, check_strip
+from checks.viewer.page.drawn import check_bars, check_floors, check_kept, check_parts, check_strip
 from checks.viewer.page.files import (check_again, check_beside, check_changing, check_malformed, check_names,
                                       check_pipes, check_terminal, check_whole)
 from checks.viewer.page.growth import check_growth
@@ -108,7 +108,8 @@ OTHERS = parts_of(
     check_unnamed, check_services, check_manager, check_times, check_loader, check_packed, check_broken, check_timing,
     check_agreement, check_copies, check_bad_books, check_long_books, check_commands, check_sections, check_filled,
     check_packages, check_bits, check_stacks, check_growth, check_against, check_moments, check_windows, check_fillers,
-    check_losers, check_power, check_parts, check_strip, check_floors)
+    check_losers, check_power, check_parts, check_bars, check_strip,
+    check_kept, check_floors)
 
 
 def names() -> list[str]:

@@ -3,7 +3,8 @@
 from lab.compare import BACK, SHOWN
 from lab.page.builds import Build
 from lab.page.defects import Defect
-from viewer.page.strip import HEIGHT, WIDTH, Bar, Lane, Tick
+from viewer.page.bars import Bar, Lane
+from viewer.page.strip import HEIGHT, WIDTH, Tick
 from viewer.terminal import shown
 from viewer.units import counted
 
@@ -11,7 +12,7 @@ from viewer.units import counted
 class Strip:
     """What the strip shows, as that of a capture: builds are its parts, as high as they have captures that count."""
 
-    unit = "builds"
+    unit, moment, at_moment = "builds", None, None
 
     def __init__(self, builds: list[Build], defects: list[Defect]):
         self.builds, self.defects = builds, defects

@@ -1,18 +1,17 @@
 """The strip of time at the head of the page: the traffic, and below it what was found, which calls took long, and where
-frames are missing, each from when to when."""
+frames are missing, each from when to when; and the moment at which the capture was kept, if it was."""
 
 from collections import defaultdict
-from typing import Iterator, NamedTuple
+from typing import Iterable, Iterator, NamedTuple
 
 from viewer.page.axis import TICK, Span, axis_of, merged
+from viewer.page.bars import Lane, Mark, bars_of
 from viewer.page.capture import Capture
+from viewer.page.moment import moment_of
 from viewer.units import counted, duration_of
 
 # The width of the strip, in the units of its pictures; its parts; and the height of the traffic.
 WIDTH, PARTS, HEIGHT = 1000, 250, 40
-
-# A bar has at least this width, and bars of a lane that are nearer to one another are one.
-LEAST = 3
 
 # How many gaps between frames are shown.
 GAPS = 400
@@ -24,31 +23,9 @@ LONG = 1 / 100
 NAMED = 4
 
 
-class Bar(NamedTuple):
-    """A bar: where it is, what it says without a stranger's words, and the group or the call that it is of if it is of
-    one."""
-    x: float
-    width: float
-    label: str
-    of: str | None
-
-
-class Lane(NamedTuple):
-    name: str
-    sort: str
-    bars: list[Bar]
-
-
 class Tick(NamedTuple):
     since: str
     clock: str
-
-
-class Mark(NamedTuple):
-    """What a bar is made of."""
-    span: Span
-    label: str
-    of: str | None
 
 
 class Spans:
@@ -87,6 +64,7 @@ class Strip:
         self.capture, self.spans, self.axis = capture, spans, spans.axis
         self.width, self.height, self.length = WIDTH, HEIGHT, spans.axis.length
         self.line = self.traffic()
+        self.moment = moment_of(capture, self.axis, calls)
         self.lanes = [lane for lane in self.all_lanes(calls) if lane.bars]
         self.ticks = [self.tick(at) for at in range(NAMED + 1)]
         self.unit = "µs" if self.axis.has_times else "frames"
@@ -116,26 +94,21 @@ class Strip:
                 for at in range(PARTS))
         return f"M0 {HEIGHT}{''.join(tops)}V{HEIGHT}Z"
 
-    def bars(self, marks: list[Mark]) -> list[Bar]:
-        """Marks as bars, of which those near to one another are one."""
-        scale, found = WIDTH / self.axis.length, []
-        run: list[Mark] = []
-        for mark in [*sorted(marks), None]:
-            if run and (mark is None or (mark.span.begin - max(one.span.end for one in run)) * scale >= LEAST):
-                begin, end = run[0].span.begin * scale, max(one.span.end for one in run) * scale
-                width = max(end - begin, LEAST)
-                label = run[0].label if len(run) == 1 else f"{run[0].label}, and {len(run) - 1:,} more"
-                found.append(Bar(round(min(begin, WIDTH - width), 1), round(width, 1), label, run[0].of))
-                run = []
-            if mark is not None:
-                run.append(mark)
-        return found
+    @property
+    def at_moment(self) -> float | None:
+        """Where the moment is, if there is one."""
+        return round(self.moment.span.end * WIDTH / self.axis.length, 1) if self.moment else None
+
+    def lane(self, name: str, sort: str, marks: Iterable[Mark]) -> Lane:
+        return Lane(name, sort, list(bars_of(marks, WIDTH / self.axis.length, WIDTH)))
 
     def all_lanes(self, calls: list[tuple]) -> Iterator[Lane]:
+        if self.moment:
+            yield self.lane("kept", "kept", [Mark(self.moment.span, "what it was kept for", self.moment.of)])
         for verdict in ("real", "maybe", "explained"):
-            yield Lane(verdict, verdict, self.bars(list(self.found(verdict))))
-        yield Lane("long calls", "call", self.bars(list(self.long(calls))))
-        yield Lane("frames missing", "lost", self.bars(list(self.missing())))
+            yield self.lane(verdict, verdict, self.found(verdict))
+        yield self.lane("long calls", "call", self.long(calls))
+        yield self.lane("frames missing", "lost", self.missing())
 
     def found(self, verdict: str) -> Iterator[Mark]:
         for group, title in self.capture.ask("SELECT grp, title FROM finding_group WHERE verdict = ?", verdict):

@@ -1,4 +1,5 @@
-"""What is on a page at once and what is packed, where the strip of time has bars, and what Growth draws."""
+"""What is on a page at once and what is packed, where the strip of time has bars, at what the page of a kept capture
+opens, and what Growth draws."""
 
 import base64
 import contextlib
@@ -7,9 +8,10 @@ import re
 import zlib
 
 from checks.kit.checking import Fail, compare
-from checks.viewer.page.common import loaded, stored, view, written
+from checks.viewer.page.common import loaded, stored, texts_stored, view, written
 from checks.viewer.sessions.session import Session
 from viewer.page.axis import Span, merged
+from viewer.page.bars import ROWS, Mark, bars_of
 from viewer.page.capture import Capture
 from viewer.page.parts import LEAST_ROWS, MOST, OF_TABLE, Parts
 from viewer.page.plots import growths_of
@@ -68,6 +70,64 @@ def check_strip(folder: pathlib.Path, room: pathlib.Path, fail: Fail) -> None:
     bare = (room / "bare.html").read_text("utf-8")
     compare("hung without a side list: the unit, the last tick", (re.findall('data-unit="([^"]*)"', bare), bool(
         re.search(r'<div class="ticks"><span>frame 1</span>', bare))), (["frames"], True), fail)
+
+
+def check_bars(_: pathlib.Path, __: pathlib.Path, fail: Fail) -> None:
+    """Bars at one time stand in rows, short ones near to one another are one, and none is lost."""
+    for what, spans, due in (
+            ("bars after one another", [(0, 100), (200, 300), (310, 400)], [(0, 0, 100), (0, 200, 300), (0, 310, 400)]),
+            ("bars at one time", [(0, 100), (10, 300), (150, 200)], [(0, 0, 100), (0, 150, 200), (1, 10, 300)]),
+            ("short ones", [(0, 0), (2, 2), (4, 4), (50, 51)], [(0, 0, 7), (0, 50, 53)]),
+            ("a short one within a long one", [(0, 100), (40, 40), (42, 42)], [(0, 0, 100), (1, 40, 45)]),
+            ("at the end", [(WIDTH, WIDTH)], [(0, WIDTH - 3, WIDTH)])):
+        bars = bars_of([Mark(Span(*span), "a", None) for span in spans], 1.0, WIDTH)
+        compare(what, [(bar.row, bar.x, bar.x + bar.width) for bar in bars], due, fail)
+    marks = [Mark(Span(at, 900 - at), "one", None) for at in range(50)]
+    many = list(bars_of(marks, 1.0, WIDTH))
+    told = [int(found[1]) if (found := re.search(r"and (\d+) more", bar.label)) else 0 for bar in many]
+    compare("more than there are rows", (max(bar.row for bar in many), sum(told) + len(many)), (ROWS - 1, 50), fail)
+
+
+# Why a capture was kept, by its side list; and what its page and its bar open, by the begin of the name.
+HANG = "hang after=103 frame={} at={} pid=1794 since=579110966248 limit=500000000 name="
+KEPT = {HANG.format(41, 0): ("group", "group"), HANG.format(41, 4): (None, "process"),
+        "death after=103 pid=1792 name=service": (None, "process"), "asked after=103 name=": (None, None),
+        "hang after=103 frame=99999 at=0 name=": (None, None)}
+FIRST_TS, KEPT_TS = 579071102838, 579610966248
+
+
+def named(name: str | None) -> str | None:
+    return name.partition("-")[0] if name else None
+
+
+def check_kept(folder: pathlib.Path, room: pathlib.Path, fail: Fail) -> None:
+    """The strip has the moment at which a capture was kept, and since when there was why. The page opens at the group
+    of that record, and at nothing where there is none."""
+    capture, side = texts_stored("hung")
+    (room / "kept.cap").write_bytes(capture)
+    *lines, end = side.splitlines(keepends=True)
+    for why, due in KEPT.items():
+        (room / "kept.side").write_text("".join((*lines, f"{KEPT_TS} kept {why}\n", end)), "utf-8")
+        view(folder, room, "kept.cap", "--side", "kept.side", "-o", "kept.html")
+        page = (room / "kept.html").read_text("utf-8")
+        bar = re.search(r'<rect class="kept" x="([0-9.]+)" width="([0-9.]+)"[^>]*?(?: data-of="([^"]*)")?>', page)
+        if bar is None:
+            fail(f"{why}: its strip has no moment")
+            continue
+        scale = WIDTH / int(re.findall("data-length=(\\d+)", page)[0])
+        end_due, wide_due = scale * (KEPT_TS - FIRST_TS) / 1000, scale * 500_000 if "since" in why else 3
+        compare(f"{why}: where it is, and how wide", (abs(float(bar[1]) + float(bar[2]) - end_due) < 4,
+                                                      abs(float(bar[2]) - wide_due) < 1), (True, True), fail)
+        compare(f"{why}: lines through all lanes", page.count('<path class="moment"'), page.count('<div class="lane"'),
+                fail)
+        opens = next(iter(re.findall(' data-opens="([^"]*)"', page)), None)
+        compare(f"{why}: what it opens at, what its bar opens", (named(opens), named(bar[3])), due, fail)
+        cards = re.findall('<details class="group[^>]* id="([^"]*)"[^>]*><summary><span class="state">[^<]*<span'
+                           ' class="verdict maybe">maybe</span> ?<span class="mark kept">kept</span>', page)
+        compare(f"{why}: the card that says so", cards, [opens] if opens else [], fail)
+    view(folder, room, *stored("hung"), "-o", "not.html")
+    page = (room / "not.html").read_text("utf-8")
+    compare("what was not kept", re.findall('"moment"|"mark kept"|data-opens="|went on', page), [], fail)
 
 
 def played() -> Session:

@@ -19,4 +19,7 @@ const follow = async () => {
 for (const tab of tabs.slice(1)) tab.hidden = 'until-found';
 if (tabs.length) showTab(tabs[0]);
 addEventListener('popstate', follow);
-follow();
+follow().then(async () => {
+  // Without an address a page opens at what its capture was kept for.
+  if (!location.hash && strip?.dataset.opens) await goTo(strip.dataset.opens, 'nearest');
+});

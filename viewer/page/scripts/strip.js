@@ -79,6 +79,7 @@ const makeStrip = changed => {
     event.preventDefault();
   });
   over.addEventListener('pointermove', event => {
+    if (from === null) over.title = barAt(event.clientX, event.clientY)?.textContent ?? '';
     if (from === null || Math.abs(at(event) - from) < whole / 200) return;
     chosen = rounded([Math.min(from, at(event)), Math.max(from, at(event))]);
     show();
@@ -91,10 +92,11 @@ const makeStrip = changed => {
     else openAt(event.clientX, event.clientY);
   });
   over.addEventListener('pointercancel', () => { from = null; });
-  // A bar that is pressed opens what it is of.
+  // A bar says what it is, and opens that when it is pressed.
+  const barAt = (x, y) => document.elementsFromPoint(x, y).find(one => one.tagName === 'rect');
   const openAt = (x, y) => {
-    const bar = document.elementsFromPoint(x, y).find(one => one.dataset?.of);
-    if (!bar) return;
+    const bar = barAt(x, y);
+    if (!bar?.dataset.of) return;
     history.pushState(null, '', address.text({...address.read(), name: bar.dataset.of}));
     follow();
   };

@@ -26,7 +26,7 @@ const elementNamed = async name => {
   return document.getElementById(name);
 };
 
-const goTo = async name => {
+const goTo = async (name, block = null) => {
   for (const one of every('.named')) one.classList.remove('named');
   const element = await elementNamed(name);
   if (!element) return;
@@ -37,7 +37,7 @@ const goTo = async name => {
     return;
   }
   element.classList.add('named');
-  element.scrollIntoView({block: element.tagName === 'TR' ? 'center' : 'start'});
+  element.scrollIntoView({block: block ?? (element.tagName === 'TR' ? 'center' : 'start')});
   element.querySelector(':scope > summary')?.focus({preventScroll: true});
 };
 
