@@ -74,7 +74,7 @@ _binder_record() { # COMMAND WORD BEFORE
     --size | --files | --pid | --only | --ring) ;;
     *)
       _binder_audit_words "$2" '-o --size --files --pid --only --device --redact --no-attachments --stacks --ring
-        --check --adb --detach --fetch --no-names --collect --help --version --'
+        --check --adb --detach --fetch --view --no-names --collect --help --version --'
       ;;
   esac
 }

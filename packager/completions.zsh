@@ -105,6 +105,7 @@ case $service in
       '--adb[record on a device that adb reaches]::serial of the device:' \
       '--detach[go on without the connection]' \
       '--fetch[end and fetch a recording]' \
+      '--view[show the page of what was fetched]' \
       '--no-names[do not ask for the names of services and packages]' \
       '--collect=-[have garbage collected before the end]::names of processes:' \
       '(- *)--help[say what the options do]' \

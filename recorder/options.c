@@ -12,13 +12,14 @@
 #define LARGEST_RING (1u << 30)
 #define FEWEST_FILES 2u		/* the newest one may just have begun */
 #define MOST_FILES 65536u
+#define WRONG_WORDS 64		/* the status */
 
 static const char usage[] =
 	"record [-o OUT] [--size BYTES] [--files N] [--pid PID].. [--only PROCESS].. [--device NAME].."
 	" [--redact] [--no-attachments] [--ring BYTES] [--stacks] [--check | --version | -- PROGRAM ARGUMENT...]";
 
 static const char usage_of_adb[] =
-	"record --adb [SERIAL] [--detach | --fetch] [--no-names] [--collect[=NAME,..]] [OPTION].."
+	"record --adb [SERIAL] [--detach | --fetch] [--view] [--no-names] [--collect[=NAME,..]] [OPTION].."
 	" [-- PROGRAM ARGUMENT...]";
 
 static const char help[] =
@@ -42,19 +43,40 @@ static const char help[] =
 	"                   system is ready for it, and with which kernel, driver and devices\n"
 	"--version          writes of which commit the programs are, if it is the only word\n"
 	"\n"
-	"--adb [SERIAL]     does all this on a device that adb reaches; SERIAL can be left out if it is the only one. It\n"
-	"                   puts the recorder there, becomes root, says what the device lacks, records until PROGRAM ends\n"
-	"                   or until Ctrl-C, fetches the files to OUT, and removes them there. It comes before all other\n"
-	"                   options. docs/ANDROID.md says more\n"
+	"--adb [SERIAL]     does all this on a device that adb reaches; SERIAL can be left out if it is the only one, and\n"
+	"                   may also be given as --adb=SERIAL, by -s SERIAL, or in ANDROID_SERIAL. It puts the recorder\n"
+	"                   there, becomes root, says what the device lacks, records until PROGRAM ends or until Ctrl-C,\n"
+	"                   fetches the files to OUT, and removes them there. It comes before all other options.\n"
+	"                   docs/ANDROID.md says more\n"
 	"--detach           begins a recording that goes on without adb, by default with --files 4 --size 67108864\n"
 	"--fetch            ends it, and fetches it; or fetches what was recorded until the connection was lost\n"
+	"--view             makes the page of what was fetched, as ./view does, and opens it in the browser\n"
 	"--no-names         does not ask the device's managers for the names of services and packages; without it the page\n"
 	"                   has those of all services, also of those that registered before the recording, and shows the\n"
 	"                   packages of each process's user\n"
 	"--collect          has all apps collect their garbage 2 s before the end, or the processes of these names,\n"
 	"                   --collect=NAME,NAME: what an app keeps then is no garbage that waits for its collection\n"
 	"\n"
-	"The exit status is that of PROGRAM, or 128 and the number of its signal; 1 if no recording was made, or could be.\n";
+	"The exit status is that of PROGRAM, or 128 and the number of its signal; 1 if no recording was made, or could be;\n"
+	"64 if a word is wrong.\n";
+
+/* Says which word is wrong. */
+static void __attribute__((format(printf, 1, 2), noreturn)) refuse(const char *format, ...)
+{
+	va_list arguments;
+	va_start(arguments, format);
+	complain_with(format, arguments);
+	va_end(arguments);
+	exit(WRONG_WORDS);
+}
+
+/* A word that getopt_long does not take: of a long option that it knows, `optopt` is the letter. */
+static void __attribute__((noreturn)) refuse_option(const char *word)
+{
+	if (optopt && !strncmp(word, "--", 2))
+		refuse("%.*s takes no value", (int)strcspn(word, "="), word);
+	refuse("there is no option %s; record --help has them", word);
+}
 
 static u64 number(const char *name, const char *text, u64 least, u64 most)
 {
@@ -62,35 +84,36 @@ static u64 number(const char *name, const char *text, u64 least, u64 most)
 	errno = 0;
 	u64 value = strtoull(text, &rest, 10);
 	if (errno || !*text || *rest || text[0] == '-' || text[0] == '+' || value < least || value > most)
-		fail("%s takes a number from %llu to %llu, not %s", name, (unsigned long long)least,
-		     (unsigned long long)most, text);
+		refuse("%s takes a number from %llu to %llu, not %s", name, (unsigned long long)least,
+		       (unsigned long long)most, text);
 	return value;
 }
 
 static void add_process(struct options *options, const char *text)
 {
 	if (options->process_count == MOST_NAMED)
-		fail("at most %d processes can be named", MOST_NAMED);
+		refuse("at most %d processes can be named", MOST_NAMED);
 	options->processes[options->process_count++] = (u32)number("--pid", text, 1, 4194304);
 }
 
 static void add_called(struct options *options, const char *text)
 {
 	if (options->called_count == MOST_NAMED)
-		fail("at most %d processes can be named", MOST_NAMED);
+		refuse("at most %d processes can be named", MOST_NAMED);
 	if (!*text || strlen(text) >= CALLED_BYTES)
-		fail("--only takes a name of 1 to %u bytes, or a user id, not %s", CALLED_BYTES - 1, text);
+		refuse("--only takes a name of 1 to %u bytes, or a user id, not %s", CALLED_BYTES - 1, text);
 	options->called[options->called_count++] = text;
 }
 
 static void add_device(struct options *options, const char *text)
 {
 	if (options->device_count == MOST_NAMED)
-		fail("at most %d devices can be named", MOST_NAMED);
+		refuse("at most %d devices can be named", MOST_NAMED);
 	options->devices[options->device_count++] = text;
 }
 
-static void take(struct options *options, int letter)
+/* Takes the option of this letter, to which the word belongs. */
+static void take(struct options *options, int letter, const char *word)
 {
 	switch (letter) {
 	case 'o': options->out = optarg; break;
@@ -104,9 +127,10 @@ static void take(struct options *options, int letter)
 	case 't': options->stacks = 1; break;
 	case 'r': options->ring = number("--ring", optarg, SMALLEST_RING, LARGEST_RING); break;
 	case 'c': options->check = 1; break;
-	case 'b': fail("--adb comes first, and --detach, --fetch, --no-names and --collect after it: %s", usage_of_adb);
+	case 'b': refuse("--adb comes first, and --detach, --fetch, --view, --no-names and --collect after it: %s", usage_of_adb);
 	case 'h': printf("%s\n%s\n\n%s", usage, usage_of_adb, help); exit(0);
-	default: fail("usage: %s", usage);
+	case ':': refuse("%s takes a value; record --help says which", word);
+	default: refuse_option(word);
 	}
 }
 
@@ -122,23 +146,25 @@ void options_read(struct options *options, int count, char **words)
 		{ "stacks", no_argument, NULL, 't' }, { "check", no_argument, NULL, 'c' },
 		{ "adb", no_argument, NULL, 'b' }, { "detach", no_argument, NULL, 'b' },
 		{ "fetch", no_argument, NULL, 'b' }, { "no-names", no_argument, NULL, 'b' },
+		{ "view", no_argument, NULL, 'b' },
 		{ "collect", optional_argument, NULL, 'b' },
 		{ "help", no_argument, NULL, 'h' }, { NULL, 0, NULL, 0 },
 	};
 	*options = (struct options){ .out = "capture", .size = 268435456, .ring = 67108864 };
 	opterr = 0;
-	for (int letter; (letter = getopt_long(count, words, "+o:h", names, NULL)) != -1;)
-		take(options, letter);
+	for (int at = optind, letter; (letter = getopt_long(count, words, "+:o:h", names, NULL)) != -1; at = optind)
+		take(options, letter, words[at]);
 	if (optind < count && strcmp(words[optind - 1], "--"))
-		fail("usage: %s", usage);
+		refuse("%s: what is no option comes after --, as the program that is recorded; record --help says more",
+		       words[optind]);
 	if (optind < count)
 		options->program = words + optind;
 	if (options->check && options->program)
-		fail("--check takes no PROGRAM: nothing is recorded");
+		refuse("--check takes no PROGRAM: nothing is recorded");
 	if (options->ring & (options->ring - 1))
-		fail("--ring takes a power of two, not %llu", (unsigned long long)options->ring);
+		refuse("--ring takes a power of two, not %llu", (unsigned long long)options->ring);
 	if (options->stacks && options->redact)
-		fail("--stacks does not go with --redact: it records paths of files and addresses of code");
+		refuse("--stacks does not go with --redact: it records paths of files and addresses of code");
 	if (!*options->out || strlen(options->out) > 4000)
-		fail("-o takes the start of the files' names");
+		refuse("-o takes the start of the files' names");
 }

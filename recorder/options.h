@@ -20,6 +20,6 @@ struct options {
 	char **program;			/* NULL if there is none */
 };
 
-/* Reads the command line, or ends: with status 0 after --help, with status 1 if the command line is not valid. */
+/* Reads the command line, or ends: with status 0 after --help, or with status 64 and a line that names a wrong word. */
 void options_read(struct options *options, int count, char **words);
 #endif

@@ -335,16 +335,17 @@ static void quote(char *to, u64 room, const char *word)
 	strcpy(to, "'");
 }
 
-/* Adds the names of files whose numbers follow each other. */
+/* Adds the names of files whose numbers follow each other. None is taken for an option. */
 static u64 add_names(char *text, u64 room, u32 from, u32 to)
 {
 	static char out[4 * LONGEST_PATH];
+	const char *here = prefix[0] == '-' ? "./" : "";
 	int length;
 	quote(out, sizeof out, prefix);
 	if (from == to)
-		length = snprintf(text, room, " %s-%u.cap", out, from);
+		length = snprintf(text, room, " %s%s-%u.cap", here, out, from);
 	else
-		length = snprintf(text, room, " %s-{%u..%u}.cap", out, from, to);
+		length = snprintf(text, room, " %s%s-{%u..%u}.cap", here, out, from, to);
 	return (u64)length < room ? (u64)length : room - 1;
 }
 

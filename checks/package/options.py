@@ -9,6 +9,7 @@ What must hold for each of the six commands of the package:
 - The completions are there for it, for bash and for zsh, and offer these options and no others.
 - The page of the manual names them, its command line no others.
 - If `--version` is one of them, it says what viewer/version.sh does: all programs alike.
+- The recorder ends at a word that is wrong, with status 64 and a line that names the word.
 
 It needs no proved program: `--help` builds none. Of the recorder it builds only the file with the command line, with
 cc. It takes some two seconds.
@@ -16,6 +17,7 @@ cc. It takes some two seconds.
 
 import pathlib
 import re
+import subprocess
 
 from checks.kit.checking import Fail, check, compare
 from checks.kit.programs import PACKAGED, ROOT, linked
@@ -112,6 +114,22 @@ def check_version(program: pathlib.Path, fail: Fail) -> None:
     compare(f"{program.name} --version", output_of([program, "--version"]), due, fail)
 
 
+# ---- wrong words of the recorder
+
+WRONG = {"--bogus": "there is no option --bogus; record --help has them",
+         "-x": "there is no option -x; record --help has them",
+         "--redact -xy": "there is no option -xy; record --help has them", "--redact=1": "--redact takes no value",
+         "--pid 1 --size": "--size takes a value; record --help says which",
+         "--size 5": "--size takes a number from 65536 to 1073741824, not 5",
+         "true": "true: what is no option comes after --, as the program that is recorded; record --help says more"}
+
+
+def check_wrong_words(program: pathlib.Path, fail: Fail) -> None:
+    for words, due in WRONG.items():
+        ended = subprocess.run([program, *words.split()], capture_output=True, encoding="utf-8")
+        compare(f"{program.name} {words}", (ended.returncode, ended.stderr), (64, f"record: {due}\n"), fail)
+
+
 # ---- all of it
 
 
@@ -124,6 +142,7 @@ def check_options(room: pathlib.Path, fail: Fail) -> None:
             check_manual(page, folder, due, fail)
             if "--version" in due:
                 check_version(PACKAGED[page.name], fail)
+    check_wrong_words(folder / "binder-record", fail)
 
 
 if __name__ == "__main__":

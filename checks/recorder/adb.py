@@ -19,6 +19,9 @@ What must hold:
 - No file is fetched under a name that no recording makes, and no control character of the device comes through.
 - All that the device lacks is said, by a recording and by --check, and nothing is left there: also that it runs no
   program in the folder. So is what this system lacks of Python.
+- A word that is wrong is named, with status 64. A device is named as adb itself takes it, too.
+- A line says that a recording ends, and what is fetched, of which a terminal shows how far it is.
+- If the disk of this system is full, a line says so, with the file. With --view the page is made, and opened.
 - No device, two of them, one that does not trust this computer, one without root, with an old adbd or of another
   machine, and a server of adb of another version: a line for each.
 
@@ -53,6 +56,8 @@ PREPARED = PUTTING, "record: loading it into the kernel of one"
 READY = r"record: one: ready: kernel \S+, driver in C, devices.*"
 BEGUN = r"record: one: recording; Ctrl-C ends it, and fetches the files"
 COUNTS = r"record: \d+ frames, \d lost.*; \d files?, \d+ bytes"
+ENDING = "record: ending the recording on one"
+FETCHING = r"record: fetching \d+ files, \d+\.\d MB, from one"
 FETCHED = r"record: \d+ files, \d+ bytes fetched from one; next: \S+view {0}-1\.cap --side {0}\S*\.side.*"
 KEPT = r"; what was recorded stays in \S+/binder-record of one; to fetch it: \S+record --adb one --fetch -o {0}"
 NONE = r"record: one has no recording in \S+/binder-record"
@@ -71,6 +76,11 @@ COMMANDS = {
             ' exec /usr/bin/stat "$@"; fi',
     "su": "exit 1",
 }
+
+
+def fetches(name: str) -> tuple[str, str]:
+    """What is said of files that are fetched."""
+    return FETCHING, FETCHED.format(name)
 
 
 class Device:
@@ -131,8 +141,8 @@ class Device:
     def folder(self) -> pathlib.Path:
         return self.room / "device/binder-record"
 
-    def start(self, *words: str, **variables: str) -> subprocess.Popen[str]:
-        return subprocess.Popen([self.room / "record", "--adb", *words], cwd=self.room / "out", encoding="utf-8",
+    def start(self, *words: str, by: str = "--adb", **variables: str) -> subprocess.Popen[str]:
+        return subprocess.Popen([self.room / "record", by, *words], cwd=self.room / "out", encoding="utf-8",
                                 env={**self.environment, **variables}, stdin=subprocess.DEVNULL, stdout=subprocess.PIPE,
                                 stderr=subprocess.STDOUT)
 
@@ -191,16 +201,93 @@ class Device:
 def check_sessions(device: Device) -> None:
     device.what = "with PROGRAM"
     device.says(["-o", "some", "--", "sh", "-c", r"echo 'a  word'; printf '\033[31mred\007\n' >&2; exit 7"], 7,
-                *PREPARED, READY, r"\\x1b\[31mred\\x07", COUNTS, FETCHED.format("some"), said="a  word")
+                *PREPARED, READY, r"\\x1b\[31mred\\x07", COUNTS, *fetches("some"), said="a  word")
     device.fetched("some")
     device.what = "SIGINT"
     program = device.start("one", "-o", "until")
     device.wait_until_recording()
     program.send_signal(signal.SIGINT)
-    device.ends(program, 0, *PREPARED, READY, BEGUN, COUNTS, FETCHED.format("until"))
+    device.ends(program, 0, *PREPARED, READY, BEGUN, ENDING, COUNTS, *fetches("until"))
     device.fetched("until")
     device.what = "--check"
     device.says(["--check"], 0, *PREPARED, READY)
+
+
+def check_words(device: Device) -> None:
+    """Each wrong word is named, and nothing is recorded."""
+    device.what = "wrong words"
+    begun = "the recording has begun with its options"
+    device.says(["--bogus"], 64, *PREPARED, "record: there is no option --bogus; record --help has them",
+                "record: nothing was recorded on one")
+    for words, said in ((["one", "-s", "two"], "two devices are named: one and two"),
+                        (["-o", ""], "-o takes the start of the files' names"),
+                        (["-s", ""], "-s takes the serial of a device"),
+                        (["--fetch", "--redact"], f"--fetch takes no --redact: {begun}"),
+                        (["--fetch", "--", "true"], f"--fetch takes no --: {begun}"),
+                        (["--help"], "record --help has the options of --adb, too"),
+                        (["--detach", "--view"], "--view shows what is fetched, and --detach fetches nothing")):
+        device.says(words, 64, f"record: {said}")
+    device.left_nothing()
+
+
+def check_named(device: Device) -> None:
+    """A device is named in several ways, and each is one of two."""
+    with device.with_file("devices", "two\tdevice\none\tdevice\n"):
+        for by, words, serial in (("--adb", ["one"], ""), ("--adb", ["-s", "one"], ""), ("--adb", ["-sone"], "two"),
+                                  ("--adb=one", [], ""), ("--adb", [], "one"), ("--adb", ["one"], "two")):
+            device.what = f"a device that is named: {by} {words} {serial}"
+            device.ends(device.start(*words, "--check", by=by, ANDROID_SERIAL=serial), 0, *PREPARED, READY)
+
+
+def check_bar(device: Device) -> None:
+    """On a terminal a bar shows how far the fetch is, and nothing of it stays in the line."""
+    device.what = "a terminal"
+    ours, terminal = os.openpty()
+    words = [device.room / "record", "--adb", "-o", "barred", "--", "true"]
+    with subprocess.Popen(words, cwd=device.room / "out", env=device.environment, stdin=subprocess.DEVNULL,
+                          stdout=terminal, stderr=terminal) as program:
+        os.close(terminal)
+        came = b""
+        with contextlib.suppress(OSError):  # the terminal is closed
+            while piece := os.read(ours, 65536):
+                came += piece
+        os.close(ours)
+    if program.returncode or not re.search(rb"\nrecord: fetching \d+ files.*\r\n.*\rrecord: \[[#.]{30}\] +\d+%,"
+                                           rb" \d+\.\d of \d+\.\d MB, \d+\.\d MB/s\x1b\[K\r\x1b\[Krecord: \d+ files",
+                                           came):
+        device.report(f"{device.what}: status {program.returncode}, came {came!r}")
+    device.fetched("barred")
+
+
+VIEWER = """#!/bin/sh
+echo "$@" >view.words
+case $1 in *spoiled*) exit 3 ;; esac
+echo page >"$1.html"
+"""
+
+
+def check_view(device: Device) -> None:
+    """The page is made of what was fetched, and opened in the browser. The status is that of the recording; or of the
+    viewer, if it made no page."""
+    shown = [*PREPARED, READY, COUNTS, FETCHING, r"record: \d+ files, \d+ bytes fetched from one"]
+    with device.with_file("view", VIEWER, 0o755):
+        for name, status, browser, said in (
+                ("viewed", 7, f"{device.room}/browser %s", [r"record: the page is \S+/out/viewed-1\.cap\.html"]),
+                ("unopened", 7, "", [r"record: the page is \S+/out/unopened-1\.cap\.html; no browser was opened"]),
+                ("-spoiled", 3, "", [])):
+            device.what = f"--view, {name}"
+            opened = device.room / "opened"
+            with device.with_file("browser", f'#!/bin/sh\necho "$1" >{opened}.new\nmv {opened}.new {opened}\n', 0o755):
+                device.says(["--view", "-o", name, "--", "sh", "-c", "exit 7"], status, *shown, *said, DISPLAY="",
+                            WAYLAND_DISPLAY="", BROWSER=browser)
+                if browser:
+                    device.wait_until("the browser", opened.exists)
+            words = (device.room / "out/view.words").read_text("utf-8")
+            here = name if name[0] != "-" else f"./{name}"
+            if words != f"{here}-1.cap --side {here}.side\n":
+                device.report(f"{device.what}: the viewer was called with {words}")
+    if opened.read_text("utf-8") != f"file://{device.room}/out/viewed-1.cap.html\n":
+        device.report(f"{device.what}: opened {opened.read_text('utf-8')}")
 
 
 def check_detached(device: Device) -> None:
@@ -211,7 +298,7 @@ def check_detached(device: Device) -> None:
     device.says(["-o", "more"], 1, rf"record: one records already, into \S+/binder-record{WHOSE}; to end that, and"
                 r" fetch it: \S+ --adb one --fetch -o more")
     device.what = "--fetch"
-    device.says(["--fetch", "-o", "later"], 0, COUNTS, FETCHED.format("later"))
+    device.says(["--fetch", "-o", "later"], 0, ENDING, COUNTS, *fetches("later"))
     device.fetched("later")
     device.says(["--fetch", "-o", "again"], 1, NONE)
 
@@ -223,7 +310,7 @@ def check_packages(device: Device) -> None:
     with device.with_command("pm", f'[ "$*" = "list packages -U" ] && printf "a line\n{package}"'):
         for words, due in asked:
             device.what = f"packages, {words}"
-            device.says([*words, "--", "sleep", "1"], 0, *PREPARED, READY, COUNTS, FETCHED.format(words[1]))
+            device.says([*words, "--", "sleep", "1"], 0, *PREPARED, READY, COUNTS, *fetches(words[1]))
             device.fetched(words[1])
             path = device.room / f"out/{words[1]}.packages"
             came = path.read_text("utf-8") if path.exists() else None
@@ -232,7 +319,7 @@ def check_packages(device: Device) -> None:
     device.what = "packages that do not come"
     with device.with_command("pm", "exec sleep 30"):
         began = time.monotonic()
-        device.says(["-o", "waiting", "--", "true"], 0, *PREPARED, READY, COUNTS, FETCHED.format("waiting"))
+        device.says(["-o", "waiting", "--", "true"], 0, *PREPARED, READY, COUNTS, *fetches("waiting"))
         if time.monotonic() - began > 20:
             device.report(f"{device.what}: the recording waited for them")
     device.fetched("waiting")
@@ -292,24 +379,24 @@ def check_garbage(device: Device) -> None:
         program = device.start("--collect", "-o", "all-collect")
         device.wait_until_recording()
         program.send_signal(signal.SIGINT)
-        device.ends(program, 0, *PREPARED, READY, BEGUN, collected(r"\d+"), COUNTS, FETCHED.format("all-collect"))
+        device.ends(program, 0, *PREPARED, READY, BEGUN, ENDING, collected(r"\d+"), COUNTS, *fetches("all-collect"))
         signals(1)
         for name, words, count in (("named", f"com.example.none,{app}", 1), ("none", app[1:], 0), ("other", other, 0)):
             device.what = f"garbage of {words}"
             began = time.monotonic()
             device.says([f"--collect={words}", "-o", f"{name}-collects", "--", "sh", "-c", "echo a  word; exit 7"], 7,
-                        *PREPARED, READY, collected(str(count)), COUNTS, FETCHED.format(f"{name}-collects"),
+                        *PREPARED, READY, collected(str(count)), COUNTS, *fetches(f"{name}-collects"),
                         said="a word")
             signals(2)
             if time.monotonic() - began < 2:
                 device.report(f"{device.what}: the recording did not go on for 2 s")
         device.what = "garbage when it is fetched"
         device.says(["--detach", f"--collect={app}", "-o", "collects"], 0, *PREPARED, READY, r"record: one records, .*")
-        device.says(["--fetch", "-o", "collects"], 0, collected("1"), COUNTS, FETCHED.format("collects"))
+        device.says(["--fetch", "-o", "collects"], 0, ENDING, collected("1"), COUNTS, *fetches("collects"))
         signals(3)
     device.what = "words for garbage"
     for words in ("--collect=,", "--collect=a b", "--collect=a,,b"):
-        device.says([words], 1, "record: --collect takes nothing, or names of processes:"
+        device.says([words], 64, "record: --collect takes nothing, or names of processes:"
                     " --collect=com.example.one,com.example.two")
 
 
@@ -324,7 +411,7 @@ def check_two(device: Device) -> None:
         device.wait_until_prepared()
         for words in ["-o", "second"], ["--check"], ["--fetch", "-o", "second"]:
             device.says(words, 1, PREPARES)
-    device.ends(first, 0, *PREPARED, READY, COUNTS, FETCHED.format("first"))
+    device.ends(first, 0, *PREPARED, READY, COUNTS, *fetches("first"))
     device.fetched("first")
 
 
@@ -353,21 +440,21 @@ def check_left(device: Device) -> None:
 def check_restarted(device: Device) -> None:
     """What was recorded before the device was started anew stays there until it is fetched."""
     device.what = "a device that was started anew"
-    device.says(["-o", "before", "--", "true"], 0, *PREPARED, READY, COUNTS, FETCHED.format("before"))
+    device.says(["-o", "before", "--", "true"], 0, *PREPARED, READY, COUNTS, *fetches("before"))
     device.folder().mkdir(mode=0o700)
     for path in (device.room / "out").glob("before[-.]*"):
         path.rename(device.folder() / f"capture{path.name.removeprefix('before')}")
     device.leave_folder()
     device.says(["-o", "more"], 1, r"record: one has a recording in \S+/binder-record already; to fetch it:"
                 r" \S+ --adb one --fetch -o more")
-    device.says(["--fetch", "-o", "restarted"], 1, FETCHED.format("restarted"))
+    device.says(["--fetch", "-o", "restarted"], 1, *fetches("restarted"))
     device.fetched("restarted")
 
 
 def check_power(device: Device) -> None:
     """What a device had recorded when it lost its power may end in zeros, which are left out."""
     device.what = "a device that lost its power"
-    device.says(["-o", "powered", "--", "true"], 0, *PREPARED, READY, COUNTS, FETCHED.format("powered"))
+    device.says(["-o", "powered", "--", "true"], 0, *PREPARED, READY, COUNTS, *fetches("powered"))
     device.folder().mkdir(mode=0o700)
     whole = {path.name.removeprefix("powered"): path.read_bytes()
              for path in (device.room / "out").glob("powered[-.]*")}
@@ -377,7 +464,7 @@ def check_power(device: Device) -> None:
     device.leave_folder()
     ends = (r"record: lost-power{} ends in 8,\d\d\d zero bytes, as a file may after a loss of power: of its"
             r" [\d,]+ bytes the last 8,\d\d\d are left out")
-    device.says(["--fetch", "-o", "lost-power"], 1, ends.format(r"-1\.cap"), ends.format(r"\.side"),
+    device.says(["--fetch", "-o", "lost-power"], 1, FETCHING, ends.format(r"-1\.cap"), ends.format(r"\.side"),
                 FETCHED.format("lost-power"))
     device.fetched("lost-power")
     for ending, data in whole.items():
@@ -394,8 +481,8 @@ def check_quoted(device: Device) -> None:
     """Each word of a command that is told is one word for a shell, whatever it has, also for the one of the device."""
     for out, due in WORDS.items():
         device.what = f"files called {out!r}"
-        device.says([f"-o{out}", "--", "true"], 0, *PREPARED, READY, COUNTS, r"record: \d+ files, \d+ bytes fetched"
-                    rf" from one; next: \S+view {due.format('-1.cap')} --side {due.format('.side')}")
+        device.says([f"-o{out}", "--", "true"], 0, *PREPARED, READY, COUNTS, FETCHING, r"record: \d+ files, \d+ bytes"
+                    rf" fetched from one; next: \S+view {due.format('-1.cap')} --side {due.format('.side')}")
     device.what = "a serial that is more than a word"
     with device.with_file("devices", "a;b\tdevice\ntwo\tdevice\n"):
         device.says([], 1, "record: adb has 2 devices: a;b, two; name one: --adb 'a;b'")
@@ -422,9 +509,9 @@ def check_fetched_twice(device: Device) -> None:
     with device.held("sha256sum"):
         first = device.start("-o", "never", HELD="1")
         device.wait_until_recording()
-        device.says(["--fetch", "-o", "taken"], 0, COUNTS, FETCHED.format("taken"))
+        device.says(["--fetch", "-o", "taken"], 0, ENDING, COUNTS, *fetches("taken"))
         device.fetched("taken")
-    device.ends(first, 1, *PREPARED, READY, BEGUN, COUNTS, GONE)
+    device.ends(first, 1, *PREPARED, READY, BEGUN, COUNTS, FETCHING, GONE)
 
 
 # ---- what fails
@@ -467,14 +554,48 @@ def check_lost(device: Device) -> None:
                     r" what was recorded there: \S+record --adb one --fetch -o lost")
     device.what = "bytes come wrong"
     with device.with_file("wrong", ""):
-        device.says(["--fetch", "-o", "lost"], 1, COUNTS, r"record: capture\S+ of one did not come as it is there"
-                    + KEPT.format("lost"))
+        device.says(["--fetch", "-o", "lost"], 1, COUNTS, FETCHING, r"record: capture\S+ of one did not come as it"
+                    " is there" + KEPT.format("lost"))
     device.what = "a file is in the way"
     with device.with_file("out/lost.side", ""):
         device.says(["--fetch", "-o", "lost"], 1, "record: lost.side exists already, and is not overwritten")
     device.what = "after all that"
-    device.says(["--fetch", "-o", "lost"], 0, COUNTS, FETCHED.format("lost"))
+    device.says(["--fetch", "-o", "lost"], 0, COUNTS, *fetches("lost"))
     device.fetched("lost")
+
+
+# A system whose disk is full as soon as a file is to be on it.
+FULL = """import errno, os
+def full(_):
+    raise OSError(errno.ENOSPC, os.strerror(errno.ENOSPC))
+os.fsync = full
+"""
+
+
+def check_full(device: Device) -> None:
+    device.what = "the disk of this system is full"
+    (device.room / "full").mkdir()
+    with device.with_file("full/sitecustomize.py", FULL):
+        device.says(["-o", "full", "--", "true"], 1, *PREPARED, READY, COUNTS, FETCHING, r"record: full-1\.cap\.part"
+                    r" can't be written here: the disk of this system is full" + KEPT.format("full"),
+                    PYTHONPATH=str(device.room / "full"))
+    if left := list((device.room / "out").glob("full*")):
+        device.report(f"{device.what}: {left} are left")
+    device.says(["--fetch", "-o", "full"], 0, COUNTS, *fetches("full"))
+    device.fetched("full")
+
+
+def check_ownerless(device: Device) -> None:
+    """What a recorder of long ago left has no owner, no script and no messages. It is fetched without the shell's
+    words."""
+    device.what = "a folder without an owner"
+    device.folder().mkdir(mode=0o700)
+    for name, text in {"capture-1.cap": "", "capture.side": "", "state": "0\n", "record": ""}.items():
+        (device.folder() / name).write_text(text, "ascii")
+    device.says(["-o", "more"], 1, r"record: one has a recording in \S+/binder-record already; to fetch it:"
+                r" \S+ --adb one --fetch -o more")
+    device.says(["--fetch", "-o", "ownerless"], 0, *fetches("ownerless"))
+    device.left_nothing()
 
 
 def check_gone(device: Device) -> None:
@@ -501,8 +622,8 @@ def check_lost_early(device: Device) -> None:
     device.left_nothing()
     device.what = "the connection is lost at the end"
     with device.with_file("cut", "cd / && rm -rf"):
-        device.says(["-o", "whole", "--", "true"], 0, *PREPARED, READY, COUNTS, lost + r"\S+/binder-record may still be"
-                    r" there, with what was fetched; to remove it: adb -s one shell rm -r \S+/binder-record",
+        device.says(["-o", "whole", "--", "true"], 0, *PREPARED, READY, COUNTS, FETCHING, lost + r"\S+/binder-record"
+                    r" may still be there, with what was fetched; to remove it: adb -s one shell rm -r \S+/binder-record",
                     FETCHED.format("whole"))
     shutil.rmtree(device.folder())
 
@@ -526,7 +647,7 @@ def check_strange(device: Device) -> None:
         device.says(["-o", "strange/", "--", "touch", "capture-mine", "mine"], 0, *PREPARED, READY, COUNTS,
                     r"record: one has files that no recording makes, and they are not fetched: '\.\./capture-1\.cap',"
                     r" 'capture\\x1b\[31m', 'capture-1\.capx', 'capture-mine', 'capture-x\.side' and 3 more",
-                    FETCHED.format("strange/"))
+                    *fetches("strange/"))
     device.fetched("strange/")
     if (device.room / "stranger").exists():
         device.report(f"{device.what}: a file was made outside of the folder")
@@ -563,9 +684,10 @@ def check_server(device: Device) -> None:
 
 def judge(_: argparse.Namespace, room: pathlib.Path, fail: Fail) -> None:
     device = Device(room, fail)
-    for part in (check_sessions, check_detached, check_packages, check_garbage, check_two, check_left, check_restarted,
-                 check_power, check_quoted, check_interrupted, check_fetched_twice, check_lacking, check_lacking_here,
-                 check_lost, check_gone, check_lost_early, check_strange, check_devices, check_server):
+    for part in (check_sessions, check_words, check_named, check_bar, check_view, check_detached, check_packages,
+                 check_garbage, check_two, check_left, check_restarted, check_power, check_quoted, check_interrupted,
+                 check_fetched_twice, check_lacking, check_lacking_here, check_lost, check_full, check_ownerless,
+                 check_gone, check_lost_early, check_strange, check_devices, check_server):
         part(device)
 
 

@@ -95,6 +95,10 @@ done
 "$here/build.sh" flight "$room" -Wl,--wrap=open,--wrap=clock_gettime
 ends='pid,end state,end transactions,end stats,recording'
 "$room/flight" -o "$room/whole" 2>/dev/null
+told=$(cd -- "$room" && ./flight -o -dash 2>&1)
+if [[ $told != *'next: ./audit report ./-dash-1.cap' ]]; then
+  printf 'checks/loader: of files whose names begin with a dash: %s\n' "$told" && failed=1
+fi
 tells "$room/whole" "begin state,begin transactions,begin stats,$ends" "$room/whole.side"
 ends_at_once "$room/whole.side"
 sleeps '1000 1000,1000 1000' "$room/whole.side"

@@ -1,12 +1,14 @@
 """Fetches the files of a recording from a device: each whole, and compared before the device removes any."""
 
 import contextlib
+import errno
 import hashlib
 import os
 import re
 import subprocess
 from typing import Iterator, NamedTuple
 
+from bar import Bar
 from connection import Stopped
 from folder import Folder
 from viewer import zeros
@@ -22,7 +24,6 @@ SIZE, SUM = re.compile(r"([0-9]{1,18}) (.*)", re.DOTALL), re.compile(r"([0-9a-f]
 class File(NamedTuple):
     name: str
     size: int
-    digest: str
 
 
 class Listed(NamedTuple):
@@ -38,15 +39,26 @@ def is_made(name: str) -> bool:
     return name.startswith(BEGIN) and ENDING.fullmatch(name, len(BEGIN)) is not None
 
 
+def unreadable(folder: Folder, said: str) -> Stopped:
+    return Stopped(f"the files in {folder.path} of {folder.serial} can't be read: {said}")
+
+
 def listed(folder: Folder) -> Listed:
-    answer = folder.ask(f"stat -c '%s %n' {BEGIN}*; sha256sum {BEGIN}*")
-    lines = answer.text.split("\n")
-    sizes = {found[2]: int(found[1]) for line in lines if (found := SIZE.fullmatch(line))}
-    sums = {found[2]: found[1] for line in lines if (found := SUM.fullmatch(line))}
+    answer = folder.ask(f"stat -c '%s %n' {BEGIN}*")
+    sizes = {found[2]: int(found[1]) for line in answer.text.split("\n") if (found := SIZE.fullmatch(line))}
     names = sorted(filter(is_made, sizes))
-    if not names or not sums.keys() >= set(names):
-        raise Stopped(f"the files in {folder.path} of {folder.serial} can't be read: {answer.said}")
-    return Listed([File(name, sizes[name], sums[name]) for name in names], sorted(sizes.keys() - set(names)))
+    if not names:
+        raise unreadable(folder, answer.said)
+    return Listed([File(name, sizes[name]) for name in names], sorted(sizes.keys() - set(names)))
+
+
+def digests(folder: Folder, files: list[File]) -> dict[str, str]:
+    """The sums of the files' bytes, as the device has them."""
+    answer = folder.ask(f"sha256sum {BEGIN}*")
+    sums = {found[2]: found[1] for line in answer.text.split("\n") if (found := SUM.fullmatch(line))}
+    if not sums.keys() >= {file.name for file in files}:
+        raise unreadable(folder, answer.said)
+    return sums
 
 
 def path_of(out: str, name: str) -> str:
@@ -58,7 +70,7 @@ def for_owner(path: str, flags: int) -> int:
     return os.open(path, flags | os.O_CLOEXEC, 0o600)
 
 
-def copied(folder: Folder, file: File, path: str) -> tuple[int, str]:
+def copied(folder: Folder, file: File, path: str, bar: Bar) -> tuple[int, str]:
     """Writes the bytes that come, and at most a piece more than there are. Returns how many there were, and their
     digest."""
     count, digest = 0, hashlib.sha256()
@@ -70,13 +82,19 @@ def copied(folder: Folder, file: File, path: str) -> tuple[int, str]:
             to.write(piece)
             digest.update(piece)
             count += len(piece)
+            bar.add(len(piece))
         to.flush()
         os.fsync(to.fileno())
     return count, digest.hexdigest()
 
 
-def fetch_one(folder: Folder, file: File, path: str) -> None:
-    if copied(folder, file, path) != (file.size, file.digest):
+def fetch_one(folder: Folder, file: File, path: str, digest: str, bar: Bar) -> None:
+    try:
+        came = copied(folder, file, path, bar)
+    except OSError as error:  # a write does not say of which file it is
+        why = "the disk of this system is full" if error.errno in (errno.ENOSPC, errno.EDQUOT) else error.strerror
+        raise Stopped(f"{path} can't be written here: {why}") from error
+    if came != (file.size, digest):
         folder.ask(":")  # if the connection is lost, that is why
         raise Stopped(f"{file.name} of {folder.serial} did not come as it is there")
 
@@ -113,9 +131,10 @@ def fetch(folder: Folder, files: list[File], out: str) -> list[str]:
     paths = [path_of(out, file.name) for file in files]
     parts = [f"{path}.part" for path in paths]
     refuse(paths + parts)
-    with removed_at_failure(parts):
+    with Bar(sum(file.size for file in files)) as bar, removed_at_failure(parts):
+        sums = digests(folder, files)
         for file, part in zip(files, parts):
-            fetch_one(folder, file, part)
+            fetch_one(folder, file, part, sums[file.name], bar)
         for path, part in zip(paths, parts):
             os.rename(part, path)
     return paths

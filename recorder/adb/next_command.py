@@ -3,7 +3,7 @@
 import os
 import re
 
-from viewer.files import quoted, word_of
+from viewer.files import quoted
 
 MOST_TOGETHER = 1_073_741_824  # the most bytes that the auditor takes as one capture,
 MOST_FILES = 256  # and the most files
@@ -31,12 +31,16 @@ def view_beside(record: str) -> str:
     return re.sub(r"record\Z", "view", record)
 
 
-def view_command(record: str, paths: list[str]) -> str:
+def view_words(paths: list[str]) -> list[str]:
+    """The newest captures, and their side lists. Names that begin with a dash are not taken for options."""
     captures, sides = numbered(paths, "cap"), numbered(paths, "side")
     chosen = together(captures)
     whole = [path for path in paths if path.endswith(".side") and path not in sides.values()]
-    lists = whole or [sides[number] for number in chosen if number in sides]
-    words = [quoted(view_beside(record)), *(word_of(captures[number]) for number in chosen)]
-    for side in lists:
-        words += ["--side", word_of(side)]
-    return " ".join(words)
+    words = [captures[number] for number in chosen]
+    for side in whole or [sides[number] for number in chosen if number in sides]:
+        words += ["--side", side]
+    return [f"./{word}" if word in paths and word.startswith("-") else word for word in words]
+
+
+def view_command(record: str, paths: list[str]) -> str:
+    return " ".join(map(quoted, [view_beside(record), *view_words(paths)]))

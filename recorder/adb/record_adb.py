@@ -24,7 +24,8 @@ import words
 from connection import Connection, Lost, Nothing, Stopped, command_line, need_adb, on_device, the_device
 from folder import OLDEST, Folder, Found, Gone
 from next_command import view_command
-from told import pass_on, tell, tell_all
+from show import show
+from told import pass_on, progress, tell, tell_all, write
 
 LEAST_SPACE = 1 << 20  # bytes; with less, a recording begins nowhere
 MOST_NAMED = 5  # the most names of files in a line
@@ -94,10 +95,14 @@ def take(command: Command) -> Command:
     raise Stopped(f"{command.folder.path} can't be made on {command.serial}: {said}")
 
 
+def put_script(command: Command) -> None:
+    command.folder.put("on_device.sh", (device.HERE / "on_device.sh").read_bytes())
+
+
 def put(command: Command, program: bytes) -> None:
     tell(f"putting the recorder ({len(program) / 1e6:.1f} MB) on {command.serial}")
     command.folder.put("record", program)
-    command.folder.put("on_device.sh", (device.HERE / "on_device.sh").read_bytes())
+    put_script(command)
     command.folder.need_execution()
     tell(f"loading it into the kernel of {command.serial}")
 
@@ -136,11 +141,17 @@ def check(command: Command) -> None:
 # ---- recording while the connection holds
 
 
-class Signals:
-    """While it is entered, SIGINT and SIGTERM are passed on to the recorder, as lines; after three it is given up."""
+def tell_ending(serial: str) -> None:
+    """What is on its way is waited for, and the driver's books are copied: that takes some seconds on a busy device."""
+    write(progress(""))
+    tell(f"ending the recording on {serial}")
 
-    def __init__(self, program: subprocess.Popen[bytes]):
-        self.program, self.count = program, 0
+
+class Signals:
+    """Until its end, SIGINT and SIGTERM are passed on to the recorder, as lines; after three it is given up."""
+
+    def __init__(self, program: subprocess.Popen[bytes], serial: str):
+        self.program, self.serial, self.count = program, serial, 0
         self.before = {number: signal.signal(number, self.pass_on) for number in (signal.SIGINT, signal.SIGTERM)}
 
     def pass_on(self, number: int, _: FrameType | None) -> None:
@@ -148,6 +159,8 @@ class Signals:
         if self.count > 2:
             self.program.kill()
             return
+        if self.count == 1:
+            tell_ending(self.serial)
         try:
             assert self.program.stdin
             self.program.stdin.write(b"\n")
@@ -165,7 +178,7 @@ def record(command: Command) -> None:
     with subprocess.Popen(command.folder.words(command.on_device("record")), stdin=subprocess.PIPE,
                           stderr=subprocess.PIPE, start_new_session=True) as program:
         assert program.stderr
-        signals = Signals(program)
+        signals = Signals(program, command.serial)
         reader = threading.Thread(target=pass_on, args=(program.stderr.fileno(), command.serial))
         reader.start()
         program.wait()
@@ -206,18 +219,23 @@ def finish(command: Command) -> int:
     status = status_of(command)
     if not folder.has_recording():
         folder.remove()
-        raise Nothing(f"nothing was recorded on {command.serial}")
+        raise Nothing(f"nothing was recorded on {command.serial}", status or 1)
     if (space := folder.space()) is not None and space < LEAST_SPACE:
         tell(f"{command.serial} is full, with {space} bytes free in {folder.path}: the recording ends early")
     files, others = fetch.listed(folder)
     tell_others(command, others)
+    tell(f"fetching {len(files)} files, {sum(file.size for file in files) / 1e6:.1f} MB, from {command.serial}")
     paths = fetch.fetch(folder, files, command.words.out)
     for path in paths:
         if said := fetch.cut_zeros(path):
             tell(said)
     remove_fetched(command)
     size = sum(os.path.getsize(path) for path in paths)
-    tell(f"{len(paths)} files, {size} bytes fetched from {command.serial}; next: {view_command(command.record, paths)}")
+    fetched = f"{len(paths)} files, {size} bytes fetched from {command.serial}"
+    if command.words.view:
+        tell(fetched)
+        return show(command.record, paths) or status
+    tell(f"{fetched}; next: {view_command(command.record, paths)}")
     return status
 
 
@@ -231,8 +249,9 @@ def do(command: Command, what: str) -> None:
 def begin_detached(command: Command) -> int:
     do(command, "detach")
     if not command.folder.is_recording():
+        status = status_of(command)
         command.folder.remove()
-        raise Nothing(f"nothing is recorded on {command.serial}")
+        raise Nothing(f"nothing is recorded on {command.serial}", status or 1)
     tell(f"{command.serial} records, also without the connection; to end that, and fetch it: {command.to_fetch}")
     return 0
 
@@ -247,6 +266,10 @@ def fetch_recording(command: Command) -> int:
         raise Nothing(f"{command.serial} has no recording in {command.folder.path}")
     command = command._replace(folder=found.folder)
     with keeping(command):
+        if command.folder.is_recording():
+            tell_ending(command.serial)
+        if command.folder.ask("[ -e on_device.sh ]").status:  # a recorder of long ago had none
+            put_script(command)
         do(command, "end")
         return finish(command)
 

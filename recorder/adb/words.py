@@ -8,8 +8,15 @@ from typing import NamedTuple
 from connection import Stopped
 from fetch import ENDING, refuse
 
-USAGE = ("usage: record --adb [SERIAL] [--detach | --fetch] [--no-names] [--collect[=NAME,..]] [OPTION].."
-         " [-- PROGRAM ARGUMENT..]; record --help has the options")
+WRONG_WORDS = 64  # the status
+OWN = ("--detach", "--fetch", "--check", "--no-names", "--view")  # what the recorder on the device is not given
+
+
+class Wrong(Stopped):
+    """Ends the command with a line that names a wrong word."""
+
+    def __init__(self, line: str):
+        super().__init__(line, WRONG_WORDS)
 
 
 class Words(NamedTuple):
@@ -18,6 +25,7 @@ class Words(NamedTuple):
     detach: bool
     fetch: bool
     check: bool
+    view: bool
     names: bool
     collect: str  # whose garbage is collected before the end: names with commas between, `apps`, or nobody's
     options: list[str]  # for the recorder on the device, with the program
@@ -36,21 +44,38 @@ def split_program(words: list[str]) -> tuple[list[str], list[str]]:
     return words[:at], words[at:]
 
 
-def take_out(options: list[str]) -> tuple[str, list[str]]:
-    """What -o says, which is a name on this system, and the other options."""
-    out, others, rest = "capture", [], iter(options)
+class Named(NamedTuple):
+    """What names a device and the files here, and the other options."""
+
+    serial: str | None
+    out: str
+    others: list[str]
+
+
+VALUED = (("-s", "", "the serial of a device"), ("-o", "--out", "the start of the files' names"))
+
+
+def take_names(options: list[str]) -> Named:
+    """Takes -s and -o out, whose values may begin with a dash. Of several the last one counts."""
+    values: dict[str, str] = {}
+    others, rest = [], iter(options)
     for word in rest:
-        if word in ("-o", "--out"):
-            out = next(rest, "")
-        elif word.startswith("--out="):
-            out = word.removeprefix("--out=")
-        elif word.startswith("-o"):
-            out = word.removeprefix("-o")
+        for short, long, _ in VALUED:
+            if word in (short, long):
+                values[short] = next(rest, "")
+            elif long and word.startswith(f"{long}="):
+                values[short] = word.removeprefix(f"{long}=")
+            elif word.startswith(short):
+                values[short] = word.removeprefix(short)
+            else:
+                continue
+            break
         else:
             others.append(word)
-    if not out:
-        raise Stopped("-o takes the start of the files' names")
-    return out, others
+    for short, _, what in VALUED:
+        if values.get(short) == "":
+            raise Wrong(f"{short} takes {what}")
+    return Named(values.get("-s"), values.get("-o", "capture"), others)
 
 
 def take_collect(options: list[str]) -> tuple[str, list[str]]:
@@ -58,7 +83,7 @@ def take_collect(options: list[str]) -> tuple[str, list[str]]:
     asked = [word for word in options if word == "--collect" or word.startswith("--collect=")]
     names = [word.removeprefix("--collect").removeprefix("=") or "apps" for word in asked]
     if len(asked) > 1 or not all(re.fullmatch(r"[\w.:-]+(,[\w.:-]+)*", name, re.ASCII) for name in names):
-        raise Stopped("--collect takes nothing, or names of processes: --collect=com.example.one,com.example.two")
+        raise Wrong("--collect takes nothing, or names of processes: --collect=com.example.one,com.example.two")
     return "".join(names), [word for word in options if word not in asked]
 
 
@@ -69,18 +94,32 @@ def kept_few(options: list[str]) -> list[str]:
     return [*(word for name in lacking for word in (name, own[name])), *options]
 
 
-def read(words: list[str]) -> Words:
-    serial = words.pop(0) if words and not words[0].startswith("-") else None
-    options, program = split_program(words)
-    own = {word for word in options if word in ("--detach", "--fetch", "--check", "--no-names")}
-    out, others = take_out([word for word in options if word not in own])
-    collect, others = take_collect(others)
-    if "--fetch" in own and (others or program or collect or len(own) > 1) or "--help" in others:
-        raise Stopped(USAGE)
+def refuse_beside(own: set[str], others: list[str]) -> None:
+    """What is ended and fetched has its options already."""
+    wrong = [*sorted(own - {"--fetch", "--view"}), *others]
+    if wrong:
+        raise Wrong(f"--fetch takes no {wrong[0]}: the recording has begun with its options")
+
+
+def read(given: list[str]) -> Words:
+    first = [given.pop(0)] if given and not given[0].startswith("-") else []
+    options, program = split_program(given)
+    serial, out, options = take_names(options)
+    named = list(dict.fromkeys([*first, *([serial] if serial else [])]))
+    if len(named) > 1:
+        raise Wrong(f"two devices are named: {' and '.join(named)}")
+    if "--help" in options:
+        raise Wrong("record --help has the options of --adb, too")
+    own = {word for word in options if word in OWN}
+    collect, others = take_collect([word for word in options if word not in own])
+    if "--fetch" in own:
+        refuse_beside(own, [*others, *program, *(["--collect"] if collect else [])])
+    if "--view" in own and own & {"--detach", "--check"}:
+        raise Wrong(f"--view shows what is fetched, and {min(own & {'--detach', '--check'})} fetches nothing")
     if "--detach" in own:
         others = kept_few(others)
-    return Words(serial, out, "--detach" in own, "--fetch" in own, "--check" in own, "--no-names" not in own, collect,
-                 others + program)
+    return Words(named[0] if named else None, out, "--detach" in own, "--fetch" in own, "--check" in own,
+                 "--view" in own, "--no-names" not in own, collect, others + program)
 
 
 def refuse_files(out: str) -> None:

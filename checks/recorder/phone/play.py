@@ -154,7 +154,9 @@ PUTTING = r"record: putting the recorder \(\d\.\d MB\) on 127\.\S+"
 PREPARED = PUTTING, r"record: loading it into the kernel of 127\.\S+"
 READY = r"record: 127\.0\.0\.1:\d+: ready: kernel \S+, driver in C, devices binder hwbinder vndbinder"
 BEGUN = r"record: 127\.\S+: recording; Ctrl-C ends it, and fetches the files"
+ENDING = r"record: ending the recording on 127\.\S+"
 COUNTS = r"record: \d+ frames, 0 lost; 1 file, \d+ bytes"
+FETCHING = r"record: fetching \d+ files, \d+\.\d MB, from 127\.\S+"
 FETCHED = r"record: \d+ files, \d+ bytes fetched from 127\.0\.0\.1:\d+; next: \S+view {0}-1\.cap --side {0}\.side"
 NOTHING = r"record: nothing was recorded on 127\.0\.0\.1:\d+"
 LOST = (r"record: the connection to 127\.\S+ (is lost \(.*\)|has ended); (when 127\.\S+ is back, this fetches what was"
@@ -203,7 +205,7 @@ def by_su(stage: Stage) -> None:
     """Another user records by su, and PROGRAM is root's."""
     stage.connect(stage.serials[2])
     came = stage.record(stage.serials[2], "-o", "su", "--", "sh", "-c", "sleep 3; id -u; exit 7")
-    stage.line(came, 7, *PREPARED, READY, "0", COUNTS, FETCHED.format("su"))
+    stage.line(came, 7, *PREPARED, READY, "0", COUNTS, FETCHING, FETCHED.format("su"))
     stage.good_capture("su")
 
 
@@ -263,7 +265,7 @@ def interrupted(stage: Stage, name: str, *words: str) -> None:
     stage.wait_until_recording()
     time.sleep(15)
     recording.send_signal(signal.SIGINT)
-    stage.line(stage.end(recording), 0, *PREPARED, READY, BEGUN, COUNTS, FETCHED.format(name))
+    stage.line(stage.end(recording), 0, *PREPARED, READY, BEGUN, ENDING, COUNTS, FETCHING, FETCHED.format(name))
     stage.good_capture(name)
     stage.nothing_left()
 
@@ -313,7 +315,7 @@ def cable(stage: Stage) -> None:
     again = stage.record(stage.serials[0], "-o", "again")
     stage.line(again, 1, r"record: 127\.\S+ has a recording in /data/local/tmp/binder-record already; to fetch it:"
                r" \S+record --adb 127\.\S+ --fetch -o again")
-    stage.line(stage.record(stage.serials[0], "--fetch", "-o", "cable"), 0, COUNTS, FETCHED.format("cable"))
+    stage.line(stage.record(stage.serials[0], "--fetch", "-o", "cable"), 0, COUNTS, FETCHING, FETCHED.format("cable"))
     stage.good_capture("cable")
     stage.nothing_left()
 
