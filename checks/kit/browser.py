@@ -65,11 +65,15 @@ class Browser:
         return json.loads(text)
 
     def ask(self, method: str, **given: object) -> dict[str, Any]:
-        """What the browser answers. What a page reports meanwhile is kept if it is an error."""
+        """What the browser answers of its page. What a page reports meanwhile is kept if it is an error."""
+        return self.asked(method, self.session, given)
+
+    def asked(self, method: str, session: str, given: dict[str, object]) -> dict[str, Any]:
+        """What the page of a session answers, or without one the browser itself."""
         self.number += 1
         asked = {"id": self.number, "method": method, "params": given}
-        if self.session:
-            asked["sessionId"] = self.session
+        if session:
+            asked["sessionId"] = session
         os.write(self.asks, json.dumps(asked).encode() + b"\0")
         while True:
             came = self.message()
@@ -149,6 +153,11 @@ class Browser:
 
     def shot(self, to: pathlib.Path) -> None:
         to.write_bytes(base64.b64decode(self.ask("Page.captureScreenshot", format="png")["data"]))
+
+    def renderers(self) -> float:
+        """The seconds of the processor that all processes of pages have taken."""
+        found = self.asked("SystemInfo.getProcessInfo", "", {})["processInfo"]
+        return sum(one["cpuTime"] for one in found if one["type"] == "renderer")
 
     def seconds(self) -> float:
         """The seconds of the processor that the page's main thread has taken."""

@@ -2,7 +2,10 @@
 another capture to compare with, and what means harm.
 
     checks/run viewing [-- CASE..]   plays these cases alone, as `side`
-    checks/run viewing -- --browser  checks the page in Debian's chromium, without a window; by hand
+    checks/run viewing -- --browser  checks the page in Debian's chromium, without a window, and what it prints; takes
+                                     pdftotext; by hand
+    checks/run viewing -- --large    checks and prints how many bytes large pages have, and what of the processor it
+                                     takes chromium to open them; by hand
     checks/run viewing -- --edits [EDIT]
                                      tries wrong templates of the page: each edit of page/edits.txt must be refused, and
                                      a line says by which check; by hand. EDIT is a part of the names of some, or
@@ -81,6 +84,7 @@ from checks.viewer.page.drawn import check_bars, check_floors, check_kept, check
 from checks.viewer.page.files import (check_again, check_beside, check_changing, check_malformed, check_names,
                                       check_pipes, check_terminal, check_whole)
 from checks.viewer.page.growth import check_growth
+from checks.viewer.page.large import check_large
 from checks.viewer.page.methods import check_methods, check_unnamed
 from checks.viewer.page.moments import check_moments
 from checks.viewer.page.packed import check_broken, check_packed, check_timing
@@ -128,6 +132,8 @@ def judge(given: argparse.Namespace, room: pathlib.Path, fail: Fail) -> None:
     if given.browser:
         room = pathlib.Path(tempfile.mkdtemp(prefix="checks-view."))  # its pictures stay
         check_browser(programs(room, given.programs[0]), room, fail)
+    elif given.large:
+        check_large(programs(room, given.programs[0]), room, fail)
     elif given.edits is not None:
         check_edits(built_programs(room, given.programs[0]), room, given.edits, fail)
     else:
@@ -135,4 +141,4 @@ def judge(given: argparse.Namespace, room: pathlib.Path, fail: Fail) -> None:
 
 
 if __name__ == "__main__":
-    check(judge, names, browser=FLAG, edits={"nargs": "?", "const": ""})
+    check(judge, names, browser=FLAG, large=FLAG, edits={"nargs": "?", "const": ""})

@@ -51,6 +51,7 @@ class Comparison:
     def __init__(self, new: sqlite3.Connection, old: Seen, name: str):
         facts = old.facts, facts_of(new)
         refuse_unlike(*facts, name)
+        self.facts = facts
         self.seconds = seconds_of(facts[0]), seconds_of(facts[1])
         self.before, self.now = old.defects, defects_of(new)
         self.met = {who for who, in new.execute("SELECT program || ' on ' || device FROM program")}

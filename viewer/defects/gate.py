@@ -4,10 +4,10 @@ import sqlite3
 from typing import Iterator, NamedTuple
 
 from viewer.defects.changes import GONE, GROWN, NEW, WORSE, Comparison
+from viewer.defects.first_seen import first_seen
 from viewer.defects.known_keys import known_in, unseen_lines
 from viewer.defects.seen import RANKS, Defect, defects_of, seen_in
 from viewer.malformed import Fault
-from viewer.units import counted
 
 
 class Shown(NamedTuple):
@@ -61,11 +61,4 @@ class Gate:
         for key in self.known:
             marks.setdefault(key, []).append("known")
         return Shown(marks, [change.defect for change in self.comparison.of(GONE)] if self.comparison else [],
-                     dict(self.first_seen()))
-
-    def first_seen(self) -> Iterator[tuple[str, str]]:
-        """In which of both captures each defect of this one was first seen."""
-        for change in self.comparison.changes if self.comparison else ():
-            if change.now:
-                yield change.defect.key, (f"in {self.against}, {counted(change.before, 'finding')} there"
-                                          if change.before else f"here; {self.against} has none")
+                     dict(first_seen(self.comparison, str(self.against)) if self.comparison else ()))

@@ -49,9 +49,10 @@ def defects_of(database: sqlite3.Connection) -> dict[str, Defect]:
     return {row[0]: Defect(*row) for row in database.execute(QUERY.read_text("utf-8"))}
 
 
-# The facts of a capture on which a comparison rests.
+# The facts of a capture on which a comparison rests, and those that say when and on which kernel it was recorded.
 FACTS: dict[str, Any] = {"prints": int, "methods": int, "side_list": int, "first_ts": int | None,
-                         "until_ts": int | None, "malformed": str | None}
+                         "until_ts": int | None, "malformed": str | None, "realtime": int | None,
+                         "kernel": str | None, "machine": str | None}
 
 
 def facts_of(database: sqlite3.Connection) -> dict[str, object]:

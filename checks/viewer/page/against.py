@@ -2,6 +2,7 @@
 
 import contextlib
 import pathlib
+import re
 import shutil
 import sqlite3
 
@@ -70,6 +71,7 @@ def check_against(folder: pathlib.Path, room: pathlib.Path, fail: Fail) -> None:
     compare("--against: marks of the page", ("real new replies never freed" in text, "real grown replies" in text,
                                              " Gone 1 Defects of the other" in text, text.count("client on binder: ")),
             (True, True, True, 1), fail)
+    check_first_seen(text, fail)
     status, groups, _ = view(folder, room, *new, "--groups")
     keys = {line.split("\t")[-1] for line in groups.splitlines() if line.startswith("real")}
     compare("--against: keys are those of --groups",
@@ -78,6 +80,19 @@ def check_against(folder: pathlib.Path, room: pathlib.Path, fail: Fail) -> None:
     check_gate(folder, room, old, new, fail)
     check_worse(folder, room, fail)
     check_unlike(folder, room, old, new, fail)
+
+
+def check_first_seen(text: str, fail: Fail) -> None:
+    """A card says in which of both captures it was first seen, of what builds they are, and how often it is in each."""
+    build = r"\(recorded [0-9]{4}-01-01 \d\d:\d\d, Linux 6\.1, x86_64\)"
+    took = r"[0-9.]+ (?:ms|s)"
+    seen = [" ".join(one) for one in re.findall(
+        rf"first seen (here|in old\.db) {build}(; old\.db {build} has none|: \d+ findings in {took};"
+        rf" here \d+ findings in {took})", text)]
+    counts = sorted(re.sub(rf" {build}| in {took}", "", one) for one in seen)
+    compare("--against: where it was first seen", counts, [
+        "here ; old.db has none", "in old.db : 3 findings; here 3 findings", "in old.db : 3 findings; here 9 findings"],
+        fail)
 
 
 def check_gate(folder: pathlib.Path, room: pathlib.Path, old: tuple, new: tuple, fail: Fail) -> None:

@@ -1,5 +1,5 @@
 """The page in Debian's chromium, without a window: all that it offers is done with the mouse and with the keys alone,
-at three widths, light and dark; and it is accessible. Pages of names that mean harm run nothing."""
+at three widths, light and dark; it is accessible, and printed whole. Pages of names that mean harm run nothing."""
 
 import json
 import pathlib
@@ -10,6 +10,9 @@ from checks.kit.browser import Browser
 from checks.kit.checking import Fail, compare
 from checks.viewer.page.accessible import check_accessible, check_focus
 from checks.viewer.page.common import stored, view
+from checks.viewer.page.drawn import kept_capture
+from checks.viewer.page.harm import check_harm, check_harms
+from checks.viewer.page.paper import check_paper
 from checks.viewer.page.words import check_hostile
 
 # Widths and colours. At others only the width is looked at.
@@ -105,8 +108,7 @@ def check_cards(it: Driven) -> None:
         it.browser.key("Enter")
         it.browser.settle()
     else:
-        it.browser.click(f"{CARDS} > summary")
-        it.browser.settle()
+        it.press(f"{CARDS} > summary b")  # in the middle may be the link of a rule
     card = it.browser.js(f"document.querySelector('{CARDS}').id")
     it.same("the first card is open", it.count(f"[id='{card}'][open] .inner"), 1)
     it.press(f"[id='{card}'] a.link")
@@ -192,6 +194,26 @@ def check_strip(it: Driven) -> None:
     it.same("the address narrows again", it.browser.js(shown) < before, True)
     it.press(".strip button")
     it.same("all of the time again", (it.browser.js(shown), "time" in it.hash()), (before, False))
+    if not it.by_keys:
+        bar = ".lane rect:is(.real, .maybe, .explained, .new)"
+        of = it.browser.js(f"document.querySelector({bar!r}).dataset.of")
+        it.press(bar)
+        it.same("what a bar opens", (it.hash(), it.count(f"[id='{of}'][open].named")), (f"#{of}", 1))
+
+
+def check_moment(it: Driven) -> None:
+    """A page of a kept capture opens at what it was kept for, and leads back there from anywhere."""
+    it.show()
+    opens = it.browser.js("document.querySelector('.strip').dataset.opens")
+    card = f"[id='{opens}'][open].named"
+    it.same("it opens at what it was kept for", (it.count(card), it.hash()), (1, ""))
+    it.same("which is in the window", it.browser.js(
+        f"(box => box.top >= 0 && box.top < innerHeight)(document.querySelector({card!r}).getBoundingClientRect())"),
+        True)
+    it.show("rules")
+    it.same("another address opens nothing", it.count(card), 0)
+    it.press(".to-kept")
+    it.same("the way back", (it.count(card), it.hash()), (1, f"#{opens}"))
 
 
 def check_keys(it: Driven) -> None:
@@ -206,20 +228,6 @@ def check_keys(it: Driven) -> None:
     else:
         it.browser.click("dialog button")
     it.same("it closes", it.count("dialog[open]"), 0)
-
-
-def check_paper(browser: Browser, page: pathlib.Path, fail: Fail) -> None:
-    """On paper all tabs are there, and what is folded is open."""
-    browser.show(page, "rules")
-    browser.ask("Emulation.setEmulatedMedia", media="print")
-    browser.js("dispatchEvent(new Event('beforeprint'))")
-    compare(f"{page.name} on paper: tabs, folds that are closed", browser.js(
-        "[[...document.querySelectorAll('section.tab')].filter(one => one.hidden).length,"
-        " document.querySelectorAll('details:not([open])').length]"), [0, 0], fail)
-    browser.js("dispatchEvent(new Event('afterprint'))")
-    compare(f"{page.name} after paper: the tab", browser.js(
-        "[...document.querySelectorAll('section.tab:not([hidden])')].map(one => one.id)"), ["rules"], fail)
-    browser.ask("Emulation.setEmulatedMedia", media="")
 
 
 def without_script(page: pathlib.Path) -> pathlib.Path:
@@ -279,24 +287,24 @@ def check_widths(browser: Browser, page: pathlib.Path, fail: Fail) -> None:
             check_accessible(browser, f"{page.name}, {width}, {tab}", fail)
 
 
-def check_harm(browser: Browser, page: pathlib.Path, fail: Fail) -> None:
-    """A page of names that mean harm runs nothing, whatever of it is opened."""
-    browser.look(1280)
-    for tab in browser_tabs(browser, page):
-        browser.show(page, tab)
-        browser.js(OPEN_ALL)
-        browser.key("f", 2)
-        browser.settle()
-        compare(f"{page.name}, {tab}: what ran, and strange elements", browser.js(
-            "[Boolean(window.bad || document.documentElement.hasAttribute('pwned')),"
-            " document.querySelectorAll('img, iframe, object, embed, base, form:not([method=dialog])').length,"
-            " document.querySelectorAll('script').length]"), [False, 0, 1], fail)
+def check_kept(browser: Browser, folder: pathlib.Path, room: pathlib.Path, fail: Fail) -> None:
+    """The page of a kept capture."""
+    page = kept_capture(folder, room, "kept")
+    for width, is_dark in LOOKS:
+        browser.look(width, 900, is_dark)
+        look = f"{width} {'dark' if is_dark else 'light'}"
+        browser.show(page)
+        browser.shot(room / f"kept-{look.replace(' ', '-')}.png")
+        check_accessible(browser, f"{page.name}, {look}", fail)
+        for by_keys in (False, True):
+            check_moment(Driven(browser, page, by_keys, look, fail))
 
 
 def check_browser(folder: pathlib.Path, room: pathlib.Path, fail: Fail) -> None:
     harmful = check_hostile(folder, room, fail)
     with Browser() as browser:
         check_harm(browser, harmful, fail)
+        check_harms(browser, folder, room, fail)
         for name, words in (("leaks", "service"), ("threads", "client")):
             view(folder, room, *stored(name), "-o", f"{name}.html")
             page = room / f"{name}.html"
@@ -304,5 +312,6 @@ def check_browser(folder: pathlib.Path, room: pathlib.Path, fail: Fail) -> None:
             check_widths(browser, page, fail)
             check_paper(browser, page, fail)
             check_plain(browser, page, fail)
+        check_kept(browser, folder, room, fail)
         compare("errors of the script", browser.errors, [], fail)
     print(f"checks/viewing: pictures are in {room}")

@@ -100,16 +100,21 @@ def named(name: str | None) -> str | None:
     return name.partition("-")[0] if name else None
 
 
+def kept_capture(folder: pathlib.Path, room: pathlib.Path, name: str, why: str = next(iter(KEPT))) -> pathlib.Path:
+    """The page of a stored capture in which a call hangs, as if it had been kept for this reason."""
+    capture, side = texts_stored("hung")
+    (room / f"{name}.cap").write_bytes(capture)
+    *lines, end = side.splitlines(keepends=True)
+    (room / f"{name}.side").write_text("".join((*lines, f"{KEPT_TS} kept {why}\n", end)), "utf-8")
+    view(folder, room, f"{name}.cap", "--side", f"{name}.side", "-o", f"{name}.html")
+    return room / f"{name}.html"
+
+
 def check_kept(folder: pathlib.Path, room: pathlib.Path, fail: Fail) -> None:
     """The strip has the moment at which a capture was kept, and since when there was why. The page opens at the group
     of that record, and at nothing where there is none."""
-    capture, side = texts_stored("hung")
-    (room / "kept.cap").write_bytes(capture)
-    *lines, end = side.splitlines(keepends=True)
     for why, due in KEPT.items():
-        (room / "kept.side").write_text("".join((*lines, f"{KEPT_TS} kept {why}\n", end)), "utf-8")
-        view(folder, room, "kept.cap", "--side", "kept.side", "-o", "kept.html")
-        page = (room / "kept.html").read_text("utf-8")
+        page = kept_capture(folder, room, "kept", why).read_text("utf-8")
         bar = re.search(r'<rect class="kept" x="([0-9.]+)" width="([0-9.]+)"[^>]*?(?: data-of="([^"]*)")?>', page)
         if bar is None:
             fail(f"{why}: its strip has no moment")

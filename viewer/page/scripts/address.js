@@ -24,5 +24,9 @@ const address = {
     if (words) rest.set('words', words);
     return `#${encodeURIComponent(name)}${rest.size || `${rest}` ? `?${rest}` : ''}`;
   },
-  change(given) { history.replaceState(null, '', address.text({...address.read(), ...given})); },
+  // Where nothing changes the address stays: by an empty name, as #, a browser goes to the top.
+  change(given) {
+    const to = address.text({...address.read(), ...given});
+    if (to !== (location.hash || '#')) history.replaceState(null, '', to);
+  },
 };

@@ -5,7 +5,7 @@ document.querySelector('.filter').append(input, told, made('button', {
 document.body.append(help);
 makeHeads(document);
 makeButtons(document);
-labelCells(document);
+makeBlocks(document);
 
 const follow = async () => {
   const {name, words: given, time} = address.read();
@@ -21,5 +21,5 @@ if (tabs.length) showTab(tabs[0]);
 addEventListener('popstate', follow);
 follow().then(async () => {
   // Without an address a page opens at what its capture was kept for.
-  if (!location.hash && strip?.dataset.opens) await goTo(strip.dataset.opens, 'nearest');
+  if (!location.hash && strip?.dataset.opens) await goTo(strip.dataset.opens, true);
 });

@@ -26,7 +26,8 @@ const elementNamed = async name => {
   return document.getElementById(name);
 };
 
-const goTo = async (name, block = null) => {
+// Goes to what has a name. If the window need not begin with it, it scrolls no further than that its head is seen.
+const goTo = async (name, mayStay = false) => {
   for (const one of every('.named')) one.classList.remove('named');
   const element = await elementNamed(name);
   if (!element) return;
@@ -37,8 +38,10 @@ const goTo = async (name, block = null) => {
     return;
   }
   element.classList.add('named');
-  element.scrollIntoView({block: block ?? (element.tagName === 'TR' ? 'center' : 'start')});
-  element.querySelector(':scope > summary')?.focus({preventScroll: true});
+  const head = element.querySelector(':scope > summary');
+  if (mayStay) (head ?? element).scrollIntoView({block: 'nearest'});
+  else element.scrollIntoView({block: element.tagName === 'TR' ? 'center' : 'start'});
+  head?.focus({preventScroll: true});
 };
 
 for (const tab of tabs) tab.addEventListener('beforematch', () => showTab(tab));
