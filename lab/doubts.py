@@ -55,6 +55,9 @@ def unlike_captures(compared: Comparison) -> Iterator[str]:
     sides = compared.sides
     if without := sum(not one.has_side for one in sides.captures.values()) % (sides.old + sides.new):
         yield f"{counted(without, 'capture')} without a side list, whose keys and verdicts may differ"
+    if parts := sum(one.is_of_part for one in sides.captures.values()) % (sides.old + sides.new):
+        yield (f"{counted(parts, 'capture')} of a part of a system (--pid, --only, --device), whose keys and verdicts"
+               " may differ")
     if sides.timed:
         lengths = sides.seconds_old / sides.old, sides.seconds_new / sides.new
         if max(lengths) > 2 * min(lengths):

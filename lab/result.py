@@ -43,10 +43,20 @@ def rows(database: sqlite3.Connection, query: str) -> list[dict]:
     return [dict(zip(names, map(short, row))) for row in cursor]
 
 
+# How the doubt of a capture begins that has only a part of a system.
+OF_PART = "only a part was recorded"
+
+
+def doubt_of(facts: dict) -> str | None:
+    """Why a capture may tell less than others, or something else."""
+    part = facts.get("narrowed") and f"{OF_PART}: {facts['narrowed']}"
+    return "; ".join(filter(None, (part, facts["side_doubt"] or facts["books_doubt"]))) or None
+
+
 def about(facts: dict) -> dict:
     """What the row of a capture says of it."""
     return {"file": short(facts["file"]), "begun": facts.get("realtime"), "seconds": seconds_of(facts),
-            "side": facts["side_list"], "doubt": short(facts["side_doubt"] or facts["books_doubt"]),
+            "side": facts["side_list"], "doubt": short(doubt_of(facts)),
             **{name: short(facts.get(name)) for name in ("bytes", "frames", "records", "missing", "lost", "malformed",
                                                          "kernel", "prints", "methods")}}
 

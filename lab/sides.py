@@ -9,6 +9,7 @@ from typing import NamedTuple
 
 from lab import chance
 from lab.renamed import WORD, Renamed, Text
+from lab.result import OF_PART
 from lab.store import lacks_basis
 from viewer.files import Stopped
 from viewer.units import counted
@@ -33,11 +34,12 @@ class Build(NamedTuple):
 
 
 class Capture(NamedTuple):
-    """A capture that counts: whose it is, and how long, in seconds."""
+    """A capture that counts: whose it is, how long, in seconds, and whether it has only a part of a system."""
     device: str
     is_new: bool
     seconds: float | None
     has_side: bool
+    is_of_part: bool
 
 
 class Found(NamedTuple):
@@ -105,7 +107,7 @@ class Sides:
     def __init__(self, lab: sqlite3.Connection, old: list[str], new: str, renamed: Renamed):
         self.lab, self.renamed = lab, renamed
         self.names: dict[str, object] = {"old": json.dumps(old), "new": new}
-        self.captures = {number: Capture(*row) for number, *row in self.rows("captures.sql")}
+        self.captures = {number: Capture(*row) for number, *row in self.rows("captures.sql", of_part=OF_PART)}
         self.place = {number: at for at, number in enumerate(self.captures)}
         self.new = sum(capture.is_new for capture in self.captures.values())
         self.refuse_side_lists_of_one()

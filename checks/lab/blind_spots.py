@@ -101,6 +101,20 @@ def check_uncounted(_: pathlib.Path, __: pathlib.Path, fail: Fail) -> None:
         compare(f"{what}: fails", too_few(compared.builds, 0.5), ["new"] * (counted < 25), fail)
 
 
+def check_of_part(_: pathlib.Path, __: pathlib.Path, fail: Fail) -> None:
+    """A capture of a part of a system says so, and a comparison how many there are, if not all are."""
+    facts = {"file": "a.cap", "side_list": 3, "side_doubt": None, "books_doubt": "one is gone"}
+    for narrowed, due in ((None, "one is gone"), ("--pid 412", "only a part was recorded: --pid 412; one is gone")):
+        compare(f"the doubt of {narrowed}", result.about({**facts, "narrowed": narrowed})["doubt"], due, fail)
+    for parts in 0, 1, 7, 20:
+        with closing(small_lab({build: [[finding("app")]] * 10 for build in ("old", "new")})) as lab:
+            lab.execute("UPDATE capture SET doubt = 'only a part was recorded: --pid 412' WHERE id IN"
+                        " (SELECT id FROM capture ORDER BY id DESC LIMIT ?)", (parts,))
+            said = [doubt for doubt in doubts(Comparison(lab, ["old"], "new")) if "of a part of a system" in doubt]
+        compare(f"{parts} of 20 are of a part", [one.split(" ")[0] for one in said], [str(parts)] * (parts in (1, 7)),
+                fail)
+
+
 def check_grown_fails(_: pathlib.Path, __: pathlib.Path, fail: Fail) -> None:
     """Growth fails where that is asked, from a factor on."""
     builds = {build: [[finding("leaky", "real", n)]] * 20 for build, n in (("old", 4), ("new", 10))}
@@ -245,5 +259,5 @@ def check_page_of_many(_: pathlib.Path, __: pathlib.Path, fail: Fail) -> None:
     compare("a page of many: state, day", ["grown in b05" in text, "b09</bdi> 2027-01-24" in text], [True] * 2, fail)
 
 
-BLIND_SPOTS = (check_worse_beside_one, check_too_few, check_power, check_uncounted, check_grown_fails,
+BLIND_SPOTS = (check_worse_beside_one, check_too_few, check_power, check_uncounted, check_of_part, check_grown_fails,
                check_first_seen, check_renamed, check_clocks, check_basis, check_page_of_many)

@@ -6,7 +6,7 @@ from typing import Iterator, NamedTuple
 from viewer.defects.changes import GONE, GROWN, NEW, WORSE, Comparison
 from viewer.defects.first_seen import first_seen
 from viewer.defects.known_keys import known_in, unseen_lines
-from viewer.defects.seen import RANKS, Defect, defects_of, seen_in
+from viewer.defects.seen import RANKS, Defect, defects_of, facts_of, seen_in
 from viewer.malformed import Fault
 
 
@@ -28,9 +28,11 @@ class Gate:
         self.known = {} if known is None else known_in(known)
         self.comparison: Comparison | None = None
         self.now: dict[str, Defect] = {}
+        self.part: object = None
 
     def look(self, database: sqlite3.Connection) -> None:
         """Looks at the database of the capture."""
+        self.part = facts_of(database).get("narrowed")
         if self.old is not None:
             self.comparison = Comparison(database, self.old, str(self.against))
             self.now = self.comparison.now
@@ -39,7 +41,12 @@ class Gate:
 
     def doubt(self) -> str | None:
         """Why what is new may not be new; None if nothing is known against it."""
-        malformed = self.old and self.old.facts["malformed"]
+        if not self.old:
+            return None
+        malformed, parts = self.old.facts["malformed"], (self.old.facts.get("narrowed"), self.part)
+        if parts[0] != parts[1]:
+            had, has = (f"a part ({part})" if part else "the whole system" for part in parts)
+            return f"{self.against} is of {had}, and the capture of {has}: keys and verdicts may differ"
         return f"{self.against} has only what comes before a fault: {malformed}" if malformed else None
 
     def lines(self, fault: Fault | None) -> Iterator[str]:
