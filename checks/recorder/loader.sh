@@ -145,7 +145,7 @@ narrowed() { # OUT DUE WORD..: the recorder with these words
 }
 narrowed all-of-it '1 whole'
 narrowed part '2 none narrowed=pid:412,pid:7,only:my\\x20app\\x2cx\\x5c,only:10123,device:binder' --pid 412 --pid 7 \
-  --only 'my app,x\' --only 10123 --device /dev/binderfs/binder --no-attachments --size 65536 --files 2
+  --only "my app,x\\" --only 10123 --device /dev/binderfs/binder --no-attachments --size 65536 --files 2
 many=()
 for ((i = 100; i < 250; i++)); do many+=(--only "$i$(printf ' %.0s' {1..60})"); done
 narrowed many '1 whole narrowed=(only:[0-9]{3}(\\x20){60},){32}more:118' "${many[@]}"

@@ -61,6 +61,7 @@ What must hold:
 - The loader puts each row as it is into its table, and refuses rows that are not whole.
 - Of a large page nothing is lost that is packed. The strip of time has each group where its findings were, and the
   moment at which a capture was kept; the page opens at what it was kept for. Growth draws what stays.
+- A set that a flight recorder has kept says why, and a recording of a part of a system says which part.
 - No statement of the rules takes the square of what a capture has.
 - The rules in docs/RULES.md are those of the database, and so are the names, columns, types and keys in
   docs/DATABASE.md.
@@ -98,6 +99,7 @@ from checks.viewer.page.stacks import check_stacks
 from checks.viewer.page.users import check_bits, check_packages
 from checks.viewer.page.words import (check_hostile, check_no_engine, check_python, check_secrets, check_stopped,
                                       check_templates, check_told, check_untimed, check_version, check_words)
+from checks.viewer.page.why_kept import check_why_kept
 from checks.viewer.page.windows import check_windows
 from checks.viewer.page.wrong import check_edits
 from viewer.database import raw_tables
@@ -112,8 +114,7 @@ OTHERS = parts_of(
     check_unnamed, check_services, check_manager, check_times, check_loader, check_packed, check_broken, check_timing,
     check_agreement, check_copies, check_bad_books, check_long_books, check_commands, check_sections, check_filled,
     check_packages, check_bits, check_stacks, check_growth, check_against, check_moments, check_windows, check_fillers,
-    check_losers, check_power, check_parts, check_bars, check_strip,
-    check_kept, check_floors)
+    check_losers, check_power, check_parts, check_bars, check_strip, check_kept, check_floors, check_why_kept)
 
 
 def names() -> list[str]:

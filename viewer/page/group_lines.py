@@ -6,6 +6,7 @@ from typing import Iterator
 
 from viewer.malformed import Fault
 from viewer.page.within import groups_within
+from viewer.page.why_kept import kept_line, kept_of
 from viewer.terminal import line_of
 from viewer.window import Window
 
@@ -33,9 +34,12 @@ def group_lines(database: sqlite3.Connection, window: Window | None = None) -> I
 
 
 def lines_of(database: sqlite3.Connection, fault: Fault | None, window: Window | None) -> Iterator[str]:
-    """What --groups prints. If the capture is malformed, a line comes first that has the fields of a group, but no
-    verdict: so nobody takes the groups for those of a whole capture, or the line for a group."""
+    """What --groups prints. If the capture is malformed, or was kept of a recording that went on, a line comes first
+    that has the fields of a group, but no verdict: so nobody takes the groups for those of a whole capture, or the line
+    for a group."""
     if fault:
         yield line_of("malformed", fault.kind, None, None, None, None, fault.file, None,
                       f"at {fault.place}: {fault.meaning}", None, None)
+    if kept := kept_of(database, set(groups_within(database, window))):
+        yield kept_line(database, kept)
     yield from group_lines(database, window)

@@ -8,6 +8,7 @@ from typing import Iterable, Iterator, NamedTuple
 
 from viewer.clocks import Times
 from viewer.page.within import groups_within
+from viewer.page.why_kept import kept_of
 from viewer.terminal import shown
 from viewer.units import counted
 from viewer.window import Window
@@ -103,6 +104,8 @@ def table_of(database: sqlite3.Connection, window: Window | None, is_all: bool, 
     table = Table(database, window)
     found = table.of(("real", "maybe"))
     others = table.of(OTHERS)
+    if kept := kept_of(database, table.groups):
+        yield f"{shown(kept.text)}\n"
     if not found:
         yield "No group is real or maybe. This does not show that nothing is wrong.\n"
     if found or is_all and others:

@@ -2,6 +2,7 @@
 
 from collections import Counter
 
+from viewer.page import why_kept
 from viewer.page.capture import Capture
 from viewer.page.texts import user_name
 from viewer.page.within import counts_of
@@ -32,7 +33,8 @@ def head_of(capture: Capture) -> dict[str, object]:
     ask = capture.ask
     return {
         "first_ts": None, "until_ts": None, "payloads": None, "zeros_doubt": None, "narrowed": None,
-        "narrowed_processes": 0, **capture.facts, "has_end": "end_ts" in capture.facts,
+        "narrowed_processes": 0, **capture.facts,
+        "kept": why_kept.kept_of(capture.database, capture.groups), "has_end": "end_ts" in capture.facts,
         "fault": capture.fault,
         "kernel": capture.facts.get("kernel"), "machine": capture.facts.get("machine"),
         "begin_ts": capture.facts.get("begin_ts"),

@@ -4,6 +4,7 @@ from typing import NamedTuple
 
 from viewer.page.axis import Axis, Span
 from viewer.page.capture import Capture
+from viewer.page.why_kept import kept_of
 
 
 class Moment(NamedTuple):
@@ -22,15 +23,14 @@ class Moment(NamedTuple):
 
 def moment_of(capture: Capture, axis: Axis, calls: list[tuple]) -> Moment | None:
     """The moment; None of a capture that was not kept so, and if its time is not known."""
-    facts = capture.facts
-    seen = axis.tick(facts.get("kept_ts"), None) if facts.get("kept") else None
-    if seen is None:
+    facts, kept = capture.facts, kept_of(capture.database, capture.groups)
+    seen = axis.tick(facts["kept_ts"], None) if kept else None
+    if kept is None or seen is None:
         return None
     since = axis.tick(facts.get("kept_since"), None)
-    place, group, upid = capture.asked("kept", *(facts.get(f"kept_{name}") for name in ("frame", "at", "pid")))[0]
     opens = None
-    if group in capture.groups:
-        opens = f"group-{group}"
-    elif any(call[0] == place for call in calls):
-        opens = f"call-{place}"
-    return Moment(Span(min(seen if since is None else since, seen), seen), facts["kept_ts"], opens, upid)
+    if kept.group is not None:
+        opens = f"group-{kept.group}"
+    elif any(call[0] == kept.place for call in calls):
+        opens = f"call-{kept.place}"
+    return Moment(Span(min(seen if since is None else since, seen), seen), facts["kept_ts"], opens, kept.upid)

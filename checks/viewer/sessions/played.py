@@ -22,7 +22,7 @@ def base_of(room: pathlib.Path, session: Session) -> bytes:
         capture.write_bytes(session.capture())
         side.write_text(session.side(), "utf-8")
         for name, text in session.copies.items():
-            side.with_suffix(f".{name}").write_text(text, "utf-8")
+            side.with_suffix(f".{name}").write_bytes(text.encode() if isinstance(text, str) else text)
         rows.mkdir()
         subprocess.run([TABLES, "--tables", rows, capture], check=True, stdout=subprocess.DEVNULL)
         status, lines = reading(session.capture())
