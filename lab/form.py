@@ -2,15 +2,17 @@
 anywhere, so nothing of it is used before it is known to have this form.
 
 In a file each text of the lists is there once, in `names`: a row has the place of its texts in that list. And a list
-has the names of its columns once, and rows without names. This is form 2; in files of form 1 a row is an object."""
+has its columns, each with the values of all rows, or the one value that all have, but for the first column. This is
+form 3. In files of form 2 a list has the names of its columns, and rows without names; in those of form 1 a row is an
+object."""
 
 import contextlib
 import math
 import re
-from collections.abc import Iterable, Iterator, Sequence
-from itertools import repeat
+from array import array
+from collections.abc import Iterator, Sequence
 from types import NoneType
-from typing import Callable, Collection, NamedTuple
+from typing import Any, Callable, Collection, NamedTuple
 
 from viewer.defects.seen import RANKS
 
@@ -26,26 +28,36 @@ class Kind(NamedTuple):
     def takes(self, value: object) -> bool:
         return value is None and self.may_lack or self.fits(value)
 
-    def takes_all(self, values: Sequence[object]) -> bool:
+    def takes_all(self, values: Sequence[Any]) -> bool:
         """Whether all are such values. Each is looked at once, however often it is there."""
-        types = {*map(type, values)} - {NoneType}
-        if len(types) > 1:  # values of several types can be equal, as 1 and true are
+        types = {*map(type, values)}
+        if self.fits is is_whole and types <= {int, NoneType}:
+            return (self.may_lack or NoneType not in types) and are_of_64_bits(values)
+        if len(types - {NoneType}) > 1:  # values of several types can be equal, as 1 and true are
             return all(map(self.takes, values))
         try:
-            return all(map(self.takes, ends_of({*values}) if types == {int} else {*values}))
+            return all(map(self.takes, {*values}))
         except TypeError:  # a list, or an object
             return False
 
 
-def ends_of(numbers: set) -> set:
-    """The least and the largest number, and None if that is there: if both are of a kind, so are those between."""
-    whole = numbers - {None}
-    return numbers & {None} | {min(whole), max(whole)}
+def are_of_64_bits(numbers: Sequence[Any]) -> bool:
+    """Whether an array of C takes all the numbers, which is the quickest way to know."""
+    try:
+        array("q", [number for number in numbers if number is not None] if None in numbers else numbers)
+    except OverflowError:
+        return False
+    return True
 
 
 def is_text(value: object) -> bool:
     """Whether a value is a text that a file can have: JSON also has halves of characters."""
     return isinstance(value, str) and (value.isascii() or not re.search("[\ud800-\udfff]", value))
+
+
+def are_texts(values: list) -> bool:
+    """Whether all are such texts."""
+    return {*map(type, values)} <= {str} and ("".join(values).isascii() or all(map(is_text, values)))
 
 
 def is_whole(value: object) -> bool:
@@ -93,7 +105,11 @@ ROWS = {
     "talk": {**fields(optional(TEXT), "caller server interface method call"),
              **fields(optional(WHOLE), "code oneway sends failed refused open bytes buffers longest")},
     "held": {"process": optional(TEXT),
-             **fields(optional(WHOLE), "buffers buffers_most bytes bytes_most refs refs_most calls_most")}}
+             **fields(optional(WHOLE), "buffers buffers_most bytes bytes_most refs refs_most calls_most")},
+    "times": {**fields(optional(TEXT), "server call"), "calls": WHOLE, **fields(optional(WHOLE), "queue work")}}
+
+# The lists that results of earlier versions lack.
+LATER = ("times",)
 
 
 def wrong_in(where: str, given: object, form: dict[str, Kind]) -> str | None:
@@ -128,7 +144,7 @@ def wrong(result: object, right: Collection[str] = ()) -> str | None:
 # ---- as a file has it
 
 # The form of the files that are written.
-FORM = 2
+FORM = 3
 
 
 def is_named(kind: Kind) -> bool:
@@ -143,9 +159,17 @@ def folded(result: dict) -> dict:
     def value_of(kind: Kind, value: object) -> object:
         return names.setdefault(value, len(names)) if is_named(kind) and isinstance(value, str) else value
 
-    lists = {name: {"columns": [*form], "rows": [[value_of(kind, row.get(column)) for column, kind in form.items()]
-                                                 for row in result[name]]} for name, form in ROWS.items()}
+    lists = {name: said_once({column: [value_of(kind, row.get(column)) for row in result.get(name, ())]
+                              for column, kind in form.items()}) for name, form in ROWS.items()}
     return {"form": FORM, "capture": result["capture"], "names": [*names], **lists}
+
+
+def said_once(columns: dict[str, list]) -> dict[str, object]:
+    """Columns of a list, with one value in the place of those that all rows have, but for the first."""
+    first, *others = columns
+    return {first: columns[first], **{
+        name: columns[name][0] if columns[first] and columns[name].count(columns[name][0]) == len(columns[name])
+        else columns[name] for name in others}}
 
 
 class Rows(Sequence[dict]):
@@ -163,38 +187,63 @@ class Rows(Sequence[dict]):
     def __iter__(self) -> Iterator[dict]:
         return (dict(zip(self.columns, row)) for row in zip(*self.columns.values()))
 
-    def column(self, name: str) -> Iterable[object]:
-        return self.columns[name] if name in self.columns else repeat(None, self.amount)
+    def column(self, name: str) -> Sequence[object]:
+        return self.columns[name] if name in self.columns else [None] * self.amount
 
 
 class Unfolding:
-    """A file of form 2 that is unfolded to a result. What can't be is told by `why`."""
+    """A file of form 2 or 3 that is unfolded to a result. What can't be is told by `why`."""
 
-    def __init__(self, given: dict):
+    def __init__(self, given: dict, form: int):
         names = given.get("names")
         texts = names if isinstance(names, list) else []
-        self.are_texts = all(map(is_text, texts))
+        self.are_texts = are_texts(texts)
         self.names: dict[object, object] = {None: None, **dict(enumerate(texts))}
         self.why = None if isinstance(names, list) else "names is no list"
         self.right: set[str] = set()
-        self.result = {"capture": given.get("capture"), **{name: self.rows(name, given.get(name)) for name in ROWS}}
+        columns = self.of_rows if form == 2 else self.of_columns
+        self.result: dict = {"capture": given.get("capture")}
+        for name in ROWS:
+            is_there = name in given or name not in LATER
+            self.result[name] = self.rows(name, columns(name, given.get(name)) if is_there else {})
 
-    def rows(self, name: str, given: object) -> Sequence[dict]:
+    def of_columns(self, name: str, given: object) -> dict[str, Sequence[object]]:
+        """The columns of a list of form 3."""
+        if not isinstance(given, dict):
+            return self.refused(f"{name} is no object")
+        first, *others = ROWS[name]
+        if not isinstance(given.get(first), list):
+            return self.refused(f"{name}.{first} is no list")
+        amount = len(given[first])
+        there = {first: given[first]}
+        for column in others:
+            values = given.get(column)
+            there[column] = values if isinstance(values, list) else [values] * amount
+            if len(there[column]) != amount:
+                return self.refused(f"{name}.{column} has {len(there[column])} values for {amount} rows")
+        return there
+
+    def of_rows(self, name: str, given: object) -> dict[str, Sequence[object]]:
+        """The columns of a list of form 2."""
         columns, rows = (given.get("columns"), given.get("rows")) if isinstance(given, dict) else (None, None)
         if not isinstance(columns, list) or not isinstance(rows, list) or any(type(one) is not str for one in columns):
-            self.why = self.why or f"{name} has no columns and rows"
-            return []
+            return self.refused(f"{name} has no columns and rows")
         if {*map(type, rows)} - {list} or {*map(len, rows)} - {len(columns)}:
             at = next(at for at, row in enumerate(rows) if not isinstance(row, list) or len(row) != len(columns))
-            self.why = self.why or f"{name}.rows[{at}] is no row of {len(columns)} values"
-        if self.why:
-            return []
-        there: dict[str, Sequence[object]] = {
-            column: self.named(f"{name}.rows", column, values) if is_named(ROWS[name][column]) else values
-            for column, values in zip(columns, zip(*rows)) if column in ROWS[name]}
-        if all(self.is_right(kind, there.get(column, (None,))) for column, kind in ROWS[name].items()):
+            return self.refused(f"{name}.rows[{at}] is no row of {len(columns)} values")
+        return dict(zip(columns, zip(*rows)))
+
+    def refused(self, why: str) -> dict[str, Sequence[object]]:
+        self.why = self.why or why
+        return {}
+
+    def rows(self, name: str, columns: dict[str, Sequence[object]]) -> Sequence[dict]:
+        there = {column: self.named(name, column, columns[column]) if is_named(kind) else columns[column]
+                 for column, kind in ROWS[name].items() if column in columns}
+        amount = max(map(len, there.values()), default=0)
+        if not amount or all(self.is_right(kind, there.get(column, (None,))) for column, kind in ROWS[name].items()):
             self.right.add(name)
-        return Rows(there, len(rows) if there else 0)
+        return Rows(there if amount else {}, amount)
 
     def is_right(self, kind: Kind, values: Sequence[object]) -> bool:
         """Whether all are values of a kind. If each of `names` is a text, so is each value that comes from it."""
@@ -202,14 +251,14 @@ class Unfolding:
             return kind.may_lack or None not in values
         return kind.takes_all(values)
 
-    def named(self, where: str, column: str, places: Sequence[object]) -> Sequence[object]:
+    def named(self, name: str, column: str, places: Sequence[object]) -> Sequence[object]:
         """The texts of which the rows have the places in a column."""
         if {*map(type, places)} <= {int, NoneType}:
             with contextlib.suppress(KeyError):
                 return [*map(self.names.__getitem__, places)]
         at = next(at for at, place in enumerate(places)
                   if place is not None and (type(place) is not int or place not in self.names))
-        self.why = self.why or f"{where}[{at}].{column} is no place in names"
+        self.why = self.why or f"{name}[{at}].{column} is no place in names"
         return [None] * len(places)
 
 
@@ -219,8 +268,9 @@ def unfolded(given: object) -> tuple[dict, str | None]:
         return {}, "it is no object"
     form = given.get("form", 1)
     if form == 1:
-        return given, wrong(given)
-    if form != FORM:
+        result: dict = {**{name: [] for name in LATER}, **given}
+        return result, wrong(result)
+    if type(form) is not int or not 1 < form <= FORM:
         return {}, f"it is of form {form!a}, and not of form {FORM} or before"
-    unfolding = Unfolding(given)
+    unfolding = Unfolding(given, form)
     return unfolding.result, unfolding.why or wrong(unfolding.result, unfolding.right)

@@ -1,19 +1,19 @@
 """A lab: one file of SQLite, which results are loaded into."""
 
 import contextlib
-import functools
 import hashlib
 import json
 import os
 import pathlib
 import sqlite3
+import stat
 import time
-from collections.abc import Iterable, Iterator, Sequence
-from itertools import repeat
+from collections.abc import Iterator, Sequence
 from typing import NamedTuple
 
 from lab.form import CAPTURE, ROWS, Kind, Rows, unfolded
 from lab.result import LARGEST
+from lab.rows_in import Numbered, insert
 from viewer.files import Stopped
 
 FOLDER = pathlib.Path(__file__).resolve().parent
@@ -24,14 +24,31 @@ TABLES = {
     "defect": {"id": "key", "kind": "kind", "who": "who", "path": "path", "call": "call"},
     "found": {"defect": "key", "path": "own_path",
               **{name: name for name in ("verdict", "n", "n_all", "waiting", "rules", "age", "place", "note")}},
-    "talk": {name: name for name in ROWS["talk"]},
     "held": {name: name for name in ROWS["held"]}}
+
+
+class Split(NamedTuple):
+    """A list of results whose rows have much in common: `once` is the table that has this once, in the columns
+    `common`, and `table` has the rest of each row, with its number in a column that is called as `once`."""
+    once: str
+    table: str
+    common: tuple[str, ...]
+
+    def rest(self, name: str) -> list[str]:
+        return [column for column in ROWS[name] if column not in self.common]
+
+
+SPLIT = {"talk": Split("exchange", "sent", ("caller", "server", "interface", "method", "code", "call", "oneway")),
+         "times": Split("method", "took", ("server", "call"))}
+
+# The tables with rows of a capture.
+OF_CAPTURE = ("found", "held", *(split.table for split in SPLIT.values()))
 
 # How many results are loaded at a time: what is being loaded when a loader is killed is loaded again.
 AT_A_TIME = 500
 
-# The layout of a lab.
-LAYOUT = 1
+# The layout of a lab. One of an earlier layout can be read, and is changed to this one when results are loaded.
+LAYOUT = 2
 
 # How many seconds a loader waits for its turn.
 PATIENCE = 600
@@ -70,11 +87,12 @@ def strange_rows(table: str, kinds: dict[str, Kind], but: str | None) -> str:
         for column, name in TABLES[table].items() if column != but)
 
 
-def is_lab(lab: sqlite3.Connection) -> bool:
+def is_lab(lab: sqlite3.Connection, layout: int) -> bool:
     """Whether a database has the tables of a lab, and in its captures and defects what results have."""
     there = {name for name, in lab.execute("SELECT name FROM sqlite_schema WHERE type = 'table'")}
+    due = {*TABLES, *({"talk"} if layout == 1 else {name for split in SPLIT.values() for name in split[:2]})}
     but = "basis" if lacks_basis(lab) else None
-    return set(TABLES) <= there and not any(
+    return due <= there and not any(
         lab.execute(strange_rows(table, kinds, but)).fetchone()
         for table, kinds in (("capture", CAPTURE), ("defect", ROWS["found"])))
 
@@ -82,7 +100,7 @@ def is_lab(lab: sqlite3.Connection) -> bool:
 def refuse_other(lab: sqlite3.Connection, path: str) -> None:
     """Refuses a database that is no lab, so that nothing is put into one that is another program's."""
     layout, = lab.execute("PRAGMA user_version").fetchone()
-    if layout != LAYOUT or not is_lab(lab):
+    if not 0 < layout <= LAYOUT or not is_lab(lab, layout):
         raise Stopped(4, f"{path}: not a lab of this version")
 
 
@@ -91,11 +109,26 @@ def make(lab: sqlite3.Connection) -> None:
     may_be_read_while_written(lab)
     lab.execute("PRAGMA synchronous=NORMAL")
     lab.execute("BEGIN IMMEDIATE")
+    is_first, = lab.execute("SELECT count(*) FROM sqlite_schema WHERE (type, name) = ('table', 'talk')").fetchone()
+    if is_first:
+        lab.execute("ALTER TABLE talk RENAME TO talk_before")
     for statement in (FOLDER / "lab.sql").read_text("utf-8").split(";\n"):
         lab.execute(statement)
+    if is_first:
+        split_talk(lab)
     if lacks_basis(lab):
         lab.execute("ALTER TABLE capture ADD COLUMN basis TEXT")
     lab.execute("COMMIT")
+
+
+def split_talk(lab: sqlite3.Connection) -> None:
+    """Changes a lab of the first layout, which had who talks to whom as the results have it."""
+    into, names = Into(lab), [*ROWS["talk"]]
+    rows = lab.execute(f"SELECT capture, {', '.join(names)} FROM talk_before ORDER BY capture, rowid")
+    while some := rows.fetchmany(10_000):
+        captures, *columns = zip(*some)
+        into.put_split("talk", Rows(dict(zip(names, columns)), len(some)), captures)
+    lab.execute("DROP TABLE talk_before")
 
 
 def open_lab(path: str, may_make: bool = False) -> sqlite3.Connection:
@@ -146,42 +179,65 @@ def there(lab: sqlite3.Connection, digest: str) -> Made | None:
     return row and Made(*row)
 
 
-@functools.cache
-def insertion(table: str, how: str, more: tuple[str, ...]) -> str:
-    """The statement that puts a row into a table, which has these columns more."""
-    columns = *TABLES[table], *more
-    return f"{how} INTO {table}({', '.join(columns)}) VALUES ({', '.join('?' * len(columns))})"
-
-
-def insert(lab: sqlite3.Connection, table: str, given: Sequence[dict], how: str = "INSERT", **more: object) -> None:
-    """Puts what a result gives into a table, and these columns more."""
-    names, others = [*TABLES[table].values()], [*more.values()]
-    rows: Iterable[Sequence[object]]
+def columns_of(given: Sequence[dict], names: dict[str, str]) -> dict[str, Sequence[object]]:
+    """Columns of a list of a result, by the fields that fill them."""
     if isinstance(given, Rows):
-        rows = zip(*map(given.column, names), *(repeat(other, len(given)) for other in others))
-    else:
-        rows = ([*map(row.get, names), *others] for row in given)
-    lab.executemany(insertion(table, how, tuple(more)), rows)
+        return {column: given.column(name) for column, name in names.items()}
+    return {column: [row.get(name) for row in given] for column, name in names.items()}
+
+
+class Into:
+    """A lab that results are put into, in a transaction that `begin` begins."""
+
+    def __init__(self, lab: sqlite3.Connection):
+        self.lab = lab
+        self.once = {name: Numbered(lab, split.once, split.common) for name, split in SPLIT.items()}
+
+    def begin(self) -> None:
+        self.lab.execute("BEGIN IMMEDIATE")
+        self.read()
+
+    def read(self) -> None:
+        for table in self.once.values():
+            table.read()
+
+    def put_split(self, name: str, given: Sequence[dict], captures: Sequence[object]) -> None:
+        """Puts rows of a list that is split, of these captures."""
+        split = SPLIT[name]
+        common = columns_of(given, {column: column for column in split.common})
+        rest = columns_of(given, {column: column for column in split.rest(name)})
+        insert(self.lab, split.table, {"capture": captures, split.once: self.once[name].of(zip(*common.values())),
+                                       **rest})
+
+    def put(self, result: dict) -> None:
+        """Puts a result into the lab, in the place of another one of its capture."""
+        digest = result["capture"]["digest"]
+        for before in self.lab.execute("SELECT id FROM capture WHERE digest = ?", (digest,)).fetchall():
+            for table in OF_CAPTURE:
+                self.lab.execute(f"DELETE FROM {table} WHERE capture = ?", before)
+            self.lab.execute("DELETE FROM capture WHERE id = ?", before)
+        insert(self.lab, "capture", columns_of([result["capture"]], TABLES["capture"]))
+        number, = self.lab.execute("SELECT id FROM capture WHERE digest = ?", (digest,)).fetchone()
+        insert(self.lab, "defect", columns_of(result["found"], TABLES["defect"]), "INSERT OR IGNORE")
+        for name in "found", "held":
+            given = result[name]
+            insert(self.lab, name, {"capture": [number] * len(given), **columns_of(given, TABLES[name])})
+        for name in SPLIT:
+            given = result.get(name, ())
+            self.put_split(name, given, [number] * len(given))
 
 
 def put(lab: sqlite3.Connection, result: dict) -> None:
-    """Puts a result into the lab, in the place of another one of its capture."""
-    digest = result["capture"]["digest"]
-    for before in lab.execute("SELECT id FROM capture WHERE digest = ?", (digest,)).fetchall():
-        for table in ("found", "talk", "held"):
-            lab.execute(f"DELETE FROM {table} WHERE capture = ?", before)
-        lab.execute("DELETE FROM capture WHERE id = ?", before)
-    insert(lab, "capture", [result["capture"]])
-    number, = lab.execute("SELECT id FROM capture WHERE digest = ?", (digest,)).fetchone()
-    insert(lab, "defect", result["found"], "INSERT OR IGNORE")
-    for table in ("found", "talk", "held"):
-        insert(lab, table, result[table], capture=number)
+    """Puts a single result into a lab."""
+    into = Into(lab)
+    into.read()
+    into.put(result)
 
 
 def text_in(path: pathlib.Path) -> bytes:
     """What a file has, if it can be a result. A pipe is not waited for."""
     try:
-        if path.exists() and not path.is_file():
+        if not stat.S_ISREG(os.stat(path).st_mode):
             raise Stopped(4, f"{path}: it is no file")
         with open(path, "rb") as file:
             text = file.read(LARGEST + 1)
@@ -250,8 +306,9 @@ class Loaded:
         self.unread: list[str] = []
         self.moved: list[str] = []
 
-    def take(self, lab: sqlite3.Connection, one: Given) -> None:
+    def take(self, into: Into, one: Given) -> None:
         """Loads a result, if the lab has no better one of its capture."""
+        lab = into.lab
         has = there(lab, one.digest)
         if has is not None and not one.made.is_of(has):
             self.moved.append(f"{one.path} (build {has.build}, device {has.device})")
@@ -259,14 +316,14 @@ class Loaded:
         self.added, self.there = self.added + is_new, self.there + (not is_new)
         if one.result is not None:
             if is_new:
-                put(lab, one.result)
+                into.put(one.result)
             lab.execute("INSERT OR REPLACE INTO loaded(text, digest, made, failed, build, device)"
                         " VALUES (?, ?, ?, ?, ?, ?)", (one.text, one.digest, *one.made))
 
 
 def load(lab: sqlite3.Connection, paths: list[str]) -> Loaded:
     """Loads results, some at a time."""
-    loaded = Loaded()
+    loaded, into = Loaded(), Into(lab)
     files = list(results_in(paths, loaded.unread))
     for begin in range(0, len(files), AT_A_TIME):
         some = []
@@ -275,8 +332,8 @@ def load(lab: sqlite3.Connection, paths: list[str]) -> Loaded:
                 some.append(given_by(lab, path))
             except Stopped as stopped:
                 loaded.unread.append(str(stopped))
-        lab.execute("BEGIN IMMEDIATE")
+        into.begin()
         for one in some:
-            loaded.take(lab, one)
+            loaded.take(into, one)
         lab.execute("COMMIT")
     return loaded

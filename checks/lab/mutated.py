@@ -12,7 +12,7 @@ from typing import Iterator
 from checks.kit.checking import Fail, compare
 from checks.lab.played import played
 from lab import result
-from lab.form import ROWS
+from lab.form import LATER, ROWS, Unfolding
 from viewer.terminal import is_sign
 
 # Where a result has another value than one that it may have.
@@ -74,7 +74,7 @@ def by_rows(made: dict) -> dict:
 def mutated_results(good: dict, chance: random.Random, count: int) -> Iterator[bytes]:
     """So many results, each of a capture of its own and of one of a few builds."""
     for number in range(count):
-        made = copy.deepcopy(good) if number % 2 else json.loads(result.text_of(good))  # of form 1, and of form 2
+        made = copy.deepcopy(good) if number % 2 else json.loads(result.text_of(good))  # of form 1 and of form 3
         made["capture"] |= {"digest": f"{number:032x}", "build": f"b{number % 3}", "device": f"d{number % 5}"}
         if chance.random() < 0.05:
             yield chance.choice(TEXTS)
@@ -103,17 +103,34 @@ WRONG: tuple[tuple[Path, object, str], ...] = (
 NO_RESULTS = ((b"[" * 60_000, "it is no JSON"), (b"\xff", "it is no JSON"), (b"[]", "it is no object"),
               (b"", "it is no JSON"), (b" " * (2**20 + 1), "it has more than 1,048,576 bytes"))
 
-# The same of a file of form 2.
+# The same of a file of form 3, and of one of form 2.
 WRONG_FILES: tuple[tuple[Path, object, str], ...] = (
-    (("form",), 3, "it is of form 3, and not of form 2 or before"), (("form",), "2", "it is of form '2'"),
+    (("form",), 4, "it is of form 4, and not of form 3 or before"), (("form",), "2", "it is of form '2'"),
     (("names",), None, "names is no list"), (("names", 0), "\ud800", "found[0].kind is not a text"),
-    (("names", 0), 5, "found[0].kind is not a text"), (("talk",), [], "talk has no columns and rows"),
-    (("talk", "columns"), 5, "talk has no columns and rows"), (("talk", "columns", 0), [], "talk has no columns"),
-    (("held", "columns"), [], "held.rows[0] is no row of 0 values"), (("found", "rows", 0), [], "found.rows[0] is no"),
-    (("found", "rows", 0, 2), 99_999, "found.rows[0].kind is no place in names"),
-    (("found", "rows", 0, 2), -1, "found.rows[0].kind is no place in names"),
-    (("found", "rows", 0, 2), True, "found.rows[0].kind is no place in names"),
+    (("names", 0), 5, "found[0].kind is not a text"), (("talk",), [], "talk is no object"),
+    (("talk", "caller"), 5, "talk.caller is no list"), (("held", "refs"), [], "held.refs has 0 values for"),
+    (("talk", "sends"), {}, "talk[0].sends is not a whole number"),
+    (("talk", "bytes"), 2**63, "talk[0].bytes is not a whole number"),
+    (("found", "kind"), 99_999, "found[0].kind is no place in names"),
+    (("found", "kind"), -1, "found[0].kind is no place in names"),
+    (("found", "kind"), True, "found[0].kind is no place in names"),
+    (("found", "n"), None, "found[0].n is not a whole number"), (("times",), 5, "times is no object"),
+    (("found", "key", 0), 0, "found[0].key is not 16 hexadecimal digits"))
+WRONG_BEFORE: tuple[tuple[Path, object, str], ...] = (
+    (("talk",), [], "talk has no columns and rows"), (("talk", "columns"), 5, "talk has no columns and rows"),
+    (("talk", "columns", 0), [], "talk has no columns"),
+    (("held", "columns"), [], "held.rows[0] is no row of 0 values"),
+    (("found", "rows", 0), [], "found.rows[0] is no"),
+    (("found", "rows", 0, 2), 99_999, "found[0].kind is no place in names"),
     (("found", "rows", 0, 0), 0, "found[0].key is not 16 hexadecimal digits"))
+
+
+def of_form_2(good: dict) -> dict:
+    """A result as earlier versions wrote it, without times of methods."""
+    made = json.loads(result.text_of(good))
+    lists = {name: Unfolding(made, 3).of_columns(name, made[name]) for name in ROWS if name not in LATER}
+    return {**{name: made[name] for name in ("capture", "names")}, "form": 2,
+            **{name: {"columns": [*columns], "rows": [*zip(*columns.values())]} for name, columns in lists.items()}}
 
 
 def wrong_results(good: dict) -> Iterator[tuple[bytes, str]]:
@@ -123,10 +140,11 @@ def wrong_results(good: dict) -> Iterator[tuple[bytes, str]]:
         parent_of(made, path)[path[-1]] = value  # type: ignore[index]
         yield json.dumps(made).encode(), says
     yield json.dumps({**good, "found": [good["found"][0]] * 2}).encode(), "found has a key twice"
-    for path, value, says in WRONG_FILES:
-        made = json.loads(result.text_of(good))
-        parent_of(made, path)[path[-1]] = value  # type: ignore[index]
-        yield json.dumps(made).encode(), says
+    for wrong, file in (WRONG_FILES, json.loads(result.text_of(good))), (WRONG_BEFORE, of_form_2(good)):
+        for path, value, says in wrong:
+            made = json.loads(json.dumps(file))
+            parent_of(made, path)[path[-1]] = value
+            yield json.dumps(made).encode(), says
 
 
 def check_wrong(folder: pathlib.Path, room: pathlib.Path, good: dict, fail: Fail) -> None:
@@ -140,15 +158,18 @@ def check_wrong(folder: pathlib.Path, room: pathlib.Path, good: dict, fail: Fail
     os.mkfifo(results / "pipe.json")
     due["pipe.json"] = "it is no file"
     (results / "z.json").write_text(result.text_of(good), "utf-8")
-    # As an earlier version wrote it.
-    older = {**good, "capture": {**good["capture"], "digest": "0" * 32}}
-    (results / "older.json").write_text(json.dumps(older), "utf-8")
+    # As earlier versions wrote it.
+    older, before = ({**good, "capture": {**good["capture"], "digest": sign * 32}} for sign in "01")
+    (results / "older.json").write_text(json.dumps({name: older[name] for name in older if name not in LATER}), "utf-8")
+    (results / "before.json").write_text(json.dumps(of_form_2(before)), "utf-8")
     status, out, err = played(folder / "fleet", "load", room / "wrong.db", results)
-    compare("wrong results: status, output", (status, out), (4, "2 added, 0 there already\n"), fail)
-    compare("an older result", *(sqlite3.connect(room / "wrong.db").execute(
-        "SELECT count(*), sum(n), sum(length(kind)), sum(length(f.path)) FROM found f JOIN defect d ON d.id = f.defect"
-        " JOIN capture c ON c.id = f.capture WHERE c.digest = ?", (of["capture"]["digest"],)).fetchone()
-        for of in (older, good)), fail)
+    compare("wrong results: status, output", (status, out), (4, "3 added, 0 there already\n"), fail)
+    for old in older, before:
+        compare("an older result", *(sqlite3.connect(room / "wrong.db").execute(
+            "SELECT count(*), sum(n), sum(length(kind)), sum(length(f.path)), (SELECT sum(sends) FROM talk t"
+            " WHERE t.capture = c.id) FROM found f JOIN defect d ON d.id = f.defect"
+            " JOIN capture c ON c.id = f.capture WHERE c.digest = ?", (of["capture"]["digest"],)).fetchone()
+            for of in (old, good)), fail)
     lines = err.splitlines()
     compare("wrong results: lines", len(lines), len(due), fail)
     for name, says in due.items():
