@@ -13,6 +13,7 @@ from checks.kit.checking import Fail, compare
 from checks.lab.models import ALIKE, PLANTED, Model, made
 from checks.lab.played import played
 from checks.viewer.page.browser import Driven, PARTS, check_looks, check_plain, check_widths
+from checks.viewer.page.paper import check_paper
 from lab.compare import Enough
 from lab.known_until import Known
 from lab.page import page
@@ -140,6 +141,7 @@ def check_browser(room: pathlib.Path, fail: Fail) -> str:
     with Browser() as browser:
         check_looks(browser, room / "lab.html", room, "latest", fail, DrivenLab, PARTS)
         check_widths(browser, room / "lab.html", fail)
+        check_paper(browser, room / "lab.html", fail)
         check_plain(browser, room / "lab.html", fail)
         compare("errors of the script", browser.errors, [], fail)
     return str(room)

@@ -39,7 +39,8 @@ def printed(browser: Browser, to: pathlib.Path, paper: tuple[float, float]) -> s
 
 def check_paper(browser: Browser, page: pathlib.Path, fail: Fail) -> None:
     """All that the page has is on paper, whichever tab is shown; and afterwards the window is as before."""
-    browser.show(page, "rules")
+    browser.show(page)
+    browser.show(page, browser.js("[...document.querySelectorAll('section.tab')].at(-1).id"))
     shown = "[...document.querySelectorAll('details[open], section.tab:not([hidden])')].map(one => one.id)"
     rows = "document.querySelectorAll('table.sorted > tbody > tr:not([hidden])').length"
     before = browser.js(f"[{shown}, {rows}]")

@@ -8,6 +8,7 @@ const labelRow = (row, heads) => [...row.cells].forEach((cell, at) => {
   if (cell.colSpan > 1) return;
   cell.dataset.head = heads[at] ?? '';
   cell.classList.toggle('short', lineOf(cell).length <= SHORT);
+  cell.classList.toggle('alone', !lineOf(cell));  // as a picture
 });
 const headsOf = table => [...table.tHead?.rows[0]?.cells ?? []].map(head => lineOf(head.querySelector('button') ?? head));
 
