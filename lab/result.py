@@ -31,6 +31,15 @@ GROUP BY 1 ORDER BY buffers_most + refs_most DESC
 """
 TALK = "SELECT * FROM talk ORDER BY sends DESC, caller, server, call"
 
+# How long the calls of each method took, as medians: how long they waited for a thread, and its own work. Of several
+# processes of a program it is the one that got most of them.
+TIMES = """
+SELECT server, call, calls, queue, work FROM (
+    SELECT p.program || ' on ' || p.device AS server, m.call, m.calls, m.queue_median AS queue, m.work_median AS work,
+      row_number() OVER (PARTITION BY p.program, p.device, m.call ORDER BY m.calls DESC, m.server_upid) AS nth
+    FROM method_time m JOIN program p ON p.upid = m.server_upid WHERE m.client_upid IS NULL)
+WHERE nth = 1 ORDER BY calls DESC, server, call"""
+
 
 def short(value: object) -> object:
     return f"{value[:LONGEST]}…" if isinstance(value, str) and len(value) > LONGEST else value
@@ -65,7 +74,7 @@ def summary(database: sqlite3.Connection) -> dict:
     """The result of a database of `./view`, without what only the caller knows."""
     found = [{name: short(value) for name, value in it._asdict().items()} for it in defects_of(database).values()]
     return bounded({"capture": about(facts_of(database)), "found": found, "talk": rows(database, TALK),
-                    "held": rows(database, HELD)})
+                    "held": rows(database, HELD), "times": rows(database, TIMES)})
 
 
 def text_of(result: dict) -> str:
@@ -79,23 +88,23 @@ def fits(result: dict) -> bool:
 
 
 # The lists of a result, in the order in which their rows are left out last.
-LISTS = ("found", "held", "talk")
+LISTS = ("found", "held", "times", "talk")
 
 
 def first_rows(result: dict, count: int) -> dict:
     """The result with so many rows of all lists. `left_out` counts the others."""
     kept, left = {}, count
     for name in LISTS:
-        kept[name] = result[name][:left]
+        kept[name] = result.get(name, [])[:left]
         left -= len(kept[name])
-    left_out = sum(len(result[name]) for name in LISTS) - count + left
+    left_out = sum(len(result.get(name, [])) for name in LISTS) - count + left
     return {**result, **kept, "capture": {**result["capture"], "left_out": left_out}}
 
 
 def bounded(result: dict) -> dict:
-    """The result without its last rows, if it is too long: who talks to whom goes first, then what is held, then the
-    weakest defects."""
-    fewest, most = 0, sum(len(result[name]) for name in LISTS)
+    """The result without its last rows, if it is too long: who talks to whom goes first, then times of methods, then
+    what is held, then the weakest defects."""
+    fewest, most = 0, sum(len(result.get(name, [])) for name in LISTS)
     if fits(whole := first_rows(result, most)):
         return whole
     while most - fewest > 1:
@@ -106,7 +115,7 @@ def bounded(result: dict) -> dict:
 
 def failed(why: str) -> dict:
     """The result of a capture that can't be viewed."""
-    return {"capture": {"failed": short(why), "left_out": 0}, "found": [], "talk": [], "held": []}
+    return {"capture": {"failed": short(why), "left_out": 0}, **{name: [] for name in LISTS}}
 
 
 def write(result: dict, path: pathlib.Path) -> None:
