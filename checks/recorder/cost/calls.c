@@ -86,7 +86,7 @@ static void client(void) { at_depth(DEPTH, work); }
 
 int main(int words, char **word)
 {
-	shared = mmap(NULL, SHARED_SIZE, PROT_READ | PROT_WRITE, MAP_SHARED | MAP_ANONYMOUS, -1, 0);
+	share_memory();
 	if (words < 3 || shared == MAP_FAILED) return 64;
 	bytes = strtoul(word[1], NULL, 10), count = atol(word[2]);
 	if (words > 3) rate = atol(word[3]);

@@ -28,6 +28,7 @@ from checks.recorder.phone import play
 
 PHONE = CHECKS / "recorder/phone"
 POLICY = PHONE / "one_domain.cil"
+WITH_NAMES = [*RAW, SCENARIOS / "service.c", SCENARIOS / "names.c"]
 
 
 class Kind(NamedTuple):
@@ -91,10 +92,8 @@ def system_files(machine: Machine) -> Files:
 def programs_for(machine: Machine, room: pathlib.Path) -> Files:
     made = room / f"phone-{machine.architecture}"
     made.mkdir(exist_ok=True)
-    for name, sources in (("system", ["system", "names"]), ("service", ["service", "names"]), ("su", ["su"])):
-        more = [] if name == "su" else RAW
-        compiled(machine, made / name, "-static", f"-I{SCENARIOS}", *(PHONE / f"{source}.c" for source in sources),
-                 *more)
+    for name, more in (("system", WITH_NAMES), ("service", WITH_NAMES), ("su", [])):
+        compiled(machine, made / name, "-static", f"-I{SCENARIOS}", PHONE / f"{name}.c", *more)
     return {"system-programs/system": made / "system", "system-programs/service": made / "service",
             "su/su": made / "su"}
 

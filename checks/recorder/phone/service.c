@@ -2,23 +2,9 @@
  * this name does on Android. */
 #include <stdio.h>
 #include <string.h>
-#include <sys/mman.h>
 #include "names.h"
 
 static struct exchange *exchange;
-
-static uint32_t check_service(const char *name)
-{
-	transaction reply;
-	struct parcel parcel = parcel_of_manager();
-	put_string(&parcel, name);
-	if (send_parcel(exchange, MANAGER, CHECK_SERVICE, 0, &parcel, &reply) != BR_REPLY) fail("check");
-	uint32_t handle = handle_in(&reply);
-	if (handle) number_command(exchange, BC_ACQUIRE, handle);
-	free_buffer(exchange, &reply);
-	turn(exchange, false);
-	return handle;
-}
 
 static void interface_of(uint32_t handle, char *interface)
 {
@@ -36,8 +22,8 @@ int main(int words, char **word)
 	uint32_t count;
 	struct parcel parcel = parcel_of_manager();
 	char name[MOST_NAME_BYTES], interface[MOST_NAME_BYTES];
-	shared = mmap(NULL, SHARED_SIZE, PROT_READ | PROT_WRITE, MAP_SHARED | MAP_ANONYMOUS, -1, 0);
-	if (words != 2 || strcmp(word[1], "list") || shared == MAP_FAILED) return 64;
+	if (words != 2 || strcmp(word[1], "list")) return 64;
+	share_memory();
 	exchange = opened("binder");
 	put_number(&parcel, 15);		/* of all priorities */
 	if (send_parcel(exchange, MANAGER, LIST_SERVICES, 0, &parcel, &reply) != BR_REPLY) fail("list");
@@ -46,7 +32,7 @@ int main(int words, char **word)
 	size_t at = 8;
 	for (uint32_t i = 0; i < count; i++) {
 		at = string_at(&reply, at, name);
-		interface_of(check_service(name), interface);
+		interface_of(look_up_named(exchange, name), interface);
 		printf("%u\t%s: [%s]\n", i, name, interface);
 	}
 	return 0;

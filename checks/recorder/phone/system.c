@@ -4,13 +4,11 @@
 #define _GNU_SOURCE
 #include <stdio.h>
 #include <string.h>
-#include <sys/ioctl.h>
-#include <sys/mman.h>
 #include <sys/statvfs.h>
 #include <unistd.h>
 #include "names.h"
 
-enum { ECHO = 1, KEEP };
+enum { KEEP = 2 };
 
 static const struct service {
 	const char *process, *name, *interface;
@@ -33,26 +31,7 @@ static void answer(struct exchange *exchange, transaction *delivered, const stru
 
 /* ---- the manager */
 
-static struct { char name[MOST_NAME_BYTES]; uint32_t handle; } kept[SERVICES];
-static uint32_t count;
-
-static uint32_t handle_of(const char *name)
-{
-	for (uint32_t i = 0; i < count; i++)
-		if (!strcmp(kept[i].name, name)) return kept[i].handle;
-	return 0;
-}
-
-static void keep(struct exchange *exchange, const char *name, uint32_t handle)
-{
-	if (count == SERVICES) fail("too many services");
-	strcpy(kept[count].name, name);
-	kept[count++].handle = handle;
-	number_command(exchange, BC_ACQUIRE, handle);
-	shared->ready++;
-}
-
-static void manage(struct exchange *exchange, transaction *delivered)
+static void manage_names(struct exchange *exchange, transaction *delivered)
 {
 	struct parcel parcel = {0};
 	char name[MOST_NAME_BYTES];
@@ -60,41 +39,27 @@ static void manage(struct exchange *exchange, transaction *delivered)
 	put_number(&parcel, 0);			/* no exception */
 	switch (delivered->code) {
 	case ADD_SERVICE:
-		keep(exchange, name, handle_in(delivered));
+		keep_handle(exchange, name, handle_in(delivered));
 		break;
 	case LIST_SERVICES:
-		put_number(&parcel, count);
-		for (uint32_t i = 0; i < count; i++) put_string(&parcel, kept[i].name);
+		put_names_kept(&parcel);
 		break;
 	default:
-		put_flat(&parcel, handle_of(name) ? BINDER_TYPE_HANDLE : BINDER_TYPE_BINDER, handle_of(name), 0, 0x7f);
+		put_flat(&parcel, handle_kept(name) ? BINDER_TYPE_HANDLE : BINDER_TYPE_BINDER, handle_kept(name), 0,
+			 0x7f);
 		put_number(&parcel, 0xc);	/* how stable it is */
 	}
 	answer(exchange, delivered, &parcel);
 	free_buffer(exchange, delivered);
 }
 
-static void serve_with(struct exchange *exchange)
-{
-	command(exchange, BC_ENTER_LOOPER, NULL);
-	turn(exchange, false);
-	shared->ready++;
-	serve_forever(exchange);
-}
-
-static void manager(void)
-{
-	struct exchange *exchange = opened("binder");
-	if (ioctl(exchange->opening->descriptor, BINDER_SET_CONTEXT_MGR, 0) < 0) fail("context manager");
-	exchange->opening->serve = manage;
-	serve_with(exchange);
-}
+static void manager_of_names(void) { manage_with("binder", 0, manage_names); }
 
 /* ---- the services */
 
 static const struct service *own;
 
-static void serve(struct exchange *exchange, transaction *delivered)
+static void serve_one(struct exchange *exchange, transaction *delivered)
 {
 	struct parcel parcel = {0};
 	if (delivered->code == INTERFACE_TRANSACTION) put_string(&parcel, own->interface);
@@ -102,36 +67,23 @@ static void serve(struct exchange *exchange, transaction *delivered)
 	if (delivered->code != KEEP || own != &services[NOTES]) free_buffer(exchange, delivered);
 }
 
-static void service(void)
+static void be_service(void)
 {
 	struct exchange *exchange = opened("binder");
 	struct parcel parcel = parcel_of_manager();
-	exchange->opening->serve = serve;
+	exchange->opening->serve = serve_one;
 	put_string(&parcel, own->name);
 	put_flat(&parcel, BINDER_TYPE_BINDER, 0x1000, 0x2000, 0x7f | FLAT_BINDER_FLAG_ACCEPTS_FDS);
 	put_number(&parcel, 0xc);
 	put_number(&parcel, 0);			/* not for isolated processes */
 	put_number(&parcel, 8);			/* when it is dumped */
 	if (send_parcel(exchange, MANAGER, ADD_SERVICE, 0, &parcel, NULL) != BR_REPLY) fail("register");
-	serve_with(exchange);
+	ready_to_serve(exchange);
 }
 
 /* ---- the app: as on Android, a process of a user of its own */
 
 enum { USER = 10123 };
-
-static uint32_t look_up(struct exchange *exchange, const char *name)
-{
-	transaction reply;
-	struct parcel parcel = parcel_of_manager();
-	put_string(&parcel, name);
-	if (send_parcel(exchange, MANAGER, CHECK_SERVICE, 0, &parcel, &reply) != BR_REPLY) fail("look up");
-	uint32_t handle = handle_in(&reply);
-	number_command(exchange, BC_ACQUIRE, handle);
-	free_buffer(exchange, &reply);
-	turn(exchange, false);
-	return handle;
-}
 
 static void ask(struct exchange *exchange, uint32_t handle, const struct service *it, uint32_t code, size_t extra)
 {
@@ -146,7 +98,7 @@ static void app(void)
 	if (setresgid(USER, USER, USER) || setresuid(USER, USER, USER)) fail("the user of the app");
 	struct exchange *exchange = opened("binder");
 	uint32_t handles[SERVICES];
-	for (int i = 0; i < SERVICES; i++) handles[i] = look_up(exchange, services[i].name);
+	for (int i = 0; i < SERVICES; i++) handles[i] = look_up_named(exchange, services[i].name);
 	shared->ready++;
 	for (uint32_t round = 0;; round++) {
 		for (int i = 0; i < SERVICES; i++) ask(exchange, handles[i], services + i, ECHO, 4);
@@ -157,11 +109,11 @@ static void app(void)
 
 static void begin_system(void)
 {
-	start("servicemanager", manager);
+	start("servicemanager", manager_of_names);
 	wait_until(&shared->ready, 1);
 	for (int i = 0; i < SERVICES; i++) {
 		own = services + i;
-		start(own->process, service);
+		start(own->process, be_service);
 		wait_until(&shared->ready, 3 + 2 * i);
 	}
 	start("org.example.app", app);
@@ -185,15 +137,14 @@ static bool is_full(const char *folder)
 static void fill(const char *folder)
 {
 	struct exchange *exchange = opened("binder");
-	uint32_t handle = look_up(exchange, services[0].name);
+	uint32_t handle = look_up_named(exchange, services[0].name);
 	while (!is_full(folder)) ask(exchange, handle, services, ECHO, 512);
 	for (int i = 0; i < LONGER; i++) ask(exchange, handle, services, ECHO, 512);
 }
 
 int main(int words, char **word)
 {
-	shared = mmap(NULL, SHARED_SIZE, PROT_READ | PROT_WRITE, MAP_SHARED | MAP_ANONYMOUS, -1, 0);
-	if (shared == MAP_FAILED) fail("mmap");
+	share_memory();
 	if (words > 2 && !strcmp(word[1], "fill")) fill(word[2]);
 	else begin_system();
 }

@@ -10,7 +10,6 @@
 #include "service.h"
 #include "scenarios.h"
 
-#define PAGE 4096u
 #define COMMAND 8u		/* bytes of BC_INCREFS and of BC_DECREFS */
 
 /* Two pages of which only the first one is there. Returns where that one ends. */
@@ -56,7 +55,7 @@ static void cutting_client(void)
 	ready_to_rest(exchange);
 }
 
-static void cut(void) { play("client", cutting_client); }
+static void cut(void) { play(cutting_client); }
 
 /* ---- unwritten: a write of which the driver can't tell how much it consumed */
 
@@ -74,7 +73,7 @@ static void unwritable_client(void)
 	ready_to_rest(exchange);
 }
 
-static void unwritten(void) { play("client", unwritable_client); }
+static void unwritten(void) { play(unwritable_client); }
 
 /* ---- outsider: a service of which no thread says that it takes calls. The driver in C hands a call to any thread that
  * reads, and the one in Rust to none. It reads again and again without waiting, also into room for a code word
@@ -109,10 +108,8 @@ static void outsider(void)
 	rest();
 }
 
-static void hopeful_client(void)
+static void hopeful_client(struct exchange *exchange, uint32_t handle)
 {
-	struct exchange *exchange = opened("binder");
-	uint32_t handle = look_up(exchange);
 	queue_send(exchange, handle, ECHO, 0, NULL);
 	receive(exchange);
 	receive(exchange);
@@ -122,8 +119,9 @@ static void hopeful_client(void)
 static void outsiders(void)
 {
 	manager_and_service("outsider", outsider);
-	start("client", hopeful_client);
+	start_client("client", hopeful_client);
 	wait_until(&shared->resting, 1);
 }
 
-const struct scenario apart_scenarios[] = {{"cut", cut}, {"unwritten", unwritten}, {"outsider", outsiders}, {0}};
+const struct scenario apart_scenarios[] = {
+	{"cut", .run = cut}, {"unwritten", .run = unwritten}, {"outsider", .run = outsiders}, {0}};

@@ -7,7 +7,6 @@
  * for a page: a file of a file system of its own, or a page that is not there yet. */
 #define _GNU_SOURCE
 #include <errno.h>
-#include <fcntl.h>
 #include <grp.h>
 #include <linux/userfaultfd.h>
 #include <stdio.h>
@@ -15,7 +14,6 @@
 #include <sys/ioctl.h>
 #include <sys/mman.h>
 #include <sys/stat.h>
-#include <sys/syscall.h>
 #include <unistd.h>
 #include "service.h"
 #include "scenarios.h"
@@ -25,7 +23,6 @@ enum {
 	TIMES = 12,			/* how many writes are changed */
 	ATTACHED = 64,			/* sends of a write of which the recorder takes the data */
 	AFTER = 50,			/* calls of the client after the last change */
-	PAGE = 4096,
 	UNKNOWN = 127,			/* the number of no command */
 };
 
@@ -36,19 +33,6 @@ static uint8_t *late;			/* the page that the driver waits for */
 static uint8_t *place;			/* in the write: where it is changed, */
 static uint32_t before[2], after[2];	/* from these words to those */
 static char sent_data[64];
-
-static void *page_of_userfaultfd(void)
-{
-	struct uffdio_api api = {.api = UFFD_API};
-	struct uffdio_register page = {.range.len = PAGE, .mode = UFFDIO_REGISTER_MODE_MISSING};
-	void *there = mmap(NULL, PAGE, PROT_READ | PROT_WRITE, MAP_PRIVATE | MAP_ANONYMOUS, -1, 0);
-	page.range.start = (uintptr_t)there;
-	faults = syscall(SYS_userfaultfd, O_CLOEXEC);
-	if (there == MAP_FAILED || faults < 0 || ioctl(faults, UFFDIO_API, &api) < 0 ||
-	    ioctl(faults, UFFDIO_REGISTER, &page) < 0)
-		fail("changing: userfaultfd");
-	return there;
-}
 
 /* Changes the write when the driver waits for the page, and then gives it the page. */
 static void *change_when_awaited(void *unused)
@@ -69,7 +53,7 @@ static void *change_when_awaited(void *unused)
 /* Root opens the page, as newer kernels let nobody else; from then on the process has no rights. */
 static struct exchange *without_rights(void)
 {
-	late = page_of_userfaultfd();
+	late = awaited_page(&faults);
 	if (setgroups(0, NULL) || setresgid(USER, USER, USER) || setresuid(USER, USER, USER)) fail("changing: user");
 	struct exchange *exchange = opened("binder");
 	start_thread(change_when_awaited, NULL);
@@ -132,32 +116,33 @@ static void changing_inside(void)
 
 /* ---- the others */
 
-static void client(void)
+static void steady_client(struct exchange *exchange, uint32_t handle)
 {
-	struct exchange *exchange = opened("binder");
 	struct parcel parcel = {.size = 200};
-	uint32_t handle = look_up(exchange);
 	shared->ready++;
 	for (int after_it = 0; after_it < AFTER; after_it += shared->stage)
 		if (send_parcel(exchange, handle, ECHO, 0, &parcel, NULL) != BR_REPLY) fail("changing: a call");
 	let_go(exchange, handle);
-	ready_to_rest(exchange);
 }
 
-static void later(void) { call_and_rest(AFTER); }
+static void later(struct exchange *exchange, uint32_t handle)
+{
+	calls(exchange, handle, ECHO, AFTER);
+	let_go(exchange, handle);
+}
 
 static void beside_clients(void (*changing)(void))
 {
 	if (chmod("/dev/binder", 0666)) fail("changing: chmod");	/* as in Android */
 	manager_and_service("service", service);
-	start_ready("client", client);
+	start_ready_client("client", steady_client);
 	start("changing", changing);
 	wait_until(&shared->resting, 2);
-	run_to_rest(1, "later", later);
+	clients_to_rest(1, "later", later);
 }
 
 static void changed_record(void) { beside_clients(changing_record); }
 static void changed_inside(void) { beside_clients(changing_inside); }
 
 const struct scenario changing_scenarios[] = {
-	{"changed-record", changed_record}, {"changed-inside", changed_inside}, {0}};
+	{"changed-record", .run = changed_record}, {"changed-inside", .run = changed_inside}, {0}};

@@ -77,4 +77,4 @@ static void watchers(void)
 	wait_until(&shared->resting, WATCHERS + (shared->freezes > 0));
 }
 
-const struct scenario frozen_scenarios[] = {{"watchers", watchers}, {0}};
+const struct scenario frozen_scenarios[] = {{"watchers", .run = watchers}, {0}};

@@ -1,4 +1,5 @@
-/* The manager's data: see names.h. */
+/* Names of services: see names.h. */
+#include <stdio.h>
 #include <string.h>
 #include "names.h"
 
@@ -45,4 +46,47 @@ size_t string_at(const transaction *delivered, size_t at, char *to)
 	for (uint32_t i = 0; i < length; i++) to[i] = (char)data[sizeof length + 2 * i];
 	to[length] = 0;
 	return at + sizeof length + (2 * length + 2 + 3) / 4 * 4;
+}
+
+/* ---- the manager */
+
+enum { MOST_SERVICES = 8 };
+static struct { char name[MOST_NAME_BYTES]; uint32_t handle; } kept[MOST_SERVICES];
+static uint32_t count;
+
+uint32_t handle_kept(const char *name)
+{
+	for (uint32_t i = 0; i < count; i++)
+		if (!strcmp(kept[i].name, name)) return kept[i].handle;
+	return 0;
+}
+
+void keep_handle(struct exchange *exchange, const char *name, uint32_t handle)
+{
+	if (count == MOST_SERVICES) fail("too many services");
+	snprintf(kept[count].name, sizeof kept[count].name, "%s", name);
+	kept[count++].handle = handle;
+	number_command(exchange, BC_ACQUIRE, handle);
+	shared->ready++;
+}
+
+void put_names_kept(struct parcel *parcel)
+{
+	put_number(parcel, count);
+	for (uint32_t i = 0; i < count; i++) put_string(parcel, kept[i].name);
+}
+
+/* ---- who asks it */
+
+uint32_t look_up_named(struct exchange *exchange, const char *name)
+{
+	transaction reply;
+	struct parcel parcel = parcel_of_manager();
+	put_string(&parcel, name);
+	if (send_parcel(exchange, MANAGER, CHECK_SERVICE, 0, &parcel, &reply) != BR_REPLY) fail("check");
+	uint32_t handle = handle_in(&reply);
+	if (handle) number_command(exchange, BC_ACQUIRE, handle);
+	free_buffer(exchange, &reply);
+	turn(exchange, false);
+	return handle;
 }
