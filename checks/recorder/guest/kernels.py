@@ -136,7 +136,7 @@ def kernel_of(series: str, machine: Machine) -> Kernel:
 
 def check_tools(machine: Machine) -> None:
     """What it takes to boot a guest of a machine, and to build for it."""
-    needs({"xz": "xz-utils", "zstd": "zstd", "readelf": "binutils", "gcc": "gcc"})
+    needs({"cpio": "cpio", "xz": "xz-utils", "zstd": "zstd", "readelf": "binutils", "gcc": "gcc"})
     if machine.name == "x86_64":
         needs({"qemu-system-x86_64": "qemu-system-x86", "busybox": "busybox-static"})
     else:
