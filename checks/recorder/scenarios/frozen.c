@@ -5,7 +5,9 @@
 #include "service.h"
 #include "scenarios.h"
 
-enum watcher { ACKNOWLEDGES, ACKNOWLEDGES_TOO, KEEPS, LETS_GO, CLEARS, CLEARS_UNACKNOWLEDGED, WATCHERS };
+enum { ACKNOWLEDGES, ACKNOWLEDGES_TOO, KEEPS, LETS_GO, CLEARS, CLEARS_UNACKNOWLEDGED, WATCHERS };
+static const char *const names[WATCHERS] = {"acknowledges", "too", "keeps", "lets-go", "clears", "unacknowledged"};
+static int which;
 
 #define CHANGES 4	/* how often the service is frozen or thawed */
 
@@ -18,11 +20,10 @@ static bool request(const struct exchange *exchange, const struct binder_handle_
 	return hand_over(exchange->opening, bytes, sizeof bytes) == sizeof bytes;
 }
 
-static void watching(enum watcher which)
+static void watching(struct exchange *exchange, uint32_t handle)
 {
-	struct exchange *exchange = opened("binder");
 	struct opening *opening = exchange->opening;
-	struct binder_handle_cookie asked = {look_up(exchange), 0xf000 + which};
+	struct binder_handle_cookie asked = {handle, 0xf000 + which};
 	opening->keeps_freezes = which == KEEPS || which == LETS_GO || which == CLEARS_UNACKNOWLEDGED;
 	enter_loop(exchange);
 	if (request(exchange, &asked)) {
@@ -39,15 +40,7 @@ static void watching(enum watcher which)
 		if (which != LETS_GO) calls(exchange, asked.handle, ECHO, 3);
 	} else
 		shared->ready++;
-	ready_to_rest(exchange);
 }
-
-static void acknowledges(void) { watching(ACKNOWLEDGES); }
-static void acknowledges_too(void) { watching(ACKNOWLEDGES_TOO); }
-static void keeps(void) { watching(KEEPS); }
-static void lets_go(void) { watching(LETS_GO); }
-static void clears(void) { watching(CLEARS); }
-static void clears_unacknowledged(void) { watching(CLEARS_UNACKNOWLEDGED); }
 
 static void freezer(void)
 {
@@ -66,12 +59,7 @@ static void freezer(void)
 static void watchers(void)
 {
 	manager_and_service("service", service);
-	start("acknowledges", acknowledges);
-	start("too", acknowledges_too);
-	start("keeps", keeps);
-	start("lets-go", lets_go);
-	start("clears", clears);
-	start("unacknowledged", clears_unacknowledged);
+	for (which = 0; which < WATCHERS; which++) start_client(names[which], watching);
 	wait_until(&shared->ready, 2 + WATCHERS);
 	if (shared->freezes) start("freezer", freezer);
 	wait_until(&shared->resting, WATCHERS + (shared->freezes > 0));
