@@ -28,6 +28,18 @@ static void count(const void *message, u64 bytes)
 	seen += bytes;
 }
 
+/* Runs a program, and hears what it puts into the ring. Returns what it returns. */
+static u32 run_program(const struct bpf_program *played, void (*hear)(const void *, u64), const char *what)
+{
+	LIBBPF_OPTS(bpf_test_run_opts, run);
+	int error = bpf_prog_test_run_opts(bpf_program__fd(played), &run);
+	if (error)
+		fail("%s: the program does not run: error %d", what, error);
+	while (hear && ring_drain(&ring, hear) > 0)
+		continue;
+	return run.retval;
+}
+
 static void *memory(u64 bytes)
 {
 	u8 *made = mmap(NULL, bytes, PROT_READ | PROT_WRITE, MAP_PRIVATE | MAP_ANONYMOUS | MAP_POPULATE, -1, 0);
@@ -76,14 +88,11 @@ static void measure(const char *what, const struct bpf_program *measured, u32 ro
 {
 	u64 *took = allocate(rounds * sizeof *took);
 	for (u32 i = 0; i < rounds; i++) {
-		LIBBPF_OPTS(bpf_test_run_opts, run);
 		seen = 0;
-		int error = bpf_prog_test_run_opts(bpf_program__fd(measured), &run);
-		while (ring_drain(&ring, count) > 0)
-			continue;
-		if (error || program->bss->reason_of_loss || run.retval != attachments || seen < bytes)
-			fail("%s: error %d, loss %u, %u attachments, %llu bytes", what, error,
-			     program->bss->reason_of_loss, run.retval, (unsigned long long)seen);
+		u32 came = run_program(measured, count, what);
+		if (program->bss->reason_of_loss || came != attachments || seen < bytes)
+			fail("%s: loss %u, %u attachments, %llu bytes", what, program->bss->reason_of_loss, came,
+			     (unsigned long long)seen);
 		took[i] = program->bss->took;
 	}
 	tell_times(what, took, rounds);
@@ -139,11 +148,8 @@ static void count_chunks(const void *message, u64 bytes)
 
 static void run(const struct bpf_program *played)
 {
-	LIBBPF_OPTS(bpf_test_run_opts, options);
-	if (bpf_prog_test_run_opts(bpf_program__fd(played), &options) || options.retval)
-		fail("a program does not run");
-	while (ring_drain(&ring, hear) > 0)
-		continue;
+	if (run_program(played, hear, "a write"))
+		fail("a write: the program fails");
 }
 
 /* Each attachment comes, whole, once and in the right run. */
@@ -182,9 +188,8 @@ static void play_full_ring(const u8 *data, u8 *returns)
 	program->bss->returns_bytes = RECORD;
 	chunks = others = 0;
 	for (int i = 0; i < READS; i++) {
-		LIBBPF_OPTS(bpf_test_run_opts, options);
-		if (bpf_prog_test_run_opts(bpf_program__fd(program->progs.measure_return), &options) ||
-		    program->bss->reason_of_loss)
+		run_program(program->progs.measure_return, NULL, "a read");
+		if (program->bss->reason_of_loss)
 			fail("read %d: its frame is lost", i);
 	}
 	while (ring_drain(&ring, count_chunks) > 0)
@@ -206,14 +211,9 @@ static void hear_small(const void *message, u64 bytes)
 
 static u32 run_small(const struct bpf_program *played, u64 bytes)
 {
-	LIBBPF_OPTS(bpf_test_run_opts, options);
 	program->bss->returns_bytes = bytes;
 	small_bytes = 0;
-	if (bpf_prog_test_run_opts(bpf_program__fd(played), &options))
-		fail("a program does not run");
-	while (ring_drain(&ring, hear_small) > 0)
-		continue;
-	return options.retval;
+	return run_program(played, hear_small, "a small frame");
 }
 
 /* Where the piece of this record must be, with its bytes; returns where the next one is. */
@@ -339,12 +339,8 @@ static void hear_line(const void *message, u64 bytes)
 /* Looks at the command line of this process. */
 static void look(const char *what, const char *due)
 {
-	LIBBPF_OPTS(bpf_test_run_opts, run);
 	line[0] = 0;
-	if (bpf_prog_test_run_opts(bpf_program__fd(program->progs.play_look), &run))
-		fail("a command line: the program did not run");
-	while (ring_drain(&ring, hear_line) > 0)
-		continue;
+	run_program(program->progs.play_look, hear_line, "a command line");
 	if (strcmp(line, due))
 		fail("a command line %s: '%s' came, and not '%s'", what, line, due);
 }
@@ -370,13 +366,13 @@ static void *play_lines(void *own_line)
 
 static u32 is_wanted(const struct bpf_map *names, const void *key, u64 bytes)
 {
-	LIBBPF_OPTS(bpf_test_run_opts, run);
 	u32 one = 1;
-	if (bpf_map__update_elem(names, key, bytes, &one, sizeof one, BPF_ANY) ||
-	    bpf_prog_test_run_opts(bpf_program__fd(program->progs.play_wanted), &run) ||
-	    bpf_map__delete_elem(names, key, bytes, 0))
-		fail("--only: the program did not run");
-	return run.retval;
+	if (bpf_map__update_elem(names, key, bytes, &one, sizeof one, BPF_ANY))
+		fail("--only: a name can't be kept");
+	u32 wanted = run_program(program->progs.play_wanted, NULL, "--only");
+	if (bpf_map__delete_elem(names, key, bytes, 0))
+		fail("--only: a name can't be removed");
+	return wanted;
 }
 
 static u32 is_called(const char *name)
@@ -448,11 +444,8 @@ static void measure_stack(u32 rounds)
 
 static void play_file(const struct bpf_program *played, u64 file)
 {
-	LIBBPF_OPTS(bpf_test_run_opts, run);
 	program->bss->played_file = file;
-	int error = bpf_prog_test_run_opts(bpf_program__fd(played), &run);
-	if (error)
-		fail("openings: error %d", error);
+	run_program(played, NULL, "openings");
 }
 
 static void should_have(const char *what, u32 ours, u32 all)
@@ -514,11 +507,9 @@ static void make_room(void)
 
 static void take_numbers(u32 runs)
 {
-	for (u32 i = 0; i < runs; i++) {
-		LIBBPF_OPTS(bpf_test_run_opts, run);
-		if (bpf_prog_test_run_opts(bpf_program__fd(program->progs.play_numbers), &run) || run.retval)
+	for (u32 i = 0; i < runs; i++)
+		if (run_program(program->progs.play_numbers, NULL, "numbers"))
 			fail("numbers can't be taken");
-	}
 }
 
 static void *take_beside_others(void *unused)
