@@ -8,8 +8,8 @@
 
 Each folder in systems/ has these files of a system with the kernel of its name: `format` files of tracepoints, some
 lines of kallsyms and of the functions that can be probed, and of BTF the types that the recorder's programs read, which
-`checks/run compiled` tries. What another system has too is stored once: a line of the file `same` has the path, and where
-it is in systems/. On each of them nothing may be lacking.
+`checks/run compiled` tries. What another system has too is stored once: a line of the file `same` has the path, and
+where it is in systems/. On each of them nothing may be lacking.
 Then one tracepoint or field after the other is renamed, moved, of another size or away: each of these systems must be
 refused in a line that names the file. So must one whose kernel is too old. And where a compiler has renamed the
 driver's functions, those are found.
