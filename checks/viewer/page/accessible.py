@@ -109,8 +109,10 @@ def check_accessible(browser: Browser, what: str, fail: Fail) -> None:
 
 
 def check_focus(browser: Browser, what: str, fail: Fail, most: int = 40) -> None:
-    """With the key Tab all is reached in the order of the page, and what is reached is seen."""
+    """With the key Tab all is reached in the order of the page, of much the first ones, and what is reached is seen."""
     browser.js("document.activeElement.blur(); scrollTo(0, 0)")
+    due = browser.js("[...document.querySelectorAll('a[href], button, input, select, summary, [tabindex=\"0\"]')]"
+                     ".filter(one => one.checkVisibility()).length")
     places, unseen = [], []
     for _ in range(most):
         browser.key("Tab")
@@ -127,4 +129,4 @@ def check_focus(browser: Browser, what: str, fail: Fail, most: int = 40) -> None
             unseen.append(seen[2])
     compare(f"{what}: what Tab reaches, in order", places, sorted(places), fail)
     compare(f"{what}: what is reached and not seen", unseen, [], fail)
-    compare(f"{what}: whether Tab reaches some", len(places) > 10, True, fail)
+    compare(f"{what}: how many Tab reaches", len(places), min(due, most), fail)
