@@ -127,7 +127,7 @@ case $service in
       '--known[defects that are known]:file:_files' \
       '--trace[write a timeline]:timeline:_files' \
       '--names[names that slices get]:names:(android)' \
-      '--process[narrow it to a process]:process:' \
+      '--process[show what a process has or causes]:process:' \
       '--thread[narrow it to a thread]:thread:' \
       '--from[from this frame on]:sequence:' \
       '--to[up to this frame]:sequence:' \

@@ -28,7 +28,7 @@ if TYPE_CHECKING:
 
 
 def number(word: str) -> int:
-    """A number of a frame, a process or a thread."""
+    """A number of a frame or a thread."""
     if not (word.isascii() and word.isdigit() and int(word) < 2**64):
         raise ValueError(word)
     return int(word)
@@ -50,7 +50,7 @@ def add_words(line: Words) -> None:
     line.add_argument("--known", metavar="FILE")
     line.add_argument("--trace", metavar="OUT")
     line.add_argument("--names", choices=["android"])
-    line.add_argument("--process", type=number, metavar="N")
+    line.add_argument("--process", metavar="PROCESS")
     line.add_argument("--thread", type=number, metavar="N")
     line.add_argument("--from", dest="first", type=number, metavar="N")
     line.add_argument("--to", dest="final", type=number, metavar="N")
@@ -70,8 +70,10 @@ def why_not(asked: argparse.Namespace) -> Iterator[str]:
         yield "--columns and --all go with --groups"
     if asked.no_side and asked.side:
         yield "--no-side does not go with --side"
-    if asked.trace is None and {asked.process, asked.thread, asked.first, asked.final} != {None}:
-        yield "--process, --thread, --from and --to narrow a timeline, and go with --trace"
+    if asked.trace is None and {asked.thread, asked.first, asked.final} != {None}:
+        yield "--thread, --from and --to narrow a timeline, and go with --trace"
+    if asked.process is not None and not (asked.page or asked.groups or asked.trace):
+        yield "--process narrows a page, groups or a timeline"
     if {asked.first, asked.final} != {None} and windows.is_asked(asked):
         yield "--from and --to do not go with --last, --between or --around"
     if asked.trace is not None and not asked.trace.endswith(SUFFIXES):
@@ -141,9 +143,10 @@ def write_trace(database: sqlite3.Connection, asked: argparse.Namespace, window:
     from viewer.timeline import trace
     from viewer.timeline.tracks import Window
     out = pathlib.Path(asked.trace)
-    first, last = (asked.first, asked.final) if window is None else (one % 2**64 for one in window[:2])
+    first, last = (one % 2**64 for one in window[:2]) if window and window.is_timed else (asked.first, asked.final)
+    upids = window.upids if window else None
     with whole_file(out) as made:
-        if not trace.write(database, made, Window(asked.process, asked.thread, first, last), out.name,
+        if not trace.write(database, made, Window(asked.process, upids, asked.thread, first, last), out.name,
                            asked.names == "android"):
             tell("view", "the capture has no thread that is asked for, so the timeline is empty")
 

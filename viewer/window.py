@@ -90,11 +90,23 @@ def is_asked(asked: argparse.Namespace) -> bool:
 
 class Window(NamedTuple):
     """The frames from `first` to `last`, of which there may be none, and the times from `begin` to `end`; without times
-    both are None."""
+    both are None. `upids`: the processes, if only some are asked for; then `is_timed` says whether a time is, too."""
     first: int
     last: int
     begin: int | None
     end: int | None
+    upids: tuple[int, ...] | None = None
+    is_timed: bool = True
+
+    def values(self) -> tuple[int | None, int | None, int | None, str | None]:
+        """What queries take of it: the first and the last frame, when that begins, and the processes as JSON. What is
+        not narrowed is None."""
+        time = self[:3] if self.is_timed else (None, None, None)
+        return *time, None if self.upids is None else f"[{', '.join(map(str, self.upids))}]"
+
+
+# The values of no window.
+WHOLE = (None, None, None, None)
 
 
 class Recording:

@@ -88,9 +88,17 @@ WITH_FILES = {name: ([DRIVER / name / "capture-1.cap"], DRIVER / name / "capture
 PICTURED = Pictured("chain", 4084, 13, 29)
 
 
+def window_of(database: sqlite3.Connection, process: int | None = None, **others: int) -> Window:
+    """A window, with the processes of this number."""
+    if process is None:
+        return Window(**others)
+    upids = tuple(upid for upid, in database.execute("SELECT upid FROM process WHERE process = ?", (process,)))
+    return Window(str(process), upids, **others)
+
+
 def written(database: sqlite3.Connection, path: pathlib.Path, is_android: bool = False, **window: int) -> pathlib.Path:
     path.unlink(missing_ok=True)
-    trace.write(database, path, Window(**window), path.name, is_android)
+    trace.write(database, path, window_of(database, **window), path.name, is_android)
     return path
 
 
@@ -284,8 +292,8 @@ def due_in(database: sqlite3.Connection, window: dict[str, int]) -> list[int]:
 
 def check_words(folder: pathlib.Path, room: pathlib.Path, fail: Fail) -> None:
     capture, *_ = stored("leaks")
-    for words in (("--trace",), ("--process", 1), ("--from", 1, "-o", "a.html"), ("--trace", "a.json.gz", "--to", "x"),
-                  ("--trace", "a.json.gz", "--process", -1), ("--trace", "a.json.gz", "--thread", 2**64),
+    for words in (("--trace",), ("--thread", 1), ("--from", 1, "-o", "a.html"), ("--trace", "a.json.gz", "--to", "x"),
+                  ("--call", 16, "--process", "service"), ("--trace", "a.json.gz", "--thread", 2**64),
                   ("--trace", "a.json"), ("--trace", "a.gz"), ("--names", "android"),
                   ("--trace", "a.json.gz", "--names", "android"), ("--trace", "a.pftrace", "--names", "linux")):
         compare(f"words {words}", view(folder, room, capture, *words)[0], 64, fail)
@@ -295,9 +303,11 @@ def check_words(folder: pathlib.Path, room: pathlib.Path, fail: Fail) -> None:
     compare("a folder that is not there", view(folder, room, capture, "--trace", "no/a.json.gz")[0], 4, fail)
     due = ["there.json.gz"]
     for name, begin in (("a.json.gz", b"\x1f\x8b"), ("a.pftrace", b"\x0a"), ("a.pftrace.gz", b"\x1f\x8b")):
-        told = view(folder, room, *stored("leaks"), "--trace", name, "--process", 1)
-        compare(f"no such process, {name}", told, (0, "", "view: the capture has no thread that is asked for, so the"
-                                                   " timeline is empty\n"), fail)
+        compare(f"no such process, {name}", view(folder, room, *stored("leaks"), "--trace", name, "--process", 1),
+                (1, "", "view: --process: the capture has no process 1\n"), fail)
+        told = view(folder, room, *stored("leaks"), "--trace", name, "--thread", 1)
+        compare(f"no such thread, {name}", told, (0, "", "view: the capture has no thread that is asked for, so the"
+                                                  " timeline is empty\n"), fail)
         compare(f"the beginning of {name}", (room / name).read_bytes()[:len(begin)], begin, fail)
         compare(f"who can read {name}", (room / name).stat().st_mode & 0o777, 0o600, fail)
         due.append(name)

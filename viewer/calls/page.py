@@ -38,6 +38,32 @@ class Method(NamedTuple):
     all_rows: int
 
 
+class Sent(NamedTuple):
+    """What a process sent to an object by a code. Times are nanoseconds."""
+    client: int
+    handle: int
+    server: int | None
+    ptr: int | None
+    code: int
+    oneway: int
+    delivered: int
+    one_fits: int
+    sends: int
+    failed: int
+    open: int
+    bytes: int
+    kept: int
+    peak: int | None
+    longest: int | None
+    frames: int | None
+    client_uid: int | None
+    server_uid: int | None
+    device: str | None
+    client_package: str | None
+    server_package: str | None
+    all_rows: int
+
+
 class Bar(NamedTuple):
     """A stretch of a picture: what it is, where it begins, and how wide it is."""
     what: str
@@ -54,7 +80,7 @@ class Spent:
 
     @functools.cached_property
     def of_methods(self) -> list[Method]:
-        return [Method(*row) for row in self.capture.asked("method_times", MOST)]
+        return [Method(*row) for row in self.capture.asked("method_times", MOST, self.capture.upids)]
 
     def methods(self) -> list[Method]:
         """The methods, of all callers together."""
@@ -64,10 +90,13 @@ class Spent:
         """The methods by caller."""
         return [one for one in self.of_methods if one.client is not None]
 
+    def objects(self) -> list[Sent]:
+        """Who talks to whom, object by object."""
+        return [Sent(*row) for row in self.capture.asked("talk", MOST, self.capture.upids)]
+
     def trees(self) -> list[Tree]:
         """The longest of the slow calls of main threads."""
-        rows = self.capture.asked("main_thread", TREES, self.capture.slow)
-        return [self.tree(row[9]) for row in rows]
+        return [self.tree(row[9]) for row in self.capture.slow_calls(TREES)]
 
     def tree(self, place: int) -> Tree:
         return Tree(self.capture.database, self.capture.names, place)

@@ -10,7 +10,7 @@ from viewer.malformed import fault_of
 from viewer.program_names import called
 from viewer.page.within import groups_within
 from viewer.rules.names import Names
-from viewer.window import Window
+from viewer.window import WHOLE, Window
 
 QUERIES = pathlib.Path(__file__).resolve().parent / "queries"
 
@@ -23,12 +23,14 @@ SLOW = SECOND // 10
 
 
 class Capture:
-    """The capture, and the window of it that is shown. A process is called as in `who`, and a call or an object as in
-    `names`."""
+    """The capture, and the window of it that is shown: `within` has its values for queries, and `upids` the last of
+    these. A process is called as in `who`, and a call or an object as in `names`."""
 
     def __init__(self, database: sqlite3.Connection, files: list[str], window: Window | None = None, slow: int = SLOW,
                  options: str = ""):
         self.database, self.window, self.slow = database, window, slow
+        self.within = WHOLE if window is None else window.values()
+        self.upids = self.within[3]
         self.groups = set(groups_within(database, window))
         named = " ".join(map(word_of, files))
         self.command, self.report = f"{called('listing')} {named}", f"{called('audit')} report {named}"
@@ -53,6 +55,10 @@ class Capture:
     def rows(self, name: str, most: int = ROWS) -> list[tuple]:
         """The rows of the query in a file, which takes no more than how many there may be."""
         return self.asked(name, most)
+
+    def slow_calls(self, most: int = ROWS) -> list[tuple]:
+        """The slow calls of main threads, by method."""
+        return self.asked("main_thread", most, self.slow, self.upids)
 
     def count(self, table: str, condition: str = "1", *values: object) -> int:
         return self.ask(f"SELECT count(*) FROM {table} WHERE {condition}", *values)[0][0]

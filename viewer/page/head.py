@@ -52,4 +52,5 @@ def head_of(capture: Capture) -> dict[str, object]:
         "missed": ask(f"SELECT what, sum(count) FROM side_missed, {WITHIN}"),
         "unstacked": ask(f"SELECT what, sum(count) FROM side_unstacked, {WITHIN}"),
         "shown": counts_of(capture.database, capture.window), "window": capture.window,
+        "of": [capture.who[upid] for upid in capture.window.upids or ()] if capture.window else [],
         "all_groups": capture.count("finding_group")}

@@ -56,8 +56,7 @@ FILTERS = {"pieces": pieces_of, "number": number, "hex": address, "counted": cou
 
 def calls_of(capture: Capture) -> list[tuple]:
     """The calls that are not answered, and those that took longest."""
-    window = capture.window
-    return capture.asked("calls", ROWS, *((None, None, None) if window is None else window[:3]))
+    return capture.asked("calls", ROWS, *capture.within)
 
 
 def asked_of(capture: Capture, shown: Shown) -> dict[str, object]:
@@ -71,7 +70,7 @@ def asked_of(capture: Capture, shown: Shown) -> dict[str, object]:
             "all_verdicts": VERDICTS, "columns_of": columns_of, "growths": lambda: growths_of(capture),
             "axis": lambda: axis_of(capture), "has_stacks": groups.stacks.are_there, "gone": shown.gone,
             "calls": calls, "spent": Spent(capture), "slow": capture.slow,
-            "slow_calls": lambda: capture.asked("main_thread", ROWS, capture.slow),
+            "slow_calls": capture.slow_calls,
             "waited": sum(call[5] != "answered" or (call[8] or 0) >= capture.slow for call in calls()),
             "groups_shown": len(capture.groups), "ruled": capture.count("rule", "id IN (SELECT rule FROM finding)"),
             "faults": sum(len(groups.rows(verdict)) for verdict in ("real", "maybe"))}

@@ -1,10 +1,12 @@
-"""The groups that a page and --groups show: all of a capture, or those of some frames."""
+"""The groups that a page and --groups show: all of a capture, or those of some frames and processes."""
 
 import argparse
 import pathlib
 import sqlite3
 
 from viewer.files import Stopped
+from viewer.processes_asked import processes_of
+from viewer.terminal import shown
 from viewer.units import counted
 from viewer.window import Recording, Window, is_asked
 
@@ -12,9 +14,18 @@ WITHIN = (pathlib.Path(__file__).resolve().parent / "queries/within.sql").read_t
 
 
 def window_of(database: sqlite3.Connection, asked: argparse.Namespace) -> Window | None:
-    """The frames that are asked for; None if all are."""
-    if not is_asked(asked):
+    """The frames and processes that are asked for; None if all are."""
+    upids = None if asked.process is None else tuple(processes_of(database, asked.process, "--process"))
+    if is_asked(asked):
+        return time_of(database, asked)._replace(upids=upids)
+    if upids is None:
         return None
+    first, last = database.execute("SELECT first_seq, last_seq FROM raw_capture").fetchone()
+    return Window(first, last, None, None, upids, is_timed=False)
+
+
+def time_of(database: sqlite3.Connection, asked: argparse.Namespace) -> Window:
+    """The frames of the time that is asked for."""
     size, first, last = database.execute("SELECT bytes, first_seq, last_seq FROM raw_capture").fetchone()
     if asked.around is not None:
         found = database.execute("SELECT seq FROM raw_frame WHERE place <= ? ORDER BY place DESC LIMIT 1",
@@ -27,16 +38,24 @@ def window_of(database: sqlite3.Connection, asked: argparse.Namespace) -> Window
 
 def groups_within(database: sqlite3.Connection, window: Window | None) -> list[int]:
     """The groups that are shown, in their order: those that have a finding in the window, or a call that was open
-    then."""
+    then; and of processes, what these have or cause."""
     if window is None:
         return [group for group, in database.execute("SELECT grp FROM finding_group ORDER BY nth")]
-    return [group for group, in database.execute(WITHIN, (window.first, window.last, window.begin))]
+    return [group for group, in database.execute(WITHIN, window.values())]
 
 
-# The calls that were under way in some frames.
+# Of some frames, and of processes if some are asked for: the frames; the calls that were under way; the frames that are
+# missing, but those of other processes, as the side list says; and what was missed without a number: between a frame
+# before the last one, and one after the first.
+OF_THEM = ("(:upids IS NULL OR utid IN (SELECT utid FROM raw_thread WHERE upid IN"
+           " (SELECT value FROM json_each(:upids))))")
+FRAMES = f"SELECT count(*) FROM raw_frame WHERE seq BETWEEN :first AND :last AND {OF_THEM}"
 UNDER_WAY = ("SELECT count(*) FROM raw_call WHERE NOT served AND seq <= :last"
-             " AND coalesce(seq + dur_seq, 9223372036854775807) >= :first")
-# What was missed without a number: between a frame before the last one, and one after the first.
+             f" AND coalesce(seq + dur_seq, 9223372036854775807) >= :first AND {OF_THEM}")
+MISSING = ("SELECT :last - :first + 1 - (SELECT count(*) FROM raw_frame WHERE seq BETWEEN :first AND :last)"
+           " - (SELECT count(*) FROM side_lost WHERE seq BETWEEN :first AND :last AND :upids NOTNULL"
+           " AND process NOTNULL AND (device, process) NOT IN (SELECT device, process FROM raw_process"
+           " WHERE upid IN (SELECT value FROM json_each(:upids))))")
 MISSED = "SELECT coalesce(sum(count), 0) FROM side_missed WHERE after >= :first - 1 AND from_seq <= :last"
 
 
@@ -44,13 +63,28 @@ def then_of(database: sqlite3.Connection, window: Window) -> str:
     """What was recorded in the window, what was under way, and what was lost."""
     if window.first > window.last:
         return "then nothing was recorded"
-    frames = {"first": window.first, "last": window.last}
-    came, = database.execute("SELECT count(*) FROM raw_frame WHERE seq BETWEEN :first AND :last", frames).fetchone()
-    (open_then,), (missed,) = (database.execute(query, frames).fetchone() for query in (UNDER_WAY, MISSED))
-    lost = [counted(window.last - window.first + 1 - came, "frame")] if window.last - window.first + 1 > came else []
+    asked = {"first": window.first, "last": window.last, "upids": window.values()[3]}
+    came, open_then, missing, missed = (database.execute(query, asked).fetchone()[0]
+                                        for query in (FRAMES, UNDER_WAY, MISSING, MISSED))
+    lost = [counted(missing, "frame")] if missing > 0 else []
     lost += [f"{missed:,} without a number"] if missed else []
-    return (f"then {counted(came, 'frame')}, {counted(open_then, 'call')} under way,"
-            f" {' and '.join(lost) + ' lost' if lost else 'nothing lost'}")
+    words = ["then"] * window.is_timed
+    words += [] if window.upids is None else [f"of {who_of(database, window.upids)}:"]
+    return (f"{' '.join(words)} {counted(came, 'frame')},"
+            f" {counted(open_then, 'call')}{' under way' * window.is_timed},"
+            f" {' and '.join(lost) + ' lost' + may_be_of(window) if lost else 'nothing lost'}")
+
+
+def may_be_of(window: Window) -> str:
+    """Whose what was lost may be, if processes are asked for."""
+    return "" if window.upids is None else f" that may be of {'it' if len(window.upids) == 1 else 'them'}"
+
+
+def who_of(database: sqlite3.Connection, upids: tuple[int, ...] | None) -> str:
+    """What some processes are called, or how many they are."""
+    if upids and len(upids) == 1:
+        return shown(database.execute("SELECT who FROM who WHERE upid = ?", upids).fetchone()[0])
+    return counted(len(upids or ()), "process", "processes")
 
 
 def told_of(database: sqlite3.Connection, window: Window | None) -> str:
@@ -66,10 +100,10 @@ def told_of(database: sqlite3.Connection, window: Window | None) -> str:
 
 def counts_of(database: sqlite3.Connection, window: Window | None) -> dict[str, tuple[int, int]]:
     """How many groups, and how many findings, are shown of each verdict."""
-    shown = set(groups_within(database, window))
+    groups_shown = set(groups_within(database, window))
     found: dict[str, tuple[int, int]] = {}
     for group, verdict, n in database.execute("SELECT grp, verdict, n FROM finding_group"):
-        if group in shown:
+        if group in groups_shown:
             groups, findings = found.get(verdict, (0, 0))
             found[verdict] = groups + 1, findings + n
     return found

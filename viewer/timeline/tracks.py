@@ -10,8 +10,9 @@ EXACT = 2**53
 
 
 class Window(NamedTuple):
-    """What is asked for: a process number, a thread number, and the first and the last frame."""
-    process: int | None = None
+    """What is asked for: processes, by a word and by their upids; a thread number; and the first and the last frame."""
+    process: str | None = None
+    upids: tuple[int, ...] | None = None
     thread: int | None = None
     first: int | None = None
     last: int | None = None
@@ -29,8 +30,8 @@ class Window(NamedTuple):
         """Whether it has a frame of a capture that ends with this one."""
         return last is not None and (self.first is None or last % 2**64 >= self.first)
 
-    def facts(self) -> dict[str, int]:
-        named = zip(("--process", "--thread", "--from", "--to"), self)
+    def facts(self) -> dict[str, int | str]:
+        named = (("--process", self.process), ("--thread", self.thread), ("--from", self.first), ("--to", self.last))
         return {name: value for name, value in named if value is not None}
 
 
@@ -138,7 +139,7 @@ class Tracks:
             "SELECT utid, upid, device, process, thread, tid, name, ended, why FROM thread ORDER BY utid")]
         self.upid_of = {row.utid: row.upid for row in self.threads}
         self.shown = {row.utid for row in self.threads
-                      if window.process in (None, row.process) and window.thread in (None, row.thread)}
+                      if (window.upids is None or row.upid in window.upids) and window.thread in (None, row.thread)}
         # The first thread that is shown of each process.
         self.first_of: dict[int, int] = {}
         for row in self.threads:

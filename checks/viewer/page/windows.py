@@ -1,4 +1,4 @@
-"""What `view` and `listing` show of a time: --last, --between and --around."""
+"""What `view` and `listing` show of a time, by --last, --between and --around, and `view` of a process."""
 
 import os
 import pathlib
@@ -35,6 +35,17 @@ WRONG = ((("--last", "5"), 64), (("--between", "25:00", "26:00"), 64), (("--betw
          (("--between", "+7", "+8"), 1), (("--around", 18304), 1), (("--around", "x"), 64),
          (("--last", "1s", "--around", 16), 64))
 
+# Of leaks: the words; the groups that are no normal ones; what the last line says of the frames; how many calls the
+# page has, and how many rows of who talks to whom.
+PROCESSES = (
+    (("service",), ["received transactions never freed", "calls without an answer"],
+     " of service 176: 21 frames, 1 call, nothing lost;", 6, 4),
+    (("client 177",), ["references taken more than once"], " of client 177: 14 frames, 5 calls, nothing lost;", 5, 3),
+    ((177,), ["references taken more than once"], " of client 177: 14 frames, 5 calls, nothing lost;", 5, 3),
+    (("short",), ["calls that failed"], " of short-lived 174: 6 frames, 1 call, nothing lost;", 2, 2),
+    (("service", "--between", "+0.05", "+0.12"), ["received transactions never freed", "calls without an answer"],
+     " then of service 176: 21 frames, 1 call under way, nothing lost;", None, None))
+
 
 def frames_of(folder: pathlib.Path, room: pathlib.Path, *words: object) -> list[int]:
     _, said, _ = answer([folder / "listing", *map(str, words), "--form", "tab"], cwd=room, encoding="utf-8",
@@ -46,6 +57,11 @@ def groups_in(folder: pathlib.Path, room: pathlib.Path, *words: object) -> list[
     _, said, _ = answer([folder / "view", *map(str, words), "--groups"], cwd=room, encoding="utf-8",
                         env={**os.environ, **ZONE})
     return [line.split("\t")[1] for line in said.splitlines() if not line.startswith("normal")]
+
+
+def last_line(folder: pathlib.Path, room: pathlib.Path, *words: object) -> str:
+    """What --groups says at the end."""
+    return answer([folder / "view", *map(str, words), "--groups"], cwd=room, encoding="utf-8")[2].splitlines()[-1]
 
 
 def check_windows(folder: pathlib.Path, room: pathlib.Path, fail: Fail) -> None:
@@ -80,6 +96,32 @@ def check_windows(folder: pathlib.Path, room: pathlib.Path, fail: Fail) -> None:
                 re.findall(r"calls from (\S+ s) ", texts_of(room / "long.html")), due, fail)
     check_packed_windows(folder, room, fail)
     check_untimed_windows(folder, room, fail)
+    check_processes(folder, room, fail)
+
+
+def check_processes(folder: pathlib.Path, room: pathlib.Path, fail: Fail) -> None:
+    """Groups, calls, tables and timeline have what a process has or causes. Of a lost frame the line says whose it may
+    be."""
+    capture = stored("leaks")
+    for (process, *words), groups, told, calls, talks in PROCESSES:
+        given = *capture, "--process", process, *words
+        compare(f"{given[3:]}, groups", groups_in(folder, room, *given), groups, fail)
+        compare(f"{given[3:]}, the last line", told in last_line(folder, room, *given), True, fail)
+        if calls is not None:
+            view(folder, room, *given, "-o", "of.html", "--trace", "of.json.gz")
+            text = (room / "of.html").read_text("utf-8")
+            for table, due in (("calls", calls), ("who talks to whom", talks)):
+                rows = text.partition(f'aria-label="{table}"')[2].partition("</table>")[0].count("\n<tr")
+                compare(f"{given[3:]}, {table} of the page", rows, due, fail)
+            drawn = {event["pid"] for event in timeline_of(room / "of.json.gz")["traceEvents"]
+                     if "seq" in event.get("args", {})}
+            compare(f"{given[3:]}, processes of the timeline", len(drawn), 1, fail)
+            (room / "of.json.gz").unlink()
+    told = last_line(folder, room, *stored("gaps"), "--process", "noisy")
+    compare("what may be lost of a process", " of noisy 1999: 127 frames, 62 calls, 615 frames lost that may be of it;"
+            in told, True, fail)
+    compare("a process that is not there", view(folder, room, *capture, "--process", "nobody", "--groups"),
+            (1, "", "view: --process: the capture has no process nobody\n"), fail)
 
 
 def check_packed_windows(folder: pathlib.Path, room: pathlib.Path, fail: Fail) -> None:
