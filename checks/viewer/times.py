@@ -11,11 +11,15 @@ On 20 recordings of real kernels, in samples/, and on a made-up minute of a phon
 - The minute has the times that it was made with, within a millisecond: of a chain of calls each part, of a burst of
   oneway sends how long the last one waited and for which sends, and of methods the longest, the median and the
   hundredths.
+- Of the minute the rules find what it was made with, and nothing else that is real or maybe: whose the 379 ms of a main
+  thread are, who sends the burst, which listener is slow, and who asks for the same again; each with who causes it, and
+  its times within a millisecond. The card of a call has the calls of its chain as a picture.
 """
 
 import argparse
 import pathlib
 import random
+import re
 import sqlite3
 import tarfile
 from typing import Iterator, NamedTuple
@@ -25,6 +29,7 @@ from checks.kit.made_minute import SECOND, WALL, minute
 from checks.kit.programs import DRIVER, ROOT
 from checks.kit.second_times import Recording
 from viewer.database import loading
+from viewer.page import page
 
 DRIVEN = ("bulk", "callbacks", "chain", "clean-rust", "ends", "gaps", "hello-9", "hello-11", "hello-answers",
           "hello-callbacks", "hello-hidl", "hello-stuck", "hung", "leaks", "nested", "slow", "threads")
@@ -179,6 +184,46 @@ def check_burst(database: sqlite3.Connection, fail: Fail) -> None:
     is_near("how long they held them", held[0][2] / MILLISECOND, 2001, fail)
 
 
+# Of each finding of the minute the rule, who causes it, the path, and its note with the times in milliseconds.
+FOUND = [
+    ("V1", "powerd 500", "IPackageManager code 5 to system_server 1000 node 0x7100 package",
+     "{}: {} at work in powerd 500, {} waiting for a thread of system_server 1000, {} at work in sensors-hal 600, {} at"
+     " work in system_server 1000", [379.49, 250, 60.08, 49, 20]),
+    ("V2", "com.slow.clock 2300", "IListener code 1 at com.slow.clock 2300 node 0x9000",
+     "it takes {}, half of 30 listeners {} at most", [120.13, 1.13]),
+    ("V3", "com.chatty.mail 2200", "IPackageManager code 7 to system_server 1000 node 0x7100 package",
+     "200 times with the same data, once in {}", [50]),
+    ("W12", "com.spam.logger 2100", "INotes code 9 at com.example.ime 2500 node 0x7400 ime",
+     "com.spam.logger 2100 sent 400, and one waited {}; each takes {}", [2007, 10])]
+# A time as notes have it, and its unit in milliseconds. Of seconds three digits are told.
+TIME, UNITS = re.compile(r"\b(\d+(?:\.\d+)?) (µs|ms|s)\b"), {"µs": 0.001, "ms": 1, "s": 1000}
+
+
+def check_findings(database: sqlite3.Connection, fail: Fail) -> None:
+    """What is real or maybe, and what is slow: who causes it, and the times."""
+    came = database.execute("SELECT f.rule, w.who, f.path, f.note FROM finding f JOIN rule r ON r.id = f.rule"
+                            " JOIN who w ON w.upid = coalesce(f.culprit, f.upid) WHERE f.lead IS NULL"
+                            " AND (r.verdict IN ('real', 'maybe') OR f.section = 'slow') ORDER BY 1").fetchall()
+    compare("the minute: what is found", [(*one[:3], TIME.sub("{}", one[3])) for one in came],
+            [one[:4] for one in FOUND], fail)
+    for (rule, *_, note), (*_, due) in zip(came, FOUND):
+        for (time, unit), wanted in zip(TIME.findall(note), due):
+            told = float(time) * UNITS[unit]
+            is_near(f"{rule}: {note}", told, round(wanted, -1) if unit == "s" else wanted, fail)
+
+
+def check_card(database: sqlite3.Connection, one: Stored, room: pathlib.Path, fail: Fail) -> None:
+    """The card of the call of the main thread has the three calls of its chain, each with its picture."""
+    made = room / "minute.html"
+    page.write(database, [str(one.capture)], made)
+    cards = made.read_text("utf-8").split('<details class="group ')[1:]
+    card = next((card for card in cards if "slow calls of a main thread" in card), "")
+    tree = card.partition('<table class="tree">')[2].partition("</table>")[0]
+    compare("the minute: the calls on the card", [server for server, _ in re.findall(
+        r'<td class="level-\d">.* to <bdi>(\S+ \d+)</bdi><td>\s*(<svg class="waterfall")', tree)],
+        [server for _, server, *_ in CHAIN], fail)
+
+
 def check_clock(database: sqlite3.Connection, fail: Fail) -> None:
     """By the wall clock the call of the chain was ten seconds after the beginning."""
     came = database.execute("SELECT utc, realtime, boottime - c.ts FROM txn JOIN clock c USING (seq) WHERE main_thread"
@@ -194,8 +239,9 @@ def check_minute(room: pathlib.Path, fail: Fail) -> None:
     database = database_of(one, room)
     for what in wrong_sums(database):
         fail(f"the minute: {what}")
-    for part in (check_chain, check_methods, check_hundredths, check_burst, check_clock):
+    for part in (check_chain, check_methods, check_hundredths, check_burst, check_findings, check_clock):
         part(database, fail)
+    check_card(database, one, room, fail)
 
 
 def judge(given: argparse.Namespace, room: pathlib.Path, fail: Fail) -> None:

@@ -2,6 +2,7 @@
 
 from typing import Iterator, NamedTuple
 
+from viewer.calls.tree import Tree
 from viewer.defects.gate import Shown
 from viewer.page.around_place import lane_of
 from viewer.page.capture import ROWS, Capture
@@ -10,8 +11,8 @@ from viewer.page.plots import Plot, growth_of, marked
 from viewer.page.stacks import GroupStacks, Stacks
 from viewer.page.strip import Spans
 
-# The most findings of a group and lanes of a page.
-FINDINGS, LANES = 100, 300
+# The most findings of a group, and lanes and trees of a page.
+FINDINGS, LANES, TREES = 100, 300, 100
 
 
 class Finding(NamedTuple):
@@ -55,6 +56,7 @@ class Group:
         self.filling = filling_of(capture, self.number)
         self.stacks = GroupStacks(stacks, self.number)
         self.lane: tuple | None = None
+        self.tree: Tree | None = None
 
     @property
     def columns(self) -> dict[str, bool]:
@@ -76,10 +78,12 @@ class Group:
 
 
 class Groups:
-    """The groups of a capture. The first of a page have lanes: what the thread of the first finding did around it."""
+    """The groups of a capture. The first of a page have lanes, what the thread of the first finding did around it; and
+    those that are calls have trees, where the time of the longest one went."""
 
     def __init__(self, capture: Capture, spans: Spans, shown: Shown):
-        self.capture, self.stacks, self.spans, self.shown, self.lanes = capture, Stacks(capture), spans, shown, 0
+        self.capture, self.stacks, self.spans, self.shown = capture, Stacks(capture), spans, shown
+        self.lanes = self.trees = 0
 
     def of(self, *verdicts: str) -> Iterator[Group]:
         """The groups of some verdicts, one after another."""
@@ -88,6 +92,8 @@ class Groups:
                 group = Group(self.capture, self.stacks, self.spans, self.shown, row)
                 if verdict != "normal" and self.lanes < LANES:
                     self.give_lane(group)
+                if verdict != "normal" and self.trees < TREES:
+                    self.give_tree(group)
                 yield group
 
     def left(self, *verdicts: str) -> int:
@@ -96,6 +102,14 @@ class Groups:
 
     def rows(self, verdict: str) -> list[tuple]:
         return [row for row in self.capture.asked("groups", verdict, -1) if row[0] in self.capture.groups]
+
+    def give_tree(self, group: Group) -> None:
+        """Gives a group of calls where the time of one went, if there are times."""
+        for root, in self.capture.asked("group_call", group.number, FINDINGS):
+            tree = Tree(self.capture.database, self.capture.names, root)
+            if tree.hops and tree.root.dur is not None:
+                self.trees += 1
+                group.tree = tree
 
     def give_lane(self, group: Group) -> None:
         """Gives a group the place of its first finding that has a thread, and the lines around that."""
