@@ -1,4 +1,5 @@
-"""The figures of README.md on the blind test and on the second recorder are those of the tables in docs/MEASURED.md."""
+"""The figures of README.md on the blind test, and of docs/TRUST.md on the second recorder, are those of the tables in
+docs/MEASURED.md."""
 
 import pathlib
 import re
@@ -6,53 +7,48 @@ from typing import Iterator
 
 from checks.kit.programs import ROOT
 
-README = ROOT / "README.md"
-MEASURED = ROOT / "docs/MEASURED.md"
+README, TRUST, MEASURED = ROOT / "README.md", ROOT / "docs/TRUST.md", ROOT / "docs/MEASURED.md"
 
-# The sentences of README.md: sessions, those with a fault, faults found, wrong lines; and recordings with a second one,
-# of how many.
-SESSIONS = re.compile(r"blind test of (\d+) sessions, (\d+) of them with a fault, the page \[found\s+(\d+)\]"
-                      r".*?\s(no|\d+)\s+lines?\s+(?:was|were)\s+wrong", re.DOTALL)
-# The same of a kernel with other figures, and of the driver in Rust.
-OTHER_SESSIONS = re.compile(r"Of\s+(\d+)\s+on\s+another\s+kernel,\s+(\d+)\s+of\s+them\s+with\s+a\s+fault,"
-                            r"\s+it\s+found\s+(\d+)"
-                            r".*?\s(no|\d+)\s+lines?\s+(?:was|were)\s+wrong", re.DOTALL)
-RUST_SESSIONS = re.compile(r"of\s+(\d+)\s+with\s+the\s+driver\s+in\s+Rust,\s+(\d+)\s+of\s+them\s+with\s+a\s+fault,"
-                           r"\s+(\d+);.*?\s(no|\d+)\s+lines?\s+(?:was|were)\s+wrong", re.DOTALL)
+# The kernels of README.md, in the order of the columns of docs/MEASURED.md.
+JUDGED_ON = "6.1", "7.2", "7.2, driver in Rust"
+# What a row of README.md has of these rows of docs/MEASURED.md: faults that are real, of how many; maybe, missed; wrong
+# lines, of healthy and of faulty sessions; healthy sessions with a real line, of how many.
+JUDGED = ("faults found as `real`", "sessions with a fault", "faults found as `maybe`", "faults missed",
+          "wrong `maybe` lines in healthy sessions", "wrong `maybe` lines in faulty sessions",
+          "of them with a `real` line", "healthy sessions")
+
+# The sentence of docs/TRUST.md, and the kernels on which all was played, also with a second recorder.
 WITNESS = re.compile(r"In (\d+) of (\d+) recordings on each of two kernels, a second recorder")
-
-# The rows of the table on the blind test, the last three of which count wrong lines.
-JUDGED = ("healthy sessions", "sessions with a fault", "faults found as `real`", "faults found as `maybe`",
-          "wrong `maybe` lines in healthy sessions", "wrong `real` lines in faulty sessions",
-          "wrong `maybe` lines in faulty sessions")
-# The kernels on which all was played, also with a second recorder.
 KERNELS = "6.1.0-57 | x86-64", "7.2.13 | x86-64"
 
 
 def cells(text: str, begin: str) -> list[int]:
-    """The numbers with which the cells of a row begin, after its first cells."""
+    """The numbers of the cells of a row, after its first cells: of `23 of 30` both."""
     row = next((line for line in text.splitlines() if line.startswith(f"| {begin} |")), "")
-    return [int(number) for number in re.findall(r"\| (\d+)\b", row.removeprefix(f"| {begin}"))]
+    return [int(number) for cell in row.removeprefix(f"| {begin} |").split("|")
+            for number in re.findall(r"^ (\d+)(?: of (\d+))?\b", cell) for number in number if number]
 
 
-def due_of_sessions(text: str) -> set[tuple[int, ...]]:
-    """The figures of each kernel."""
-    return {(healthy + faulty, faulty, real + maybe, sum(bad))
-            for healthy, faulty, real, maybe, *bad in zip(*(cells(text, begin) for begin in JUDGED))}
+def wrong_judged(text: str, measured: str) -> Iterator[tuple[int, str]]:
+    """The rows of the blind test that have other figures."""
+    columns = zip(*(cells(measured, begin) for begin in JUDGED))
+    for kernel, (real, faulty, maybe, missed, of_healthy, of_faulty, failed, healthy) in zip(JUDGED_ON, columns):
+        due = [real, faulty, maybe, missed, of_healthy + of_faulty, failed, healthy]
+        if cells(text, kernel) != due:
+            at = text.find(f"| {kernel} |")
+            yield text.count("\n", 0, max(at, 0)) + 1, f"the figures of {kernel} in docs/MEASURED.md are {due}"
 
 
-def due_of_witness(text: str) -> set[tuple[int, ...]]:
-    return {tuple(reversed(cells(text, begin)[:2])) for begin in KERNELS}
+def wrong_witness(text: str, measured: str) -> Iterator[tuple[int, str]]:
+    due = {tuple(reversed(cells(measured, begin)[:2])) for begin in KERNELS}
+    found = WITNESS.search(text)
+    if not found or {tuple(map(int, found.groups()))} != due:
+        at = text.count("\n", 0, found.start()) + 1 if found else 1
+        yield at, f"the figures in docs/MEASURED.md are {sorted(due)}"
 
 
 def wrong(page: pathlib.Path) -> Iterator[tuple[int, str]]:
-    """The sentences with other figures, each with its line."""
-    if page == README:
-        text, measured = page.read_text("utf-8"), MEASURED.read_text("utf-8")
-        for first, *others, due in ((SESSIONS, OTHER_SESSIONS, RUST_SESSIONS, due_of_sessions(measured)),
-                                    (WITNESS, due_of_witness(measured))):
-            found = first.search(text)
-            all_found = filter(None, [found, *(other.search(text) for other in others)])
-            if not found or {tuple(0 if it == "no" else int(it) for it in one.groups()) for one in all_found} != due:
-                number = text.count("\n", 0, found.start()) + 1 if found else 1
-                yield number, f"the figures in docs/MEASURED.md are {sorted(due)}"
+    """The sentences and rows with other figures, each with its line."""
+    judges = {README: wrong_judged, TRUST: wrong_witness}
+    if page in judges:
+        yield from judges[page](page.read_text("utf-8"), MEASURED.read_text("utf-8"))

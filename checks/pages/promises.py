@@ -1,5 +1,5 @@
 """docs/PROMISES.md: its wrong bodies are those of the crates, its names are in the sources, and its sizes are so.
-README.md has the number of wrong bodies too."""
+docs/TRUST.md has the number of wrong bodies too."""
 
 import functools
 import pathlib
@@ -10,7 +10,7 @@ from typing import Callable, Iterable, Iterator
 from checks.kit.programs import ROOT, edits_of
 
 PAGE = ROOT / "docs/PROMISES.md"
-README = ROOT / "README.md"
+TRUST = ROOT / "docs/TRUST.md"
 CRATES = ROOT / "crates"
 NAMED = re.compile(r"`([^`]+)`")
 # What is called on this page and is no name of the sources: a lifetime.
@@ -188,7 +188,7 @@ def wrong_counts(text: str) -> Iterator[tuple[int, str]]:
 def wrong(page: pathlib.Path) -> Iterator[tuple[int, str]]:
     """What is wrong with the page, with its line."""
     text = page.read_text("utf-8")
-    if page == README:
+    if page == TRUST:
         yield from wrong_count(text, "wrong bodies", r"(\d+) wrong changes of the code", len(stored()))
     if page == PAGE:
         checks: tuple[Callable[[str], Iterator[tuple[int, str]]], ...] = (

@@ -13,9 +13,9 @@ What must hold:
   itself if no other crate uses it.
 - The wrong bodies in a crate's page are those stored for it, each of which names the goal at which it is refused.
 - docs/PROMISES.md names each wrong body of each crate and no others, in its tables only names that are in the sources,
-  the libraries of the toolchain that the auditor stands on, and the sizes of what is trusted, up to a tenth. README.md
-  has the number of wrong bodies.
-- README.md has the figures that docs/MEASURED.md has on the blind test and on the second recorder.
+  the libraries of the toolchain that the auditor stands on, and the sizes of what is trusted, up to a tenth.
+  docs/TRUST.md has the number of wrong bodies.
+- README.md has the figures that docs/MEASURED.md has on the blind test, and docs/TRUST.md those on the second recorder.
 - docs/DEFINITIONS.md and docs/TABLE-DEFINITIONS.md are the pages that checks/run definitions makes.
 - What stands in several sources, as the most bytes of a capture, has one value in all of them (owners.py).
 """
