@@ -100,6 +100,10 @@ case $service in
       '--redact[replace what is secret]' \
       '--no-attachments[leave out the data]' \
       '--stacks[record stacks of calls]' \
+      '--keep[have a running recorder keep its newest files]' \
+      '*--keep-on[when to keep the newest files]:hang\:5s, pool\:2s, refused\:100/s, death\:NAME, logcat\:REGEX:' \
+      '--keep-when-file[keep them when this file comes]:file:_files' \
+      '--keep-most[how many sets are kept]:1 to 10000:' \
       '--ring[size of the buffer]:a power of two:' \
       '--check[only look whether a recording can be made]' \
       '--adb[record on a device that adb reaches]::serial of the device:' \

@@ -20,15 +20,10 @@ static const char *const whens[] = { [BEGIN] = "begin", [END] = "end" };
 static const char *const names[] = { "state", "transactions", "stats" };	/* the first one is what matters */
 #define WHENS (sizeof whens / sizeof *whens)
 #define NAMES (sizeof names / sizeof *names)
-
-/* A copy that was made. */
-struct copy {
-	const char *when, *name;
-	u64 time, from, after, bytes;
-};
+_Static_assert(NAMES == MOST_BOOKS, "books.h says how many there are");
 
 static struct file ends[NAMES] = { { .descriptor = -1 }, { .descriptor = -1 }, { .descriptor = -1 } };
-static struct copy untold[NAMES];	/* of which the side list does not tell yet */
+static struct book_copy untold[NAMES];	/* of which the side list does not tell yet */
 static size_t untold_count;
 
 static void path_of(char *path, const char *out, const char *when, const char *name)
@@ -80,7 +75,7 @@ int books_open(enum driver driver, const char *name)
  * number that was taken by then. Returns 0, or an errno. */
 static int read_book(int book, struct file *to, u64 *after)
 {
-	static char piece[PIECE];
+	char piece[PIECE];
 	ssize_t count;
 	int is_first = 1;
 	while ((count = read(book, piece, sizeof piece)) > 0) {
@@ -118,32 +113,63 @@ static int create_copy(struct file *to, const char *out, size_t when, size_t nam
 	return file_create(to, path);
 }
 
-/* Copies one of the books. Of two drivers that of the one in C comes first in the file. */
-static void copy_book(const char *out, size_t when, size_t name)
+/* Fills the file `to`, which is created unless that has failed, from these books. Of two drivers the text of the one in
+ * C comes first. Returns 0, or an errno. */
+static int fill_copy(struct file *to, int error, const int *books, struct book_copy *copy)
 {
-	struct file to;
-	struct copy copy = { .when = whens[when], .name = names[name], .time = now(), .from = kernel_last_number() };
-	int books[DRIVERS];
-	if (!open_books(names[name], books))
-		return;
-	copy.after = copy.from;
-	int error = create_copy(&to, out, when, name);
 	for (enum driver driver = 0; driver < DRIVERS; driver++)
 		if (books[driver] >= 0) {
-			error = error ? error : read_book(books[driver], &to, &copy.after);
+			error = error ? error : read_book(books[driver], to, &copy->after);
 			close(books[driver]);
 		}
 	if (!error)
-		error = file_flush(&to);
+		error = file_flush(to);
 	if (error)
-		file_remove(&to);
-	copy.bytes = to.bytes;
-	int end_error = file_close(&to);
-	error = error ? error : end_error;
+		file_remove(to);
+	copy->bytes = to->bytes;
+	int end_error = file_close(to);
+	return error ? error : end_error;
+}
+
+static struct book_copy begin_copy(size_t when, size_t name)
+{
+	u64 from = kernel_last_number();
+	return (struct book_copy){ .when = whens[when], .name = names[name], .time = now(), .from = from, .after = from };
+}
+
+/* Copies one of the books. */
+static void copy_book(const char *out, size_t when, size_t name)
+{
+	struct file to;
+	struct book_copy copy = begin_copy(when, name);
+	int books[DRIVERS];
+	if (!open_books(names[name], books))
+		return;
+	int error = fill_copy(&to, create_copy(&to, out, when, name), books, &copy);
 	if (error)
 		complain("%s: %s; the driver's books are not copied", to.path, strerror(error));
 	else
 		untold[untold_count++] = copy;
+}
+
+int books_copy_kept(const char *out, struct book_copy *copies, u32 *count)
+{
+	char path[LONGEST_PATH];
+	int books[DRIVERS], error = 0;
+	*count = 0;
+	for (size_t name = 0; name < NAMES && !error; name++) {
+		struct file to;
+		struct book_copy copy = begin_copy(END, name);
+		if (!open_books(names[name], books))
+			continue;
+		path_of(path, out, whens[END], names[name]);
+		error = fill_copy(&to, file_create(&to, path), books, &copy);
+		if (!error)
+			copies[(*count)++] = copy;
+		else if (error != ENOSPC && error != EDQUOT)
+			error = 0;
+	}
+	return error;
 }
 
 void books_copy(const char *out, const char *when)
@@ -168,13 +194,25 @@ void books_drop_names(void)
 		file_remove(&ends[i]);
 }
 
+void books_line(char *to, u64 room, const struct book_copy *copy)
+{
+	snprintf(to, room, "books %s %s from=%llu after=%llu bytes=%llu", copy->when, copy->name,
+		 (unsigned long long)copy->from, (unsigned long long)copy->after, (unsigned long long)copy->bytes);
+}
+
 void books_tell(void)
 {
+	char line[LONGEST_BOOKS_LINE];
 	for (size_t i = 0; i < untold_count; i++) {
-		const struct copy *copy = untold + i;
-		side_line(copy->time, "books %s %s from=%llu after=%llu bytes=%llu", copy->when, copy->name,
-			  (unsigned long long)copy->from, (unsigned long long)copy->after,
-			  (unsigned long long)copy->bytes);
+		books_line(line, sizeof line, untold + i);
+		side_line(untold[i].time, "%s", line);
 	}
 	untold_count = 0;
+}
+
+u32 books_begin_name(u32 number, char *name, u64 room)
+{
+	if (number < NAMES)
+		snprintf(name, room, ".%s.%s", whens[BEGIN], names[number]);
+	return number < NAMES;
 }

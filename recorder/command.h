@@ -23,6 +23,8 @@ int command_keep(const struct command *command);
 /* The line of the opening, without its time, in the numbers of the capture; NULL if no command line is known. It is
  * valid until the next call. */
 const char *command_line(u32 opening, u32 device, u32 process);
+/* Whether its program is called so, without folders, by what is kept of its command line. */
+int command_is_called(u32 opening, const char *name);
 /* The opening is closed, and gets no line any more. */
 void command_forget(u32 opening);
 #endif

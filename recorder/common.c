@@ -4,6 +4,8 @@
 #include <string.h>
 #include <time.h>
 
+#define WRONG_WORDS 64			/* the status */
+
 void complain_with(const char *format, va_list arguments)
 {
 	char line[1024];
@@ -26,6 +28,15 @@ void fail(const char *format, ...)
 	complain_with(format, arguments);
 	va_end(arguments);
 	exit(1);
+}
+
+void refuse(const char *format, ...)
+{
+	va_list arguments;
+	va_start(arguments, format);
+	complain_with(format, arguments);
+	va_end(arguments);
+	exit(WRONG_WORDS);
 }
 
 void *allocate(size_t bytes)

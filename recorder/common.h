@@ -14,6 +14,8 @@ void complain(const char *format, ...) __attribute__((format(printf, 1, 2)));
 void complain_with(const char *format, va_list arguments);
 /* Does the same, and ends the program with status 1. */
 void fail(const char *format, ...) __attribute__((format(printf, 1, 2), noreturn));
+/* Does the same with status 64: a word of the command line is wrong. */
+void refuse(const char *format, ...) __attribute__((format(printf, 1, 2), noreturn));
 /* Return memory, or end the program with status 1. They never return NULL. */
 void *allocate(size_t bytes);
 void *resize(void *memory, size_t bytes);

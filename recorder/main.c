@@ -7,6 +7,9 @@
 #include "common.h"
 #include "failures.h"
 #include "frame.h"
+#include "keep.h"
+#include "keep_asked.h"
+#include "kept_set.h"
 #include "kernel.h"
 #include "lack.h"
 #include "met.h"
@@ -21,6 +24,7 @@
 #include "redact.h"
 #include "side.h"
 #include "stacks.h"
+#include "triggers.h"
 #include "window.h"
 #include <errno.h>
 #include <fcntl.h>
@@ -56,6 +60,8 @@ static void catch_signals(void)
 	sigaction(SIGTERM, &action, NULL);
 	if (!sigaction(SIGHUP, NULL, &before) && before.sa_handler != SIG_IGN)	/* nohup ignores it */
 		sigaction(SIGHUP, &action, NULL);
+	action.sa_handler = keep_asked_by_signal;
+	sigaction(SIGUSR1, &action, NULL);
 	signal(SIGPIPE, SIG_IGN);
 }
 
@@ -152,6 +158,9 @@ static int record(struct ring *ring, u64 pause)
 		u64 time = now();
 		clocks_look();
 		failures_look();
+		keep_look();
+		keep_asked_look();
+		triggers_look();
 		if (time - flushed >= FLUSH_EVERY) {
 			missed_tell();
 			error = parts_flush();
@@ -243,13 +252,14 @@ static void tell_end(const char *audit)
 		parts_kept() == 1 ? "" : "s", (unsigned long long)parts_bytes(), commands);
 }
 
-/* The auditor is in the folder of the script that was called. In a package both names begin with `binder-`. */
-static const char *audit_beside(const char *self)
+/* The auditor and the viewer are in the folder of the script that was called. In a package all names begin with
+ * `binder-`. */
+static char *beside(const char *self, const char *name)
 {
-	static char path[4100];
-	const char *slash = strrchr(self, '/'), *name = slash ? slash + 1 : self;
-	snprintf(path, sizeof path, "%.*s%saudit", (int)(name - self), self,
-		 strcmp(name, "binder-record") ? "" : "binder-");
+	const char *slash = strrchr(self, '/'), *own = slash ? slash + 1 : self;
+	size_t room = strlen(self) + strlen(name) + 8;
+	char *path = allocate(room);
+	snprintf(path, room, "%.*s%s%s", (int)(own - self), self, strcmp(own, "binder-record") ? "" : "binder-", name);
 	return path;
 }
 
@@ -271,6 +281,8 @@ static void need_all(const struct options *options)
 	const char *path = parts_in_the_way(options->out);
 	if (!path)
 		path = books_in_the_way(options->out);
+	if (!path && options->files)
+		path = kept_set_in_the_way(options->out);
 	if (path)
 		lack("%s exists already, and is not overwritten", path);
 	need_space(options->out, 2 * options->size * options->files);
@@ -280,6 +292,7 @@ static void need_all(const struct options *options)
 	int has_driver = need_driver();
 	if (need_tracefs() && has_driver)
 		need_tracepoints();
+	triggers_need();
 }
 
 /* Looks whether a recording can be made, as far as it goes without one: all is loaded, and the files are created.
@@ -311,15 +324,20 @@ static void load(const struct options *options, struct ring *ring)
 }
 
 /* Begins the recording, and then the program. */
-static void begin(const struct options *options, FILE *for_ready)
+static void begin(const struct options *options, const char *self, FILE *for_ready)
 {
 	redact_begin(options->redact);
 	if (options->redact)
 		command_redact();
 	if (options->stacks)
 		stacks_begin();
+	if (options->files)
+		keep_begin(options, beside(self, "view"));
+	triggers_begin(options);
 	keep_room_for_lines();
 	create_files(options);
+	if (options->files)
+		keep_asked_begin(options->out);
 	if (for_ready)
 		tell_ready(for_ready);
 	kernel_meet_openings();
@@ -342,6 +360,8 @@ int main(int count, char **words)
 	struct options options;
 	struct ring ring;
 	options_read(&options, count, words);
+	if (options.keep)
+		return keep_request(options.has_out ? options.out : NULL);
 	FILE *for_ready = open_for_ready();
 	if (options.check || for_ready)
 		lack_list();
@@ -353,12 +373,15 @@ int main(int count, char **words)
 	if (options.check)
 		return check(&options, &ring);
 	load(&options, &ring);
-	begin(&options, for_ready);
+	begin(&options, words[0], for_ready);
 	int error = record(&ring, pause_of(&options));
 	if (error)
 		books_drop_names();
 	else
 		books_copy(options.out, "end");
+	triggers_end();
+	keep_end();
+	keep_asked_end();
 	finish(&ring);
 	redact_end();
 	int end_error = parts_end();
@@ -366,7 +389,7 @@ int main(int count, char **words)
 	if (error)
 		complain("%s: %s; the recording ends after number %llu", parts_path(), strerror(error),
 			 (unsigned long long)parts_last());
-	tell_end(audit_beside(words[0]));
+	tell_end(beside(words[0], "audit"));
 	int status = wait_for_program();
 	kernel_unload();
 	return error ? 1 : status;

@@ -17,6 +17,7 @@
 #define LAST_WAIT 1000000000u		/* for the last command lines, in nanoseconds */
 
 static u32 *devices, device_count;
+static void (*tell_end)(u32 process, u64 time, u64 after);
 static struct table process_numbers;	/* of each device: that mean a process */
 static struct again {			/* how far names_tell_on is, in which side list */
 	u32 list;
@@ -226,8 +227,30 @@ void names_ended(u32 thread, u32 process, int is_last, u64 time, u64 after)
 			end_use(LINKED(link, struct use, of_thread), time, after, "ended");
 		known_end(&t->ending, after);
 	}
+	if (is_last && tell_end)
+		tell_end(process, time, after);
 	if (is_last)
 		later_line(time, after, "end pid %u after=%llu", process, (unsigned long long)after);
+}
+
+void names_tell_end(void (*tell)(u32 process, u64 time, u64 after))
+{
+	tell_end = tell;
+}
+
+static int is_called(const struct known_opening *o, const char *name)
+{
+	return (strlen(name) < NAME_BYTES && !strncmp(o->name, name, NAME_BYTES)) || command_is_called(o->id, name);
+}
+
+int names_are_called(u32 process, const char *name)
+{
+	for (struct link *link = known_openings.next; link != &known_openings; link = link->next) {
+		const struct known_opening *o = LINKED(link, struct known_opening, all);
+		if (link != &again.opening && o->process_id == process && is_called(o, name))
+			return 1;
+	}
+	return 0;
 }
 
 void names_changed(u32 thread, const char *name, u64 time, u64 after)

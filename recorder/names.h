@@ -30,6 +30,10 @@ struct who names_of(u32 opening, u32 thread, u64 time);
 void names_closed(u32 opening, u64 time, u64 after);
 void names_left(u32 opening, u32 thread, u64 time, u64 after);
 void names_ended(u32 thread, u32 process, int is_last, u64 time, u64 after);
+/* From now on `tell` is called when a process has ended, with the last number before that. */
+void names_tell_end(void (*tell)(u32 process, u64 time, u64 after));
+/* Whether a process with an opening is called so: by its name, or its program, without folders. */
+int names_are_called(u32 process, const char *name);
 void names_changed(u32 thread, const char *name, u64 time, u64 after);
 /* All frames up to this number are written or lost: forgets what had ended by then. */
 void names_settled(u64 number);

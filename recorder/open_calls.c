@@ -58,6 +58,7 @@ static struct open_process *process_of(const struct use *use)
 	p = allocate(sizeof *p);
 	*p = (struct open_process){ .device = use->who.device, .process = use->who.process,
 				    .pid = use->opening->process_id };
+	memcpy(p->name, use->opening->name, NAME_BYTES);
 	link_put_before(&open_processes, &p->all);
 	*table_make(&processes, key_of(p->device, p->process), 0) = (u64)(uintptr_t)p;
 	return p;

@@ -18,6 +18,7 @@ struct open_process {
 	u32 waiting;			/* calls for it that none of its threads has; see `receiver` below */
 	u64 full_since;			/* when the last thread of the pool began to serve; 0 if one does not */
 	u32 mark;			/* for who looks at it; 0 at first, and again when a thread of the pool is free */
+	char name[NAME_BYTES];
 };
 
 struct open_thread {

@@ -1,6 +1,7 @@
 #include "options.h"
 #include "messages.h"
 #include "parts.h"
+#include "triggers.h"
 #include <errno.h>
 #include <getopt.h>
 #include <stdio.h>
@@ -12,11 +13,14 @@
 #define LARGEST_RING (1u << 30)
 #define FEWEST_FILES 2u		/* the newest one may just have begun */
 #define MOST_FILES 65536u
-#define WRONG_WORDS 64		/* the status */
+#define MOST_SETS 10000u
 
 static const char usage[] =
 	"record [-o OUT] [--size BYTES] [--files N] [--pid PID].. [--only PROCESS].. [--device NAME].."
-	" [--redact] [--no-attachments] [--ring BYTES] [--stacks] [--check | --version | -- PROGRAM ARGUMENT...]";
+	" [--redact] [--no-attachments] [--ring BYTES] [--stacks] [--keep-on TRIGGER].. [--keep-when-file PATH]"
+	" [--keep-most N] [--check | --version | -- PROGRAM ARGUMENT...]";
+
+static const char usage_of_keep[] = "record --keep [-o OUT]";
 
 static const char usage_of_adb[] =
 	"record --adb [SERIAL] [--detach | --fetch] [--view] [--no-names] [--collect[=NAME,..]] [OPTION].."
@@ -38,6 +42,18 @@ static const char help[] =
 	"                   and keeps of command lines only what programs are called, without folders\n"
 	"--no-attachments   leaves out the data of transactions and replies\n"
 	"--stacks           also records the stacks of calls that write, as far as programs keep frame pointers\n"
+	"--keep             has a recorder that runs with --files keep its files as they are now, with side lists and copies of\n"
+	"                   what the driver holds, in the folder OUT.kept-TIME, while it goes on: the one with this OUT, or\n"
+	"                   the only one. SIGUSR1 does the same\n"
+	"--keep-on TRIGGER  with --files: keeps them as soon as there is, and at most once a minute\n"
+	"                     hang:TIME     a call that has been open for so long, as in hang:5s\n"
+	"                     pool:TIME     a process whose threads have all served for so long, while a call waits\n"
+	"                     refused:N/s   so many sends within a second that the driver refused\n"
+	"                     death:NAME    the end of a process of this name\n"
+	"                     logcat:REGEX  a line of Android's log that fits, in the extended form of POSIX\n"
+	"                   may be given several times, each once\n"
+	"--keep-when-file PATH  with --files: keeps them when there is such a file, or it was changed\n"
+	"--keep-most N      keeps no more while there are so many of these folders, 1 to 10000; by default 8\n"
 	"--ring BYTES       the size of the buffer between kernel and recorder, a power of two; by default 67108864\n"
 	"--check            records nothing: says in a line each what a recording with these options lacks, or that the\n"
 	"                   system is ready for it, and with which kernel, driver and devices\n"
@@ -59,16 +75,6 @@ static const char help[] =
 	"\n"
 	"The exit status is that of PROGRAM, or 128 and the number of its signal; 1 if no recording was made, or could be;\n"
 	"64 if a word is wrong.\n";
-
-/* Says which word is wrong. */
-static void __attribute__((format(printf, 1, 2), noreturn)) refuse(const char *format, ...)
-{
-	va_list arguments;
-	va_start(arguments, format);
-	complain_with(format, arguments);
-	va_end(arguments);
-	exit(WRONG_WORDS);
-}
 
 /* A word that getopt_long does not take: of a long option that it knows, `optopt` is the letter. */
 static void __attribute__((noreturn)) refuse_option(const char *word)
@@ -116,7 +122,7 @@ static void add_device(struct options *options, const char *text)
 static void take(struct options *options, int letter, const char *word)
 {
 	switch (letter) {
-	case 'o': options->out = optarg; break;
+	case 'o': options->out = optarg; options->has_out = 1; break;
 	case 's': options->size = number("--size", optarg, SMALLEST_FILE, MOST_TOGETHER); break;
 	case 'f': options->files = (u32)number("--files", optarg, FEWEST_FILES, MOST_FILES); break;
 	case 'p': add_process(options, optarg); break;
@@ -125,10 +131,14 @@ static void take(struct options *options, int letter, const char *word)
 	case 'x': options->redact = 1; break;
 	case 'a': options->no_attachments = 1; break;
 	case 't': options->stacks = 1; break;
+	case 'k': triggers_add(optarg); break;
+	case 'w': triggers_add_file(optarg); break;
+	case 'm': options->keep_most = (u32)number("--keep-most", optarg, 1, MOST_SETS); break;
+	case 'K': options->keep = 1; break;
 	case 'r': options->ring = number("--ring", optarg, SMALLEST_RING, LARGEST_RING); break;
 	case 'c': options->check = 1; break;
 	case 'b': refuse("--adb comes first, and --detach, --fetch, --view, --no-names and --collect after it: %s", usage_of_adb);
-	case 'h': printf("%s\n%s\n\n%s", usage, usage_of_adb, help); exit(0);
+	case 'h': printf("%s\n%s\n%s\n\n%s", usage, usage_of_keep, usage_of_adb, help); exit(0);
 	case ':': refuse("%s takes a value; record --help says which", word);
 	default: refuse_option(word);
 	}
@@ -148,11 +158,14 @@ void options_read(struct options *options, int count, char **words)
 		{ "fetch", no_argument, NULL, 'b' }, { "no-names", no_argument, NULL, 'b' },
 		{ "view", no_argument, NULL, 'b' },
 		{ "collect", optional_argument, NULL, 'b' },
+		{ "keep", no_argument, NULL, 'K' }, { "keep-on", required_argument, NULL, 'k' },
+		{ "keep-when-file", required_argument, NULL, 'w' }, { "keep-most", required_argument, NULL, 'm' },
 		{ "help", no_argument, NULL, 'h' }, { NULL, 0, NULL, 0 },
 	};
-	*options = (struct options){ .out = "capture", .size = 268435456, .ring = 67108864 };
+	*options = (struct options){ .out = "capture", .size = 268435456, .ring = 67108864, .keep_most = 8 };
 	opterr = 0;
-	for (int at = optind, letter; (letter = getopt_long(count, words, "+:o:h", names, NULL)) != -1; at = optind)
+	int given = 0;
+	for (int at = optind, letter; (letter = getopt_long(count, words, "+:o:h", names, NULL)) != -1; at = optind, given++)
 		take(options, letter, words[at]);
 	if (optind < count && strcmp(words[optind - 1], "--"))
 		refuse("%s: what is no option comes after --, as the program that is recorded; record --help says more",
@@ -163,6 +176,10 @@ void options_read(struct options *options, int count, char **words)
 		refuse("--check takes no PROGRAM: nothing is recorded");
 	if (options->ring & (options->ring - 1))
 		refuse("--ring takes a power of two, not %llu", (unsigned long long)options->ring);
+	if (options->keep && (given > 1 + options->has_out || options->program))
+		refuse("--keep takes no other word but -o OUT: it asks a recorder that runs already");
+	if (!options->files && triggers_are_asked())
+		refuse("--keep-on and --keep-when-file take --files N: what is kept are the newest files");
 	if (options->stacks && options->redact)
 		refuse("--stacks does not go with --redact: it records paths of files and addresses of code");
 	if (!*options->out || strlen(options->out) > 4000)

@@ -16,6 +16,9 @@ struct options {
 	const char *called[MOST_NAMED];	/* names and users of --only */
 	u32 called_count;
 	int redact, no_attachments, stacks;
+	u32 keep_most;			/* how many sets are kept at one time */
+	int keep;			/* only asks a recorder that runs already */
+	int has_out;
 	int check;			/* only looks whether a recording can be made */
 	char **program;			/* NULL if there is none */
 };

@@ -2,6 +2,7 @@
 #include "parts.h"
 #include "begin.h"
 #include "file.h"
+#include "shell_word.h"
 #include "side.h"
 #include <errno.h>
 #include <glob.h>
@@ -18,6 +19,7 @@ static u64 *sizes;		/* by number, of the closed files; at the end also of the la
 static u32 count, first = 1;	/* the files from number `first` to number `count` are kept */
 static u32 made, removed;	/* how many there were, and how many are not kept */
 static u32 most_files;		/* 0: all are kept, and have one side list */
+static int is_held;		/* no file is removed now */
 static int is_begun = 1;	/* the first lines of the side list are there */
 static u64 first_bytes;		/* so many bytes they have */
 static int first_error, side_failed;	/* side_failed: that was an error of the side list */
@@ -181,11 +183,9 @@ static int remove_part(u32 number, const char *ending)
 	return unlink(path) && errno != ENOENT ? errno : 0;
 }
 
-/* Makes room for one more file, of --files, by removing the oldest one and its side list. */
+/* Removes the oldest file and its side list. Returns 0, or an errno. */
 static int remove_oldest(void)
 {
-	if (parts_kept() < most_files)
-		return 0;
 	while (!sizes[first - 1])
 		first++;
 	int error = remove_part(first, "cap");
@@ -196,10 +196,19 @@ static int remove_oldest(void)
 	return error ? error : side_error;
 }
 
+/* Removes files of --files until so many are left. If none was removed for a while, several may be due. */
+static int remove_until(u32 left)
+{
+	int error = 0;
+	while (!error && !is_held && parts_kept() > left)
+		error = remove_oldest();
+	return error;
+}
+
 /* Closes the side list of --files. The next one is for the next file. */
 static int end_side(void)
 {
-	int error = remove_oldest();
+	int error = remove_until(most_files - 1);
 	if (error)
 		return error;
 	error = side_close();
@@ -268,6 +277,49 @@ int parts_next_frame(u64 number, u64 time, u64 bytes)
 	return 0;
 }
 
+int parts_go_on(void)
+{
+	if (!is_begun && !first_error)
+		go_on();
+	return is_begun || first_error;
+}
+
+int parts_cut(u64 number, u64 time)
+{
+	if (!parts_go_on())
+		return PARTS_LATER;
+	if (!first_error)
+		begin_next(number + 1, time);
+	return first_error;
+}
+
+void parts_hold(void)
+{
+	is_held = 1;
+}
+
+void parts_let_go(void)
+{
+	is_held = 0;
+	int error = remove_until(most_files);
+	first_error = first_error ? first_error : error;
+}
+
+u32 parts_first(void)
+{
+	return first;
+}
+
+u32 parts_newest(void)
+{
+	return count;
+}
+
+u64 parts_size(u32 number)
+{
+	return number >= first && number <= count ? sizes[number - 1] : 0;
+}
+
 void parts_add(const void *bytes, u64 number)
 {
 	if (!first_error)
@@ -282,6 +334,8 @@ void parts_lend(const void *bytes, u64 number)
 
 int parts_end(void)
 {
+	while (!parts_go_on())
+		continue;
 	if (part.descriptor >= 0)
 		close_part();
 	return first_error;
@@ -317,31 +371,13 @@ u32 parts_kept(void)
 	return made - removed;
 }
 
-/* Quotes the word for a shell. */
-static void quote(char *to, u64 room, const char *word)
-{
-	static const char plain[] = "ABCDEFGHIJKLMNOPQRSTUVWXYZabcdefghijklmnopqrstuvwxyz0123456789_./,:+@%-";
-	const char *end = to + room - 6;	/* leaves room for one more quote in the word, and for the last one */
-	if (!word[strspn(word, plain)]) {
-		snprintf(to, room, "%s", word);
-		return;
-	}
-	*to++ = '\'';
-	for (; *word && to < end; word++) {
-		if (*word == '\'')
-			to = stpcpy(to, "'\\'");
-		*to++ = *word;
-	}
-	strcpy(to, "'");
-}
-
 /* Adds the names of files whose numbers follow each other. None is taken for an option. */
 static u64 add_names(char *text, u64 room, u32 from, u32 to)
 {
 	static char out[4 * LONGEST_PATH];
 	const char *here = prefix[0] == '-' ? "./" : "";
 	int length;
-	quote(out, sizeof out, prefix);
+	shell_word(out, sizeof out, prefix);
 	if (from == to)
 		length = snprintf(text, room, " %s%s-%u.cap", here, out, from);
 	else
@@ -352,7 +388,7 @@ static u64 add_names(char *text, u64 room, u32 from, u32 to)
 static u64 add_command(char *text, u64 room, const char *audit, u32 from, u32 to)
 {
 	static char program[4 * LONGEST_PATH];
-	quote(program, sizeof program, audit);
+	shell_word(program, sizeof program, audit);
 	int length = snprintf(text, room, "%s report", program);
 	u64 used = (u64)length < room ? (u64)length : room - 1;
 	for (u32 number = from, next; number <= to; number = next + 1) {

@@ -21,6 +21,20 @@ int parts_have_room(u64 bytes);
  * failure; then the frame is not written. Or PARTS_LATER: the side list of the next file has many first lines, and the
  * ring must not get full meanwhile. Then the call is due once more, for the same frame. */
 int parts_next_frame(u64 number, u64 time, u64 bytes);
+/* With --files: ends the file, which has all frames up to this number, and begins the next one. Returns 0, or an errno, or
+ * PARTS_LATER as above. */
+int parts_cut(u64 number, u64 time);
+/* Writes some more of the side list's first lines, if no frame comes that would. Returns 1 if they are all there. */
+int parts_go_on(void);
+/* From now on no file is removed, */
+void parts_hold(void);
+/* or those are that there are too many of, and later ones again. */
+void parts_let_go(void);
+/* The numbers of the oldest file that is kept and of the newest one, and how many bytes one between has that is ended; 0 if
+ * it is none of ours. */
+u32 parts_first(void);
+u32 parts_newest(void);
+u64 parts_size(u32 number);
 void parts_add(const void *bytes, u64 count);
 /* Adds bytes that stay where they are until the next flush. */
 void parts_lend(const void *bytes, u64 count);

@@ -32,6 +32,7 @@ struct slot {
 	int is_answered;			/* what came of its sends is known, or will not be */
 	char *lines;				/* lines of the side list that come after this number */
 	u64 line_bytes, line_room;
+	u64 line_time;				/* the latest time of one of them */
 };
 
 static struct slot *slots;
@@ -41,6 +42,9 @@ static u64 checked;				/* no number up to this one is silent */
 static u64 memory, waiting, frames, lost, lost_because[REASON_END];
 static u64 last_number = UINT64_MAX, last_time = UINT64_MAX;	/* where the recording ends */
 static u64 latest;				/* the latest time of a frame that was written */
+static u64 latest_line;				/* and of a line of something that came after a number */
+static u64 mark = UINT64_MAX;			/* after this number something else comes first */
+static int (*at_mark)(void);
 static struct table last_writes;		/* by thread: the number of its last write */
 static int bounds_refused;
 static int is_lent;				/* the message that is heard stays in the ring for a while */
@@ -54,6 +58,7 @@ u64 window_lost(void) { return lost; }
 u64 window_lost_because(enum reason reason) { return lost_because[reason]; }
 u64 window_last(void) { return next - 1; }
 u64 window_latest(void) { return latest; }
+u64 window_latest_line(void) { return latest_line; }
 
 static struct slot *at(u64 number)
 {
@@ -139,6 +144,8 @@ static int settle_slot(struct slot *slot)
 		write_lost(slot);
 	if (slot->lines)
 		side_text(slot->lines);
+	if (slot->line_time > latest_line)
+		latest_line = slot->line_time;
 	free(slot->lines);
 	memory -= slot->line_room;
 	if (slot->frame)
@@ -156,11 +163,32 @@ static int is_in_doubt(const struct slot *slot, u64 time)
 	       slot->since + LONGEST_DOUBT > time && frame_is_in_doubt(slot->frame, slot->consumed);
 }
 
+void window_mark(u64 number, int (*then)(void))
+{
+	mark = number;
+	at_mark = then;
+}
+
+/* Whether nothing else comes before the next number. */
+static int is_past_mark(void)
+{
+	if (next <= mark)
+		return 1;
+	if (!at_mark())
+		return 0;
+	mark = UINT64_MAX;
+	return 1;
+}
+
 /* Returns 1 if there is more to write. */
 static int settle(void)
 {
 	u64 began = now();
-	for (u64 first = next; next < end;) {
+	for (u64 first = next;;) {
+		if (!is_past_mark())
+			return 1;
+		if (next == end)
+			return 0;
 		struct slot *slot = at(next);
 		if (slot->state == WAITING && (slot->since + LONGEST_WAIT < began || memory > MOST_MEMORY))
 			lose_slot(slot, REASON_HELD_TOO_LONG);
@@ -173,7 +201,6 @@ static int settle(void)
 		else if (memory <= MOST_MEMORY)
 			return 1;
 	}
-	return 0;
 }
 
 int window_settle(void)
@@ -222,8 +249,10 @@ void later_line(u64 time, u64 after, const char *format, ...)
 	struct slot *slot = slot_of(after);
 	if (!slot) {
 		side_line(time, "%s", line);
+		latest_line = time > latest_line ? time : latest_line;
 		return;
 	}
+	slot->line_time = time > slot->line_time ? time : slot->line_time;
 	u64 more = strlen(line) + 32;
 	if (slot->line_bytes + more > slot->line_room) {
 		memory -= slot->line_room;

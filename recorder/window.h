@@ -23,6 +23,9 @@ int window_settle(void);
 void window_stop(u64 number, u64 time);
 /* No message comes any more: writes what is left up to that number. */
 void window_end(void);
+/* When all numbers up to this one are settled, calls `then` before anything of a later one is written: again and again,
+ * until it returns 1. */
+void window_mark(u64 number, int (*then)(void));
 /* How many writes wait for the driver to say what it consumed. */
 u64 window_waiting(void);
 u64 window_frames(void);
@@ -32,4 +35,6 @@ u64 window_lost_because(enum reason reason);
 u64 window_last(void);
 /* The latest time of a frame that was written. */
 u64 window_latest(void);
+/* The latest time of what ended or changed, of what was written. */
+u64 window_latest_line(void);
 #endif
