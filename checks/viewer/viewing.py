@@ -6,6 +6,7 @@ another capture to compare with, and what means harm.
                                      pdftotext; by hand
     checks/run viewing -- --large    checks and prints how many bytes large pages have, and what of the processor it
                                      takes chromium to open them; by hand
+    checks/run viewing -- --pictures makes the pictures of the page in docs/VIEW.md anew; by hand
     checks/run viewing -- --edits [EDIT]
                                      tries wrong templates of the page: each edit of page/edits.txt must be refused, and
                                      a line says by which check; by hand. EDIT is a part of the names of some, or
@@ -90,6 +91,7 @@ from checks.viewer.page.methods import check_methods, check_unnamed
 from checks.viewer.page.moments import check_moments
 from checks.viewer.page.packed import check_broken, check_packed, check_timing
 from checks.viewer.page.sections import check_filled, check_sections
+from checks.viewer.page.pictures import make_pictures
 from checks.viewer.page.power import check_power
 from checks.viewer.page.services import check_manager, check_services
 from checks.viewer.page.sides import (check_files, check_forms, check_last_names, check_late, check_list_of_loader,
@@ -133,6 +135,8 @@ def judge(given: argparse.Namespace, room: pathlib.Path, fail: Fail) -> None:
     if given.browser:
         room = pathlib.Path(tempfile.mkdtemp(prefix="checks-view."))  # its pictures stay
         check_browser(programs(room, given.programs[0]), room, fail)
+    elif given.pictures:
+        make_pictures(programs(room, given.programs[0]), room)
     elif given.large:
         check_large(programs(room, given.programs[0]), room, fail)
     elif given.edits is not None:
@@ -142,4 +146,4 @@ def judge(given: argparse.Namespace, room: pathlib.Path, fail: Fail) -> None:
 
 
 if __name__ == "__main__":
-    check(judge, names, browser=FLAG, large=FLAG, edits={"nargs": "?", "const": ""})
+    check(judge, names, browser=FLAG, large=FLAG, pictures=FLAG, edits={"nargs": "?", "const": ""})
