@@ -8,8 +8,9 @@ from checks.kit.checking import Fail, compare, row
 from checks.kit.large_pages import Crowd, of_findings, of_processes
 from checks.viewer.page.common import view
 
-# The most bytes of a page, and the most seconds of the processor that its renderer takes until it is drawn.
-MOST_BYTES, MOST_SECONDS = 3_000_000, 2.0
+# The most bytes of a page, and the most seconds of the processor that its renderer takes until it is drawn: the least
+# of so many times, since what else runs makes each longer.
+MOST_BYTES, MOST_SECONDS, TIMES = 3_000_000, 2.0, 3
 
 # What is large, and of what a page must have how much, in all.
 LARGE: dict[str, tuple[Callable[[], Crowd], str, int]] = {
@@ -46,7 +47,7 @@ def check_large(folder: pathlib.Path, room: pathlib.Path, fail: Fail) -> None:
         words = made().write(room, page.stem)
         status, _, told = view(folder, room, *words, "-o", page.name)
         compare(f"{what}: status", (status, told), (0, ""), fail)
-        size, (seconds, main) = page.stat().st_size, opened(page)
+        size, (seconds, main) = page.stat().st_size, min(opened(page) for _ in range(TIMES))
         row(what, f"{size:,}", f"{seconds:.2f}", f"{main:.2f}")
         compare(f"{what}: at most {MOST_BYTES:,} bytes", size <= MOST_BYTES, True, fail)
         compare(f"{what}: opened in {MOST_SECONDS} s of the processor", seconds <= MOST_SECONDS, True, fail)
