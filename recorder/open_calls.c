@@ -21,7 +21,7 @@ struct queue {
 	struct link calls;
 };
 
-static int are_kept;
+int open_calls_are_kept;
 static struct table threads;		/* by device, process and thread: the address */
 static struct table processes;		/* by device and process: the address */
 static struct table queues;		/* by what a delivery tells of its call: the address */
@@ -30,12 +30,7 @@ static u32 level_count;
 
 void open_calls_begin(void)
 {
-	are_kept = 1;
-}
-
-int open_calls_are_kept(void)
-{
-	return are_kept;
+	open_calls_are_kept = 1;
 }
 
 static u64 key_of(u32 device, u32 process)
@@ -66,7 +61,7 @@ static struct open_process *process_of(const struct use *use)
 
 void open_calls_thread(const struct use *use)
 {
-	if (!are_kept)
+	if (!open_calls_are_kept)
 		return;
 	struct open_thread *t = allocate(sizeof *t);
 	*t = (struct open_thread){ .who = use->who, .pid = use->thread->process_id, .tid = use->thread->thread_id,
@@ -355,10 +350,10 @@ static void take_return(struct open_thread *t, const struct frame *frame, u32 at
 	}
 }
 
-void open_calls_frame(const struct frame *frame)
+void open_calls_take(const struct frame *frame)
 {
 	struct record record;
-	struct open_thread *t = are_kept ? thread_of(&frame->who) : NULL;
+	struct open_thread *t = thread_of(&frame->who);
 	for (u64 at = 0; t && record_at(frame->commands, frame->bytes, at, &record); at = record.end)
 		if (frame->direction == DIRECTION_WRITE)
 			take_command(t, frame, (u32)at, record.word, record.payload);
@@ -372,7 +367,7 @@ void open_calls_frame(const struct frame *frame)
 
 void open_calls_thread_ended(struct who who)
 {
-	struct open_thread *t = are_kept ? thread_of(&who) : NULL;
+	struct open_thread *t = open_calls_are_kept ? thread_of(&who) : NULL;
 	if (!t)
 		return;
 	while (!link_is_alone(&t->levels))
@@ -385,7 +380,7 @@ void open_calls_thread_ended(struct who who)
 /* Its threads have ended before it. */
 void open_calls_process_ended(u32 device, u32 process)
 {
-	struct open_process *p = are_kept ? process_if(device, process) : NULL;
+	struct open_process *p = open_calls_are_kept ? process_if(device, process) : NULL;
 	if (!p)
 		return;
 	for (struct link *link = p->waiting ? open_calls.next : &open_calls; link != &open_calls; link = link->next)

@@ -57,13 +57,19 @@ struct refused_sends {
 	u32 record, pid;
 };
 
+extern int open_calls_are_kept;
+
 /* From now on it is kept: before any frame comes. */
 void open_calls_begin(void);
-int open_calls_are_kept(void);
 /* A thread got its numbers in the capture. */
 void open_calls_thread(const struct use *use);
-/* Takes the records of a frame that is written. */
-void open_calls_frame(const struct frame *frame);
+void open_calls_take(const struct frame *frame);
+/* Takes the records of a frame that is written. It is called for each frame, and mostly nothing asks for it. */
+static inline void open_calls_frame(const struct frame *frame)
+{
+	if (open_calls_are_kept)
+		open_calls_take(frame);
+}
 /* What ended has no open calls any more. */
 void open_calls_thread_ended(struct who who);
 void open_calls_process_ended(u32 device, u32 process);

@@ -32,7 +32,6 @@ struct slot {
 	int is_answered;			/* what came of its sends is known, or will not be */
 	char *lines;				/* lines of the side list that come after this number */
 	u64 line_bytes, line_room;
-	u64 line_time;				/* the latest time of one of them */
 };
 
 static struct slot *slots;
@@ -124,6 +123,16 @@ static void write_lost(const struct slot *slot)
 	lost_because[slot->reason]++;
 }
 
+/* Each begins with its time. */
+static void write_slot_lines(const char *lines)
+{
+	side_text(lines);
+	for (const char *line = lines; *line; line = strchr(line, '\n') + 1) {
+		u64 time = strtoull(line, NULL, 10);
+		latest_line = time > latest_line ? time : latest_line;
+	}
+}
+
 /* Writes the contents of the slot of `next`. Returns 0 if they wait for the next file. */
 static int settle_slot(struct slot *slot)
 {
@@ -143,9 +152,7 @@ static int settle_slot(struct slot *slot)
 	if (slot->state == LOST)
 		write_lost(slot);
 	if (slot->lines)
-		side_text(slot->lines);
-	if (slot->line_time > latest_line)
-		latest_line = slot->line_time;
+		write_slot_lines(slot->lines);
 	free(slot->lines);
 	memory -= slot->line_room;
 	if (slot->frame)
@@ -169,11 +176,9 @@ void window_mark(u64 number, int (*then)(void))
 	at_mark = then;
 }
 
-/* Whether nothing else comes before the next number. */
-static int is_past_mark(void)
+/* Does what comes before the next number. Returns 0 if that is not done yet. */
+static int pass_mark(void)
 {
-	if (next <= mark)
-		return 1;
 	if (!at_mark())
 		return 0;
 	mark = UINT64_MAX;
@@ -185,7 +190,7 @@ static int settle(void)
 {
 	u64 began = now();
 	for (u64 first = next;;) {
-		if (!is_past_mark())
+		if (next > mark && !pass_mark())
 			return 1;
 		if (next == end)
 			return 0;
@@ -252,7 +257,6 @@ void later_line(u64 time, u64 after, const char *format, ...)
 		latest_line = time > latest_line ? time : latest_line;
 		return;
 	}
-	slot->line_time = time > slot->line_time ? time : slot->line_time;
 	u64 more = strlen(line) + 32;
 	if (slot->line_bytes + more > slot->line_room) {
 		memory -= slot->line_room;

@@ -1,8 +1,9 @@
-/* heard OUT BYTES CALLS: gives the recorder's loader the messages of so many calls, each with BYTES of data and 4 bytes
+/* heard OUT BYTES CALLS [followed]: gives the recorder's loader the messages of so many calls, each with BYTES of data and 4 bytes
  * of answer, as cost/calls.c makes them. See heard. */
 #include "frame.h"
 #include "kit.h"
 #include "names.h"
+#include "open_calls.h"
 #include "parts.h"
 #include "redact.h"
 #include "side.h"
@@ -11,7 +12,7 @@
 #include <stdlib.h>
 #include <string.h>
 
-enum { CLIENT = 1, SERVICE, MOST_DATA = 1 << 16, ANSWER = 4, RECORD = 4 + sizeof(struct binder_transaction_data) };
+enum { CLIENT = 1, SERVICE, PROCESS = 100, MOST_DATA = 1 << 16, ANSWER = 4, RECORD = 4 + sizeof(struct binder_transaction_data) };
 #define MOST_BEHIND 16383u		/* bytes of data in the message of a small frame: small.bpf.h */
 #define CALLS_AT_ONCE 16		/* of which the messages are in the ring together */
 #define RING_BYTES (64u << 20)		/* as by default */
@@ -45,7 +46,7 @@ static void begin_commands(void)
 
 static void carry(u32 word, u64 data)
 {
-	struct binder_transaction_data made = { .data_size = data };
+	struct binder_transaction_data made = { .data_size = data, .sender_pid = PROCESS };
 	command(word, &made, sizeof made);
 }
 
@@ -135,16 +136,18 @@ static void hear_calls(u32 bytes, long calls)
 
 int main(int count, char **words)
 {
-	if (count != 4 || strtoul(words[2], NULL, 10) > MOST_DATA)
-		fail("heard OUT BYTES CALLS");
+	if (count < 4 || strtoul(words[2], NULL, 10) > MOST_DATA)
+		fail("heard OUT BYTES CALLS [followed]");
+	if (count > 4)
+		open_calls_begin();
 	u32 bytes = (u32)strtoul(words[2], NULL, 10);
 	made_ring_begin(&ring, RING_BYTES);
 	redact_begin(0);
 	if (parts_begin(words[1], 1u << 28, 0))
 		fail("%s can't be written", words[1]);
-	names_opening(1, now(), 0, 100, 1, "heard\0\0\0\0\0\0\0\0\0\0", MET_FROM_START);
-	names_thread(CLIENT, 101, 100, 1, "client\0\0\0\0\0\0\0\0\0");
-	names_thread(SERVICE, 102, 100, 1, "service\0\0\0\0\0\0\0\0");
+	names_opening(1, now(), 0, PROCESS, 1, "heard\0\0\0\0\0\0\0\0\0\0", MET_FROM_START);
+	names_thread(CLIENT, 101, PROCESS, 1, "client\0\0\0\0\0\0\0\0\0");
+	names_thread(SERVICE, 102, PROCESS, 1, "service\0\0\0\0\0\0\0\0");
 	hear_calls(bytes, strtol(words[3], NULL, 10));
 	return window_lost() || parts_end();
 }
