@@ -84,12 +84,12 @@ _binder_record() { # COMMAND WORD BEFORE
 _binder_view() { # COMMAND WORD BEFORE
   COMPREPLY=()
   case $3 in
-    --process | --thread | --from | --to | --last | --between | --around | --call | --slow) ;;
+    --process | --thread | --from | --to | --last | --between | --around | --call | --absent | --slow) ;;
     --fail-on) _binder_audit_words "$2" 'real maybe' ;;
     --names) _binder_audit_words "$2" android ;;
     *)
       _binder_audit_options "$2" '--side --no-side --methods --symbols -o --database --groups --columns --all --against
-        --fail-on --known --trace --names --process --thread --from --to --last --between --around --call --slow
+        --fail-on --known --trace --names --process --thread --from --to --last --between --around --call --absent --slow
         --timing
         --help --version'
       ;;

@@ -139,6 +139,7 @@ case $service in
       '(--last --around)--between[show from a moment to another one]:begin: :end:' \
       '(--last --between)--around[show what is around a place]:place:' \
       '--call[print where the time of a call went]:place, or moment and process:' \
+      '--absent[print whether a call was made, or may be missing]:method, as IHello.sayHello:' \
       '--slow[how long a call of a main thread takes at least that the page lists]:16ms or 1s:' \
       '--timing[say how long each phase took]' \
       '(- *)--help[say what the options do]' \

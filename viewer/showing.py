@@ -8,6 +8,7 @@ import sqlite3
 import sys
 from typing import TYPE_CHECKING, Iterator, NamedTuple, NoReturn
 
+from viewer.absent import called as absent_call
 from viewer.calls import asked as asked_call
 from viewer.command_line import Words
 from viewer.database import loading, raw_tables, side_list
@@ -56,6 +57,7 @@ def add_words(line: Words) -> None:
     line.add_argument("--to", dest="final", type=number, metavar="N")
     windows.add_to(line)
     line.add_argument("--call", type=asked_call.call, metavar="CALL")
+    line.add_argument("--absent", type=absent_call.called, metavar="METHOD")
     line.add_argument("--slow", type=windows.length, metavar="TIME")
     line.add_argument("--timing", action="store_true")
 
@@ -64,6 +66,8 @@ def why_not(asked: argparse.Namespace) -> Iterator[str]:
     """Which words do not go together."""
     if asked.call is not None and asked.groups:
         yield "--call does not go with --groups: each has lines of its own"
+    if asked.absent is not None and (asked.groups or asked.call is not None):
+        yield "--absent does not go with --groups or --call: each has lines of its own"
     if asked.groups and asked.page:
         yield "-o does not go with --groups, which makes no page"
     if (asked.columns or asked.all) and not asked.groups:
@@ -72,8 +76,8 @@ def why_not(asked: argparse.Namespace) -> Iterator[str]:
         yield "--no-side does not go with --side"
     if asked.trace is None and {asked.thread, asked.first, asked.final} != {None}:
         yield "--thread, --from and --to narrow a timeline, and go with --trace"
-    if asked.process is not None and not (asked.page or asked.groups or asked.trace):
-        yield "--process narrows a page, groups or a timeline"
+    if asked.process is not None and not (asked.page or asked.groups or asked.trace or asked.absent):
+        yield "--process narrows a page, groups, a timeline or --absent"
     if {asked.first, asked.final} != {None} and windows.is_asked(asked):
         yield "--from and --to do not go with --last, --between or --around"
     if asked.trace is not None and not asked.trace.endswith(SUFFIXES):
@@ -90,7 +94,7 @@ def asked_by(words: list[str], help_text: str | None) -> argparse.Namespace:
     line = Words("view", "view", help_text)
     add_words(line)
     asked = line.parse_args(words)
-    if asked.page is None and not asked.groups and {asked.trace, asked.against, asked.call} == {None}:
+    if asked.page is None and not asked.groups and {asked.trace, asked.against, asked.call, asked.absent} == {None}:
         asked.page = f"{asked.files[0]}.html"
     for why in why_not(asked):
         line.error(why)
@@ -194,6 +198,15 @@ def groups_of(database: sqlite3.Connection, asked: argparse.Namespace, fault: Fa
     return lines_of(database, fault, window)
 
 
+def absent_of(database: sqlite3.Connection, asked: argparse.Namespace, window: windows.Window | None) -> Iterator[str]:
+    """What --absent prints."""
+    from viewer.absent.asked_of import openings_of, span_of
+    from viewer.absent.lines import lines_of
+    openings = None if asked.process is None else openings_of(database, asked.process)
+    span = span_of(database, window if windows.is_asked(asked) else None, asked.between)
+    return lines_of(database, absent_call.meant_in(database, asked.absent), openings, span)
+
+
 def is_in_columns(asked: argparse.Namespace) -> bool:
     return asked.groups and (asked.columns or sys.stdout is not None and sys.stdout.isatty())
 
@@ -201,7 +214,8 @@ def is_in_columns(asked: argparse.Namespace) -> bool:
 def told_at_end(database: sqlite3.Connection, asked: argparse.Namespace, window: windows.Window | None) -> str | None:
     """What a line on standard error says at the end; None if standard output has an answer for a program, of the whole
     capture."""
-    made = asked.page or asked.trace or (is_in_columns(asked) or window) and shown_name(asked.files)
+    made = asked.page or asked.trace or (is_in_columns(asked) or window and asked.absent is None) and \
+        shown_name(asked.files)
     return f"{made}: {within.told_of(database, window)}" if made else None
 
 
@@ -238,6 +252,8 @@ def answer(database: sqlite3.Connection, asked: argparse.Namespace, fault: Fault
     if asked.call is not None:
         from viewer.calls.lines import lines_of
         lines += lines_of(database, asked_call.place_of(database, asked.call))
+    if asked.absent is not None:
+        lines += absent_of(database, asked, window)
     if asked.groups:
         lines += groups_of(database, asked, fault, window)
     if gate:

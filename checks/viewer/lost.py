@@ -1,5 +1,6 @@
 """Checks that no finding of `view` is `real` because of a lost frame: of each small session of sessions/*cases.py
-frames are lost in turn, as the side list says. What is `real` then must be `real` in the whole session, too.
+frames are lost in turn, as the side list says. What is `real` then must be `real` in the whole session, too; and of a
+call that the lost frame had, `view --absent` does not say that its process made no other one.
 
     checks/run lost                    loses one frame of 400, and those of which one was found wrong before
     checks/run lost -- --most N        loses N frames of each session, or each one of it: for 12, 20 minutes of the
@@ -23,6 +24,9 @@ from checks.kit.programs import ROOT
 from checks.viewer.sessions.every import CASES
 from checks.viewer.sessions.played import base_of, judged
 from checks.viewer.sessions.session import Session
+from viewer.absent.asked_of import openings_of, span_of
+from viewer.absent.called import Meant
+from viewer.absent.conditions import Question
 from viewer.database import raw_tables
 from viewer.database.programs import build_programs
 
@@ -55,6 +59,20 @@ def without(session: Session, sequence: int) -> tuple[int, int]:
     return sum(map(len, whole[:at])), before - len(session.capture())
 
 
+def sent_in(database: sqlite3.Connection, sequence: int) -> list[tuple[str, int]]:
+    """The processes and codes of the transactions that a frame has."""
+    return database.execute(
+        "SELECT DISTINCT CAST(p.process AS TEXT), r.code FROM raw_record r JOIN raw_thread t USING (utid)"
+        " JOIN raw_process p USING (upid) JOIN kind k ON k.number = r.kind"
+        " WHERE r.seq = ? AND k.name IN ('BC_TRANSACTION', 'BC_TRANSACTION_SG')", (sequence,)).fetchall()
+
+
+def is_said_to_be_all(database: sqlite3.Connection, process: str, code: int) -> bool:
+    """Whether `--absent` says that none of the calls with this code is missing."""
+    meant = Meant(f"code {code}", None, frozenset([code]))
+    return not Question(database, meant, openings_of(database, process), span_of(database)).failed
+
+
 def some_of(frames: list[int], number: int, most: int | None) -> list[int]:
     """The frames of a case that are lost: so many of them, from the first to the last one, or one of STEP."""
     if most is None:
@@ -70,11 +88,15 @@ def faults_of(number: int, most: int | None, room: pathlib.Path) -> list[str]:
     whole = one.played()
     there = [int.from_bytes(frame[:8], "little") for frame in whole.frames[1:]]
     taken = [] if whole.missing else [*some_of(there, number, most), *FOUND.get(one.name, [])]
-    due = real_ones(judged(base_of(room, whole)), 0, 0) if taken else {}
+    in_whole = judged(base_of(room, whole)) if taken else None
+    due = real_ones(in_whole, 0, 0) if in_whole else {}
     for sequence in taken:
         session = one.played()
         at, length = without(session, sequence)
-        came = real_ones(judged(base_of(room, session)), at, length)
+        database = judged(base_of(room, session))
+        came = real_ones(database, at, length)
+        found += [f"{one.name}: without frame {sequence} no call with code {code} by {process} is said to be missing"
+                  for process, code in sent_in(in_whole, sequence) if is_said_to_be_all(database, process, code)]
         found += [f"{one.name}: without frame {sequence} real by {rule}, which it was not: {known}"
                   for known, rule in came.items() if known not in due]
     return found
