@@ -195,7 +195,7 @@ def check_told(folder: pathlib.Path, room: pathlib.Path, fail: Fail) -> None:
                     f"./audit report {DRIVER}/hung/capture-1.cap writes the whole report",
                     "place at held for others at most size thread row of the report",
                     "3208 0.039 s 577 ms none ended 0 client 1794 thread 1795 calls: 3208", "0.613 s /scenarios",
-                    "client 1794 service 1792 handle 1, node 0x1000 1 call 13 0 0 0 0 1 1.96 ms all",
+                    "client 1794 0 service 1792 handle 1, node 0x1000 0 1 call 13 0 0 0 0 1 1.96 ms all",
                     "Look at what the server&#39;s thread has done since it got the call.",
                     "C4 maybe It was delivered, and not replied. what the server&#39;s thread has done",
                     "most 2, ended with 1"),
@@ -203,7 +203,7 @@ def check_told(folder: pathlib.Path, room: pathlib.Path, fail: Fail) -> None:
                        "Nothing was cut off by an end or by the recording."),
            "hello-11": ("No group is real or maybe: no rule found a fault. This does not show that nothing is",),
            "dead-user": ("client 1857 thread 1857 short-lived 1856 1 failed",
-                         "client 1857 short-lived 1856 handle 1, node 0x1000 1 call 6 3 0 ")}
+                         "client 1857 0 short-lived 1856 handle 1, node 0x1000 0 1 call 6 3 0 ")}
     for name, texts in due.items():
         shown = room / f"{name}.html"
         view(folder, room, *stored(name), "-o", shown.name)
