@@ -130,6 +130,7 @@ class DrivenLab(Driven):
     """The page of a lab that is used. Its defects have no places to copy."""
 
     sorted_tab, in_reports = "builds", ("defect=",)
+    when = r"^when and where: first seen \S+ last seen \S+$"
 
 
 def check_browser(room: pathlib.Path, fail: Fail) -> str:

@@ -29,9 +29,10 @@ KEEP_COPIED = "navigator.clipboard.writeText = async text => { window.copied = t
 
 class Driven:
     """A page that is used, and what comes of it. `by_keys`: with the keys alone. It has a tab with a table to sort, and
-    these words in the reports of cards."""
+    these words in the reports of cards, among them when it was."""
 
-    sorted_tab, in_reports = "traffic", ("commit ", "./listing ", "./view ")
+    sorted_tab, in_reports = "traffic", ("commit ", "./listing ", "./view ", "how many: ")
+    when = r"^when and where: place [0-9,]+( to [0-9,]+)? [0-9.]+ s [0-9:.]+( to [0-9.]+ s [0-9:.]+)?$"
 
     def __init__(self, browser: Browser, page: pathlib.Path, by_keys: bool, what: str, fail: Fail):
         self.browser, self.page, self.by_keys, self.fail = browser, page, by_keys, fail
@@ -119,6 +120,7 @@ def check_cards(it: Driven) -> None:
     title = it.browser.js(f"document.getElementById('{card}').querySelector('.what b').textContent")
     due = (title, "culprit: ", "why: ", "to see it again:", f"#{card}", *it.in_reports)
     it.same("the report of a card", [part for part in due if part not in report], [])
+    it.same("the report of a card: when", bool(re.search(it.when, report, re.MULTILINE)), True)
     it.show(card)
     it.same("the address opens it again", it.count(f"[id='{card}'][open].named"), 1)
 

@@ -41,8 +41,15 @@ const lineOf = element => element?.textContent.replace(/\s+/g, ' ').trim() ?? ''
 const rowsOf = card => every('.inner td.proved', card).map(lineOf);
 const placesOf = card => every('.inner .place', card).slice(0, 3).map(lineOf);
 
+// A part of the head of a card, on one line.
+const headOf = (card, selector) => {
+  const copy = card.querySelector(`summary ${selector}`)?.cloneNode(true);
+  for (const end of copy ? every('br', copy) : []) end.replaceWith(' ');
+  return lineOf(copy);
+};
+
 const reportOf = card => {
-  const of = selector => lineOf(card.querySelector(`summary ${selector}`));
+  const of = selector => headOf(card, selector);
   const rows = rowsOf(card), shown = rows.slice(0, 20);
   return [
     `${of('.state')}: ${of('.what b')}`,
