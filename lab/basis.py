@@ -12,8 +12,8 @@ from viewer.program_names import BEHIND, LIBRARY, PACKED
 # The folders of the repository, or of a package, all of whose files count; and single files.
 FOLDERS = "viewer/database", "viewer/rules", "viewer/methods"
 FILES = ("viewer/clocks.py", "viewer/malformed.py", "viewer/units.py", "viewer/defects/seen.py",
-         "viewer/page/queries/defects.sql", "lab/form.py", "lab/job.sh", "lab/one.py", "lab/result.py",
-         "lab/wrong_list.py")
+         "viewer/defects/times.py", "viewer/page/queries/defects.sql", "lab/form.py", "lab/job.sh", "lab/one.py",
+         "lab/result.py", "lab/wrong_list.py")
 SOURCES = (".c", ".h", ".py", ".sql")
 
 # How a result says it: near its beginning.

@@ -4,8 +4,10 @@ defect comes, or in which clumps."""
 
 import math
 import random
-from collections.abc import Iterable, Iterator
-from functools import lru_cache
+from bisect import bisect_left, bisect_right
+from collections.abc import Collection, Iterable, Iterator, Sequence
+from functools import cached_property, lru_cache
+from statistics import fmean
 from typing import NamedTuple
 
 # Of how many standard deviations an interval of 95 % is, to each side.
@@ -118,6 +120,11 @@ class Orders:
         # The share of the new ones, in binary digits, the last one first.
         self.share = [256 * new // self.captures >> at & 1 for at in range(8)]
 
+    @cached_property
+    def least_p(self) -> float:
+        """The least p that there can be: that of a single order."""
+        return 1 / math.comb(self.captures, self.new)
+
     def draw(self) -> int:
         """So many of all captures, each choice as likely as another. Each capture is taken with about the share of the
         new ones; then single ones are taken or left until there are as many as due."""
@@ -156,6 +163,54 @@ class Orders:
             if met == enough:
                 return met / number
         return (met + 1) / (most + 1)
+
+
+class Within(Orders):
+    """The same of samples that are exchanged only within their groups, each of which has places of old and new ones."""
+
+    def __init__(self, samples: int, new: int, groups: Iterable[Sequence[int]]):
+        super().__init__([1] * samples, new)
+        self.turned_each = 1
+        self.groups = [(places, sum(place >= samples - new for place in places)) for places in groups]
+
+    @cached_property
+    def least_p(self) -> float:
+        return 1 / math.prod(math.comb(len(places), new) for places, new in self.groups)
+
+    def draw(self) -> int:
+        return sum(1 << place for places, new in self.groups for place in self.chance.sample(places, new))
+
+
+def ranks(values: Sequence[float]) -> list[int]:
+    """Twice the rank of each value; equal ones share theirs."""
+    order = sorted(values)
+    return [bisect_left(order, value) + bisect_right(order, value) for value in values]
+
+
+class Alike:
+    """Whether the values of a group are more alike than those of several: the squares between groups and within them,
+    summed over many measures of the same groups, each in units of its own."""
+
+    def __init__(self) -> None:
+        self.between = self.within = 0.0
+        self.free_between = self.free_within = 0
+
+    def add(self, groups: Collection[Sequence[float]]) -> None:
+        mean = fmean(value for group in groups for value in group)
+        between = sum(len(group) * (fmean(group) - mean) ** 2 for group in groups)
+        within = sum((value - fmean(group)) ** 2 for group in groups for value in group)
+        if between + within > 0:
+            self.between += between / (between + within)
+            self.within += within / (between + within)
+            self.free_between += len(groups) - 1
+            self.free_within += sum(map(len, groups)) - len(groups)
+
+    @property
+    def times(self) -> float:
+        """How many times as large as within groups the mean squares between them are: about 1 if groups say nothing."""
+        if not self.free_between or not self.free_within:
+            return 1.0
+        return self.between / self.free_between / max(self.within / self.free_within, 1e-12)
 
 
 def least_after(p: float, orders: int) -> float:

@@ -13,16 +13,22 @@ from lab.known_until import Known
 from lab.power import Power
 from lab.renamed import Renamed, Text
 from lab.sides import Found, Seen, Sides, build_of, refuse_mix
+from lab.slower import Row as Timed, Times
 from viewer.defects.changes import GONE, GROWN, NEW, NOT_MET, SAME, WORSE
 from viewer.defects.known_keys import unseen_lines
+from viewer.defects.times import FASTER, SLOWER
 from viewer.files import Stopped
 from viewer.terminal import field_of
+from viewer.units import counted
 
 # A defect that was known until a build, and is there in a later one. And what is more than chance, in the order of the
 # lines; and beside it all that has a line.
 BACK = "back"
 SHOWN = (NEW, WORSE, BACK, GROWN, GONE)
 TOLD = (*SHOWN, FIRST)
+
+# What became of methods.
+TIMED = (SLOWER, FASTER)
 
 
 class Enough(NamedTuple):
@@ -86,8 +92,9 @@ class Comparison:
         self.devices_before = len({one.device for one in self.sides.captures.values() if not one.is_new})
         self.devices_now = self.builds[-1].devices
         self.enough_before, self.enough_now = enough.of(self.devices_before), enough.of(self.devices_now)
-        self.rows = self.tested(self.sides.found)
-        self.limit = chance.limit((p for row in self.rows for p in row.tests), self.rate)
+        self.times = Times(self.sides, self.rate)
+        self.rows, self.timed = self.tested(self.sides.found)
+        self.limit = chance.limit(self.all_tests(), self.rate)
         self.whats = {row.key: self.what(row) for row in self.rows}
         self.whats |= dict.fromkeys(self.first_seen(lab, enough.before), FIRST)
 
@@ -97,6 +104,11 @@ class Comparison:
         return {newest.get(key, key): one for key, one in known.items()}
 
     # -- tests
+
+    def all_tests(self) -> Iterator[float]:
+        """The p of each test, of defects and of methods."""
+        yield from (p for row in self.rows for p in row.tests)
+        yield from (row.p for row in self.timed)
 
     def may_tell(self, having: int) -> bool:
         """Whether a test of what so many captures have could tell anything, however they are shared out. Tests that
@@ -108,18 +120,24 @@ class Comparison:
         least = chance.least_order_p(self.sides.old, self.sides.new, len(found))
         return least <= self.rate and any(one.n > 1 for one in found)
 
-    def tested(self, found: dict[tuple[str, Text], list[Found]]) -> list[Row]:
+    def tested(self, found: dict[tuple[str, Text], list[Found]]) -> tuple[list[Row], list[Timed]]:
+        """The defects and the methods, with the p of each test: of most a short look says that they can't be told."""
         tests = sum(self.may_tell(len(some)) + self.rate_may_tell(some) for some in found.values())
-        orders = chance.orders_for(tests, self.rate)
-        rows, looked = [self.row(key, text, some) for (key, text), some in found.items()], chance.FEW_ORDERS
+        orders, looked = chance.orders_for(tests + len(self.times.tested), self.rate), chance.FEW_ORDERS
+        rows = [self.row(key, text, some) for (key, text), some in found.items()]
+        timed = [self.times.row(method, self.times.p(method, looked, chance.FEW_MET))
+                 for method in sorted(self.times.tested)]
         for enough in chance.FEW_MET, chance.MET:
             # No limit is larger than the one by the least that each p may be.
-            limit = chance.limit((least for row in rows for least in row.least(looked)), self.rate)
+            limit = chance.limit([*(least for row in rows for least in row.least(looked)),
+                                  *(chance.least_after(row.p, looked) for row in timed)], self.rate)
             rows = [row if row.p_rate is None or chance.least_after(row.p_rate, looked) > limit
                     else row._replace(p_rate=self.rate_p(some, orders, enough))
                     for row, some in zip(rows, found.values())]
+            timed = [row if chance.least_after(row.p, looked) > limit
+                     else row._replace(p=self.times.p(row.method, orders, enough)) for row in timed]
             looked = orders
-        return rows
+        return rows, timed
 
     def rate_p(self, found: list[Found], orders: int, enough: int) -> float:
         place = self.sides.place
@@ -220,12 +238,23 @@ class Comparison:
             (urgency(row.kind), -row.now.real) if what == FIRST else (row.p,),
             -max(row.now.devices, row.before.devices), row.kind, row.who, row.path))
 
+    def slower(self, what: str) -> list[Timed]:
+        """The methods that became this, on enough devices: those first that changed most."""
+        some = [row for row in self.timed if self.became(row) == what]
+        return sorted(some, key=lambda row: (-max(row.factor, 1 / max(row.factor, 1e-9)), row.method))
+
+    def became(self, row: Timed) -> str | None:
+        """What became of a method, if it is told."""
+        is_there = row.now.devices >= self.enough_now and row.before.devices >= self.enough_before
+        return row.what if is_there and self.tells(row.p) else None
+
     def by_reason(self, failed: list[str]) -> dict[str, list[str]]:
         """Keys that fail, by what is said of them."""
         reasons = {GROWN: GROWN, FIRST: "first seen"}
         found: dict[str, list[str]] = {}
         for key in failed:
-            found.setdefault(reasons.get(self.whats[key], "new, worse or back"), []).append(key)
+            found.setdefault(reasons.get(self.whats[key], "new, worse or back") if key in self.whats else SLOWER,
+                             []).append(key)
         return found
 
     # -- lines
@@ -239,23 +268,36 @@ class Comparison:
             *(rate_text(self.sides.rate(seen, is_new)) for seen, is_new in ((row.before, False), (row.now, True))),
             f"{row.p:.2g}", self.state(row.key), row.key))) + "\n"
 
+    def time_line(self, what: str, row: Timed) -> str:
+        sides = (row.before, self.sides.old, self.devices_before), (row.now, self.sides.new, self.devices_now)
+        method = row.method
+        return "\t".join(map(field_of, (
+            what, None, method.part, method.server, method.call,
+            *(f"{side.captures}/{captures}" for side, captures, _ in sides),
+            *(f"{side.devices}/{devices}" for side, _, devices in sides),
+            *(f"{milliseconds(side.ns)} ms, {counted(side.calls, 'call')}" for side, *_ in sides),
+            f"{row.p:.2g}", self.state(method.key), method.key))) + "\n"
+
     def counts(self) -> dict[str, int]:
-        return {what: len(self.of(what)) for what in (*TOLD, SAME, NOT_MET)}
+        return {**{what: len(self.of(what)) for what in (*TOLD, SAME, NOT_MET)},
+                **{what: len(self.slower(what)) for what in TIMED}}
 
     def lines(self, also_same: bool) -> Iterator[str]:
         for what in (*TOLD, *((SAME, NOT_MET) if also_same else ())):
             yield from (self.line(what, row) for row in self.of(what))
+        for what in TIMED:
+            yield from (self.time_line(what, row) for row in self.slower(what))
         yield ", ".join(f"{count} {what}" for what, count in self.counts().items()) + "\n"
         yield from (f"{build}\n" for build in self.builds)
 
     def unseen_lines(self) -> Iterator[str]:
         """A line for each known defect that the new build does not have."""
         return unseen_lines({key: one.comment for key, one in self.known.items()},
-                            {row.key for row in self.rows if row.now.captures})
+                            {row.key for row in self.rows if row.now.captures} | self.times.keys)
 
     @property
     def tests(self) -> int:
-        return sum(len(row.tests) for row in self.rows)
+        return sum(1 for _ in self.all_tests())
 
     def powers(self) -> list[Power]:
         """What the captures tell of a new defect in a part of the runs, if no other difference is told. Nothing, if
@@ -266,12 +308,19 @@ class Comparison:
 
     def failed(self, fail_on: FailOn = FailOn()) -> list[str]:
         """The keys of what is not known, and is new, worse or back, and as strong as that; or has grown so much; or is
-        first seen, if that fails."""
+        first seen, if that fails; or is a method that is so much slower."""
         rows = [row for what in (NEW, WORSE, BACK) for row in self.of(what)]
         if fail_on.growth is not None:
             rows += [row for row in self.of(GROWN) if self.growth(row) >= fail_on.growth]
         rows = [row for row in rows if fail_on.verdict == "maybe" or row.now.real_devices >= self.enough_now]
-        return [row.key for row in rows + self.of(FIRST) * fail_on.is_first if not self.holds(row.key)]
+        keys = [row.key for row in rows + self.of(FIRST) * fail_on.is_first]
+        if fail_on.slower is not None:
+            keys += [row.method.key for row in self.slower(SLOWER) if row.factor >= fail_on.slower]
+        return [key for key in keys if not self.holds(key)]
+
+
+def milliseconds(ns: float) -> str:
+    return f"{ns / 1e6:.3g}"
 
 
 def rate_text(rate: chance.Interval | None) -> str:

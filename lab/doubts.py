@@ -10,6 +10,7 @@ from lab.renamed import guesses, had
 from lab.sides import versions_of
 from lab.uncounted import uncounted
 from viewer.defects.changes import GONE, NEW, NOT_MET
+from viewer.defects.times import FACTOR, PARTS
 from viewer.units import counted
 
 
@@ -19,6 +20,7 @@ def doubts(compared: Comparison) -> Iterator[str]:
     yield from (str(one) for one in uncounted(compared.builds) if one.counted < one.due)
     yield from too_few(compared)
     yield from unlike_captures(compared)
+    yield from busier(compared)
     yield from several_versions(compared)
     yield from wrong_clocks(compared.sides.lab, [build.name for build in compared.builds])
     yield from other_names(compared)
@@ -41,7 +43,7 @@ def too_few(compared: Comparison) -> Iterator[str]:
     if not weak:
         return
     said = (f"of {compared.sides.old} and {counted(compared.sides.new, 'capture')}, beside"
-            f" {counted(compared.tests, 'test')} of defects, ")
+            f" {counted(compared.tests, 'test')}, ")
     if not powers[0].told:
         said += "not even a new defect in all runs is told (--rate 100 tells all there are)"
     else:
@@ -63,6 +65,15 @@ def unlike_captures(compared: Comparison) -> Iterator[str]:
         if max(lengths) > 2 * min(lengths):
             yield (f"captures are {lengths[0]:.0f} s long in the old builds and {lengths[1]:.0f} s in"
                    f" {compared.builds[-1].name}: the longer ones have a defect more often")
+
+
+def busier(compared: Comparison) -> Iterator[str]:
+    """Methods that all take longer or less long, of which no single one is told."""
+    for part in PARTS:
+        load, p = compared.times.load(part)
+        if p <= compared.rate and not 1 / FACTOR < load < FACTOR:
+            yield (f"the {part} of methods takes {load:.2g} times as long in {compared.builds[-1].name} as before: its"
+                   " devices had other loads, or all is slower; only what differs by more than that is told")
 
 
 def several_versions(compared: Comparison) -> Iterator[str]:

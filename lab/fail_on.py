@@ -5,16 +5,18 @@ from typing import NamedTuple
 
 from lab.first_seen import FIRST
 from viewer.defects.changes import GROWN
+from viewer.defects.times import SLOWER
 
-# `grown`, or how many times as much is there, as `grown:1.5`.
-GROWTH = re.compile(GROWN + r"(?::([0-9]{1,6}(?:\.[0-9]{1,6})?))?")
+# `grown` or `slower`, or how many times as much is there, as `grown:1.5`.
+FACTOR = re.compile(rf"({GROWN}|{SLOWER})(?::([0-9]{{1,6}}(?:\.[0-9]{{1,6}})?))?")
 
 
 class FailOn(NamedTuple):
     """The weakest verdict of what is new, worse or back that fails; how many times as much of a defect fails as grown,
-    None if nothing does; and whether what is first seen fails."""
+    and how many times as long a time as slower, None if nothing does; and whether what is first seen fails."""
     verdict: str = "maybe"
     growth: float | None = None
+    slower: float | None = None
     is_first: bool = False
 
 
@@ -26,8 +28,9 @@ def fail_on(words: list[str]) -> FailOn:
             asked = asked._replace(verdict=word)
         elif word == FIRST:
             asked = asked._replace(is_first=True)
-        elif grown := GROWTH.fullmatch(word):
-            asked = asked._replace(growth=float(grown[1] or 1))
+        elif said := FACTOR.fullmatch(word):
+            factor = float(said[2] or 1)
+            asked = asked._replace(growth=factor) if said[1] == GROWN else asked._replace(slower=factor)
         else:
             raise ValueError(word)
     return asked

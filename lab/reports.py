@@ -7,14 +7,16 @@ from xml.etree import ElementTree
 
 from lab import chance
 from lab.commands import Commands, commands_of, folder_of
-from lab.compare import BACK, TOLD, Comparison, Row
+from lab.compare import BACK, TOLD, Comparison, Row, milliseconds
 from lab.doubts import doubts
 from lab.fail_on import FailOn
 from lab.first_seen import FIRST
 from lab.known_until import Known
 from lab.sides import Seen
+from lab.slower import Row as Timed
 from lab.uncounted import refused, uncounted
-from viewer.defects.changes import GROWN, NEW, WORSE
+from viewer.defects.changes import GROWN, NEW, SAME, WORSE
+from viewer.defects.times import SLOWER
 from viewer.files import whole_file
 from viewer.terminal import line_of, shown
 
@@ -61,6 +63,13 @@ def defect_of(compared: Comparison, row: Row, failed: set[str]) -> dict[str, obj
             "before": side_of(compared, row.before, False), "now": side_of(compared, row.now, True), **more}
 
 
+def method_of(compared: Comparison, row: Timed, failed: set[str]) -> dict[str, object]:
+    known = compared.known.get(row.method.key)
+    return {"what": compared.became(row) or SAME, "fails": row.method.key in failed, "key": row.method.key,
+            **row.method._asdict(), "factor": row.factor, "load": row.load, "p": row.p,
+            "known": known and known._asdict(), "before": row.before._asdict(), "now": row.now._asdict()}
+
+
 def as_json(compared: Comparison, also_same: bool, fail_on: FailOn) -> str:
     """All that the lines say, and the answers of the tests."""
     failed = set(compared.failed(fail_on))
@@ -72,7 +81,9 @@ def as_json(compared: Comparison, also_same: bool, fail_on: FailOn) -> str:
         "power": [one._asdict() for one in compared.powers()], "counts": compared.counts(),
         "doubts": list(doubts(compared)),
         "uncounted": [one._asdict() for one in uncounted(compared.builds)],
-        "defects": [defect_of(compared, row, failed) for row in rows]}, indent=1) + "\n"
+        "defects": [defect_of(compared, row, failed) for row in rows],
+        "methods": [method_of(compared, row, failed) for row in compared.timed
+                    if also_same or compared.became(row)]}, indent=1) + "\n"
 
 
 # ---- JUnit
@@ -103,9 +114,32 @@ def put_errors(suite: ElementTree.Element, compared: Comparison) -> int:
     return len(errors)
 
 
+def said_of_method(compared: Comparison, row: Timed) -> str:
+    method = row.method
+    return shown(f"{compared.became(row)}: {method.part} of {method.server}, {method.call}:"
+                 f" {milliseconds(row.before.ns)} ms before, {milliseconds(row.now.ns)} ms now, p {row.p:.2g}")
+
+
+def put_methods(suite: ElementTree.Element, compared: Comparison, failed: set[str]) -> int:
+    """A case for each part of the time of a method. Returns how many are skipped, because they are known."""
+    skipped = 0
+    for row in compared.timed:
+        method, key = row.method, row.method.key
+        case = ElementTree.SubElement(suite, "testcase", classname=shown(method.server),
+                                      name=shown(f"{method.part}, {method.call} [{key}]"))
+        if key in failed:
+            ElementTree.SubElement(case, "failure", type=SLOWER, message=said_of_method(compared, row))
+        elif compared.holds(key):
+            skipped += 1
+            ElementTree.SubElement(case, "skipped", message=shown(said_of_known(compared.known[key])))
+        elif compared.became(row):
+            ElementTree.SubElement(case, "system-out").text = said_of_method(compared, row)
+    return skipped
+
+
 def as_junit(compared: Comparison, fail_on: FailOn) -> str:
-    """A case for each defect of both sides: what fails has failed, and what is known is skipped. And one with an error
-    for each capture that does not count."""
+    """A case for each defect of both sides, and for each method: what fails has failed, and what is known is skipped.
+    And one with an error for each capture that does not count."""
     failed = set(compared.failed(fail_on))
     *old, new = (build.name for build in compared.builds)
     suite = ElementTree.Element("testsuite", name=shown(f"binder_audit: {new} against {' '.join(old)}"))
@@ -120,9 +154,10 @@ def as_junit(compared: Comparison, fail_on: FailOn) -> str:
             ElementTree.SubElement(case, "skipped", message=shown(said_of_known(compared.known[row.key])))
         elif compared.whats[row.key] in TOLD:
             ElementTree.SubElement(case, "system-out").text = said_of(compared, row)
+    skipped += put_methods(suite, compared, failed)
     errors = put_errors(suite, compared)
-    for name, count in (("tests", len(compared.rows) + errors), ("failures", len(failed)), ("errors", errors),
-                        ("skipped", skipped)):
+    tests = len(compared.rows) + len(compared.timed) + errors
+    for name, count in (("tests", tests), ("failures", len(failed)), ("errors", errors), ("skipped", skipped)):
         suite.set(name, str(count))
     ElementTree.indent(suite)
     return f'<?xml version="1.0" encoding="UTF-8"?>\n{ElementTree.tostring(suite, encoding="unicode")}\n'

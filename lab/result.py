@@ -10,6 +10,7 @@ import zlib
 
 from lab.form import folded
 from viewer.defects.seen import defects_of, facts_of, seconds_of
+from viewer.defects.times import TIMES
 from viewer.files import Stopped, errors_of
 
 # The most bytes that a file of a result has, and that it has when it is packed; and the most characters of a text in
@@ -30,15 +31,6 @@ FROM program p
 GROUP BY 1 ORDER BY buffers_most + refs_most DESC
 """
 TALK = "SELECT * FROM talk ORDER BY sends DESC, caller, server, call"
-
-# How long the calls of each method took, as medians: how long they waited for a thread, and its own work. Of several
-# processes of a program it is the one that got most of them.
-TIMES = """
-SELECT server, call, calls, queue, work FROM (
-    SELECT p.program || ' on ' || p.device AS server, m.call, m.calls, m.queue_median AS queue, m.work_median AS work,
-      row_number() OVER (PARTITION BY p.program, p.device, m.call ORDER BY m.calls DESC, m.server_upid) AS nth
-    FROM method_time m JOIN program p ON p.upid = m.server_upid WHERE m.client_upid IS NULL)
-WHERE nth = 1 ORDER BY calls DESC, server, call"""
 
 
 def short(value: object) -> object:

@@ -114,6 +114,7 @@ class Sides:
         self.old = len(self.captures) - self.new
         # Without times each capture counts as long as another one, and no rate is told.
         self.timed = all(capture.seconds for capture in self.captures.values())
+        self.has_times = bool(lab.execute("SELECT 1 FROM sqlite_schema WHERE name = 'took'").fetchone())
         seconds = [max(1, round(one.seconds or 0)) if self.timed else 1 for one in self.captures.values()]
         self.seconds_old, self.seconds_new = sum(seconds[:self.old]), sum(seconds[self.old:])
         self.orders = chance.Orders(seconds, self.new)

@@ -8,6 +8,7 @@ What must hold:
 - What is told is more than chance: two sets of captures of one build have no line, and each planted change has its
   line, also those of `known` defects that come back. The reports for other programs say the same.
 - What can't be told is said, and what should fail fails (blind_spots.py).
+- A method that is slower or faster is told, and no other one, however devices differ (slower.py).
 - Labs of an earlier layout are read, and changed to the one of today (layouts.py).
 """
 
@@ -25,6 +26,7 @@ from checks.kit.programs import ROOT
 from checks.lab.blind_spots import BLIND_SPOTS
 from checks.lab.layouts import check_first_layout
 from checks.lab.models import ALIKE, PLANTED, SESSIONS, made
+from checks.lab.slower import SLOWER
 from lab import chance, reports
 from lab.compare import Comparison
 from lab.doubts import doubts
@@ -175,7 +177,8 @@ def check_reports(_: pathlib.Path, room: pathlib.Path, fail: Fail) -> None:
             sorted([("error", keys["new"], 0, "b1/d"), ("error", keys["worse"], 1, "b1/d")]), fail)
 
 
-CASES = parts_of(check_tests, check_quiet, check_planted, check_known, check_reports, *BLIND_SPOTS, check_first_layout)
+CASES = parts_of(check_tests, check_quiet, check_planted, check_known, check_reports, *BLIND_SPOTS, *SLOWER,
+                 check_first_layout)
 
 
 def judge(given: argparse.Namespace, room: pathlib.Path, fail: Fail) -> None:
