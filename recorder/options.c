@@ -1,7 +1,7 @@
 #include "options.h"
 #include "messages.h"
 #include "parts.h"
-#include "triggers.h"
+#include "trigger_words.h"
 #include <errno.h>
 #include <getopt.h>
 #include <stdio.h>

@@ -8,6 +8,7 @@
 #include "names.h"
 #include "open_calls.h"
 #include "side.h"
+#include "trigger_words.h"
 #include <stdio.h>
 #include <stdlib.h>
 #include <string.h>
@@ -17,105 +18,14 @@
 #define LOOK_EVERY (SECOND / 10)
 #define LOOKS_OF_SECOND 10u
 #define KEEP_EVERY (60ull * SECOND)	/* a trigger keeps no set within so long after another one */
-#define LONGEST_LIMIT (3600ull * SECOND)
-#define SHORTEST_LIMIT (SECOND / 10)
-#define MOST_REFUSED 1000000u
 
-/* What is looked for; 0 or NULL: it is not. */
-static u64 hang_limit, pool_limit, refused_limit;
-static const char *death_name, *log_expression, *file_path;
 static int is_redacted;
 
 static u64 looked, kept;		/* the last look, and when the last set was asked for */
 
-/* ---- the words of --keep-on */
-
-/* Takes `5s`, `0.5s` or `500ms`. */
-static u64 time_of(const char *kind, const char *text)
-{
-	char *rest;
-	double count = strtod(text, &rest), scale = !strcmp(rest, "ms") ? 1e6 : !strcmp(rest, "s") ? 1e9 : 0;
-	double nanoseconds = count * scale;
-	if (strspn(text, "0123456789.") != (size_t)(rest - text) || rest == text ||
-	    !(nanoseconds >= SHORTEST_LIMIT && nanoseconds <= LONGEST_LIMIT))
-		refuse("--keep-on %s takes a time from 0.1s to 3600s, as in %s:5s or %s:500ms, not %s", kind, kind, kind, text);
-	return (u64)nanoseconds;
-}
-
-static u64 rate_of(const char *text)
-{
-	char *rest;
-	u64 count = strtoull(text, &rest, 10);
-	if (strspn(text, "0123456789") != (size_t)(rest - text) || strcmp(rest, "/s") || !count || count > MOST_REFUSED)
-		refuse("--keep-on refused takes a number from 1 to %u and /s, as in refused:100/s, not %s", MOST_REFUSED, text);
-	return count;
-}
-
-static const char *log_of(const char *text)
-{
-	const char *wrong = logcat_expect(text);
-	if (wrong)
-		refuse("--keep-on logcat takes a regular expression, not %s: %s", text, wrong);
-	return text;
-}
-
-static const char *name_of(const char *text)
-{
-	if (strlen(text) >= COMMAND_BYTES)
-		refuse("--keep-on death takes a name of at most %u bytes", COMMAND_BYTES - 1);
-	return text;
-}
-
-/* What follows the word and a colon, or NULL if that is another word. */
-static const char *after(const char *word, const char *kind)
-{
-	size_t length = strlen(kind);
-	return !strncmp(word, kind, length) && word[length] == ':' && word[length + 1] ? word + length + 1 : NULL;
-}
-
-static void refuse_two(int is_there, const char *what)
-{
-	if (is_there)
-		refuse("%s is given twice", what);
-}
-
-void triggers_add(const char *word)
-{
-	const char *rest;
-	if ((rest = after(word, "hang"))) {
-		refuse_two(hang_limit != 0, "--keep-on hang");
-		hang_limit = time_of("hang", rest);
-	} else if ((rest = after(word, "pool"))) {
-		refuse_two(pool_limit != 0, "--keep-on pool");
-		pool_limit = time_of("pool", rest);
-	} else if ((rest = after(word, "refused"))) {
-		refuse_two(refused_limit != 0, "--keep-on refused");
-		refused_limit = rate_of(rest);
-	} else if ((rest = after(word, "death"))) {
-		refuse_two(death_name != NULL, "--keep-on death");
-		death_name = name_of(rest);
-	} else if ((rest = after(word, "logcat"))) {
-		refuse_two(log_expression != NULL, "--keep-on logcat");
-		log_expression = log_of(rest);
-	} else {
-		refuse("--keep-on takes hang:TIME, pool:TIME, refused:COUNT/s, death:NAME or logcat:EXPRESSION, not %s", word);
-	}
-}
-
-void triggers_add_file(const char *path)
-{
-	refuse_two(file_path != NULL, "--keep-when-file");
-	file_path = path;
-}
-
-int triggers_are_asked(void)
-{
-	return hang_limit || pool_limit || refused_limit || death_name || log_expression || file_path;
-}
-
 void triggers_need(void)
 {
-	if (log_expression && !logcat_is_there())
+	if (asked_triggers.log && !logcat_is_there())
 		lack("--keep-on logcat: there is no program logcat, as Android has it");
 }
 
@@ -152,7 +62,7 @@ static struct open_level *hanging_call(u64 time)
 {
 	for (struct link *link = open_calls.next; link != &open_calls; link = link->next) {
 		struct open_level *call = open_call_at(link);
-		if (call->since + hang_limit > time)
+		if (call->since + asked_triggers.hang > time)
 			return NULL;
 		if (!call->mark)
 			return call;
@@ -164,7 +74,7 @@ static struct open_level *hanging_call(u64 time)
 static void mark_hanging(u64 time)
 {
 	for (struct link *link = open_calls.next; link != &open_calls; link = link->next)
-		if (open_call_at(link)->since + hang_limit <= time)
+		if (open_call_at(link)->since + asked_triggers.hang <= time)
 			open_call_at(link)->mark = 1;
 }
 
@@ -180,7 +90,7 @@ static void look_for_hang(u64 time)
 	why.record = call->record;
 	why.pid = call->thread->pid;
 	why.since = call->since;
-	why.limit = hang_limit;
+	why.limit = asked_triggers.hang;
 	clean(name, call->thread->process->name);
 	snprintf(why.words, sizeof why.words, "a call of %.60s (%u), %s code %u, has been open for %.1f s", name, why.pid,
 		 interface_name(call->interface), call->code, seconds(time - call->since));
@@ -207,7 +117,7 @@ static void ask_for_pool(struct open_process *p, const struct open_level *call, 
 	why.record = call->record;
 	why.pid = p->pid;
 	why.since = p->full_since > call->since ? p->full_since : call->since;
-	why.limit = pool_limit;
+	why.limit = asked_triggers.pool;
 	clean(name, p->name);
 	snprintf(why.words, sizeof why.words, "all %u threads of %.60s (%u) serve, and a call of process %u has waited for"
 		 " %.1f s", p->pool, name, p->pid, call->thread->pid, seconds(time - call->since));
@@ -219,10 +129,10 @@ static void look_for_pool(u64 time)
 {
 	for (struct link *link = open_processes.next; link != &open_processes; link = link->next) {
 		struct open_process *p = open_process_at(link);
-		if (p->mark || !p->full_since || p->full_since + pool_limit > time)
+		if (p->mark || !p->full_since || p->full_since + asked_triggers.pool > time)
 			continue;
 		const struct open_level *call = oldest_call_for(p);
-		if (!call || call->since + pool_limit > time)
+		if (!call || call->since + asked_triggers.pool > time)
 			continue;
 		ask_for_pool(p, call, time);
 		return;
@@ -248,7 +158,7 @@ static u64 refused_within_second(u64 time, u64 *since)
 static void look_for_refused(u64 time, int may_ask)
 {
 	u64 since, count = refused_within_second(time, &since);
-	int are_many = count >= refused_limit;
+	int are_many = count >= asked_triggers.refused;
 	if (!are_many || were_many || !may_ask) {
 		were_many &= are_many;
 		return;
@@ -259,7 +169,7 @@ static void look_for_refused(u64 time, int may_ask)
 	why.record = refused_sends.record;
 	why.pid = refused_sends.pid;
 	why.since = since;
-	why.limit = refused_limit;
+	why.limit = asked_triggers.refused;
 	snprintf(why.words, sizeof why.words, "the driver refused %llu sends within a second, the last one of process %u",
 		 (unsigned long long)count, why.pid);
 	were_many = ask(&why, time);
@@ -277,11 +187,11 @@ static void ask_for(struct why_kept *why, u64 time)
 
 static void take_end(u32 process, u64 time, u64 number)
 {
-	if (of_death.word || !names_are_called(process, death_name))
+	if (of_death.word || !names_are_called(process, asked_triggers.death))
 		return;
 	of_death = why_of("death", time, number);
 	of_death.pid = process;
-	clean_bytes(of_death.name, death_name, (u32)strnlen(death_name, 100));
+	clean_bytes(of_death.name, asked_triggers.death, (u32)strnlen(asked_triggers.death, 100));
 	snprintf(of_death.words, sizeof of_death.words, "%.200s (%u) has ended", of_death.name, process);
 }
 
@@ -325,13 +235,13 @@ static int is_same(const struct look *one, const struct look *other)
 
 static void look_at_file(u64 time)
 {
-	struct look look = look_at(file_path);
+	struct look look = look_at(asked_triggers.file);
 	int has_come = look.is_there && !is_same(&look, &last_look);
 	last_look = look;
 	if (!has_come || of_file.word)
 		return;
 	of_file = why_of("file", time, kernel_last_number());
-	clean_bytes(of_file.name, file_path, (u32)strnlen(file_path, 100));
+	clean_bytes(of_file.name, asked_triggers.file, (u32)strnlen(asked_triggers.file, 100));
 	snprintf(of_file.words, sizeof of_file.words, "%.400s has come, or was changed", of_file.name);
 }
 
@@ -340,14 +250,14 @@ static void look_at_file(u64 time)
 void triggers_begin(const struct options *options)
 {
 	is_redacted = options->redact;
-	if (hang_limit || pool_limit || refused_limit)
+	if (asked_triggers.hang || asked_triggers.pool || asked_triggers.refused)
 		open_calls_begin();
-	if (death_name)
+	if (asked_triggers.death)
 		names_tell_end(take_end);
-	if (log_expression)
+	if (asked_triggers.log)
 		logcat_begin();
-	if (file_path)
-		last_look = look_at(file_path);
+	if (asked_triggers.file)
+		last_look = look_at(asked_triggers.file);
 }
 
 void triggers_look(void)
@@ -357,17 +267,17 @@ void triggers_look(void)
 		return;
 	looked = time;
 	int may_ask = !kept || time - kept >= KEEP_EVERY;
-	if (log_expression)
+	if (asked_triggers.log)
 		look_at_log();
-	if (file_path)
+	if (asked_triggers.file)
 		look_at_file(time);
-	if (refused_limit)
+	if (asked_triggers.refused)
 		look_for_refused(time, may_ask);
 	if (!may_ask)
 		return;
-	if (hang_limit)
+	if (asked_triggers.hang)
 		look_for_hang(time);
-	if (pool_limit)
+	if (asked_triggers.pool)
 		look_for_pool(time);
 	ask_for(&of_death, time);
 	ask_for(&of_log, time);
@@ -376,6 +286,6 @@ void triggers_look(void)
 
 void triggers_end(void)
 {
-	if (log_expression)
+	if (asked_triggers.log)
 		logcat_end();
 }

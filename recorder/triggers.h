@@ -4,10 +4,6 @@
 #include "common.h"
 #include "options.h"
 
-/* Adds one, as --keep-on takes it, or ends with a line that says what is wrong with it. */
-void triggers_add(const char *word);
-void triggers_add_file(const char *path);
-int triggers_are_asked(void);
 /* Looks what the system lacks for them. */
 void triggers_need(void);
 void triggers_begin(const struct options *options);

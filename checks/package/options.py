@@ -30,6 +30,7 @@ PACKAGER, RECORDER = ROOT / "packager", ROOT / "recorder"
 ONLY_WORDS = """#include "options.h"
 int main(int count, char **words) { struct options options; options_read(&options, count, words); return 0; }
 """
+OF_WORDS = "options", "trigger_words", "logcat", "common"
 
 
 def compare_options(what: str, came: set[str], due: set[str], fail: Fail) -> None:
@@ -42,8 +43,8 @@ def programs(folder: pathlib.Path) -> pathlib.Path:
     """The folder, with the programs by the names of a package."""
     linked(folder, {name: program for name, program in PACKAGED.items() if name != "binder-record"})
     (folder / "words.c").write_text(ONLY_WORDS, "utf-8")
-    output_of(["cc", "-std=gnu11", f"-I{RECORDER}", "-o", folder / "binder-record", folder / "words.c",
-               RECORDER / "options.c", RECORDER / "common.c"])
+    output_of(["cc", "-std=gnu11", "-pthread", f"-I{RECORDER}", "-o", folder / "binder-record", folder / "words.c",
+               *(RECORDER / f"{name}.c" for name in OF_WORDS)])
     return folder
 
 
