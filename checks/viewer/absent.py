@@ -174,7 +174,7 @@ def check_case(case: Case, room: pathlib.Path, fail: Fail) -> None:
 REFUSED = (
     ("sayBye", "is no call"), ("IHello.sayNothing", "no table of methods has sayNothing"),
     ("IHello code 99999999999", "is no call"), ("", "is no call"), (".", "is no call"),
-    ("ISame.isIt", "may be com.example.ISame or org.example.ISame"))
+    ("IHello.\udcff", "no table of methods has"), ("ISame.isIt", "may be com.example.ISame or org.example.ISame"))
 
 
 def check_refused(room: pathlib.Path, fail: Fail) -> None:

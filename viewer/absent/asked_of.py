@@ -4,6 +4,7 @@ import sqlite3
 from typing import NamedTuple
 
 from viewer.files import Stopped
+from viewer.processes_asked import as_name
 from viewer.terminal import shown
 from viewer.window import OfDay, Recording, Since, Window
 
@@ -35,6 +36,7 @@ BY_NUMBER, BY_NAME, BY_PART = "? IN (CAST(process AS TEXT), CAST(pid AS TEXT))",
 
 
 def openings_of(database: sqlite3.Connection, word: str) -> list[Opening]:
+    word = as_name(word)
     for means in (BY_NUMBER,) if word.isascii() and word.isdigit() else (BY_NAME, BY_PART):
         if found := list(map(Opening._make, database.execute(OPENINGS + means, (word,)))):
             return found

@@ -7,6 +7,7 @@ from typing import NamedTuple
 
 from viewer.files import Stopped
 from viewer.methods.known import BINDER
+from viewer.processes_asked import as_name
 from viewer.rules.names import short_of
 from viewer.terminal import shown
 
@@ -24,6 +25,7 @@ class Asked(NamedTuple):
 def called(word: str) -> Asked:
     """`IHello.sayHello`, `IHello code 7` or `code 7`, as the page writes calls; the interface with or without its
     package."""
+    word = as_name(word)
     if (found := re.fullmatch(CODE, word, re.ASCII)) and int(found[2]) < 2**32:
         return Asked(word, found[1], None, int(found[2]))
     interface, _, method = word.rpartition(".")
