@@ -38,16 +38,15 @@ import pathlib
 import re
 import shutil
 import signal
-import socket
 import subprocess
 import sys
-import threading
 import time
 from typing import Callable, Iterator
 
 from checks.kit.checking import Fail, check
 from checks.kit.frames import frames_of
 from checks.kit.programs import CHECKS, ROOT
+from checks.recorder.phone.play import server_of_version_39
 
 LIMIT = 300  # seconds, for a machine with much other work
 
@@ -671,15 +670,9 @@ def check_devices(device: Device) -> None:
 
 def check_server(device: Device) -> None:
     device.what = "a server of another version"
-    with socket.create_server(("127.0.0.1", 0)) as server:
-        def answer() -> None:
-            connection, _ = server.accept()
-            connection.recv(16)
-            connection.sendall(b"OKAY00040027")
-            connection.close()
-        threading.Thread(target=answer, daemon=True).start()
+    with server_of_version_39() as port:
         device.says([], 1, "record: the server of adb that runs is of version 39, and adb is of version 41: .*",
-                    ANDROID_ADB_SERVER_PORT=str(server.getsockname()[1]))
+                    ANDROID_ADB_SERVER_PORT=port)
 
 
 def judge(_: argparse.Namespace, room: pathlib.Path, fail: Fail) -> None:

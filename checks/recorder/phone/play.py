@@ -178,8 +178,9 @@ def two_devices(stage: Stage) -> None:
     stage.line(stage.record(), 1, r"record: adb has 2 devices: 127\.\S+, 127\.\S+; name one: --adb 127\.\S+")
 
 
-def other_version(stage: Stage) -> None:
-    """A server of another version is not ended."""
+@contextlib.contextmanager
+def server_of_version_39() -> Iterator[str]:
+    """The port of a server of adb that tells an older version."""
     with socket.create_server(("127.0.0.1", 0)) as server:
         def answer() -> None:
             connection, _ = server.accept()
@@ -187,9 +188,14 @@ def other_version(stage: Stage) -> None:
             connection.sendall(b"OKAY00040027")
             connection.close()
         threading.Thread(target=answer, daemon=True).start()
-        before, stage.environment["ANDROID_ADB_SERVER_PORT"] = stage.given.server, str(server.getsockname()[1])
+        yield str(server.getsockname()[1])
+
+
+def other_version(stage: Stage) -> None:
+    """A server of another version is not ended."""
+    with server_of_version_39() as stage.environment["ANDROID_ADB_SERVER_PORT"]:
         came = stage.record()
-        stage.environment["ANDROID_ADB_SERVER_PORT"] = str(before)
+    stage.environment["ANDROID_ADB_SERVER_PORT"] = str(stage.given.server)
     stage.line(came, 1, "record: the server of adb that runs is of version 39, and adb is of version 41: it would end"
                " that server, and what others do with it; if nobody does: adb kill-server")
 
