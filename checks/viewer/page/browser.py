@@ -307,7 +307,7 @@ def check_browser(folder: pathlib.Path, room: pathlib.Path, fail: Fail) -> None:
     with Browser() as browser:
         check_harm(browser, harmful, fail)
         check_harms(browser, folder, room, fail)
-        for name, words in (("leaks", "service"), ("threads", "client")):
+        for name, words in (("leaks", "service"), ("hello-stuck", "manager")):
             view(folder, room, *stored(name), "-o", f"{name}.html")
             page = room / f"{name}.html"
             check_looks(browser, page, room, words, fail)
