@@ -622,8 +622,8 @@ def check_lost_early(device: Device) -> None:
     device.what = "the connection is lost at the end"
     with device.with_file("cut", "cd / && rm -rf"):
         device.says(["-o", "whole", "--", "true"], 0, *PREPARED, READY, COUNTS, FETCHING, lost + r"\S+/binder-record"
-                    r" may still be there, with what was fetched; to remove it: adb -s one shell rm -r \S+/binder-record",
-                    FETCHED.format("whole"))
+                    r" may still be there, with what was fetched; to remove it: adb -s one shell rm -r"
+                    r" \S+/binder-record", FETCHED.format("whole"))
     shutil.rmtree(device.folder())
 
 
