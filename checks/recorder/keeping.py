@@ -113,7 +113,7 @@ class Recorder(NamedTuple):
         out = self.room / name / "o"
         out.parent.mkdir()
         ended = subprocess.run(self.words(out, *words), env={**os.environ, "PLAN": plan, **environment},
-                               capture_output=True, text=True, timeout=120)
+                               capture_output=True, encoding="utf-8", timeout=120)
         return Run(out, ended.returncode, ended.stderr)
 
     def judge_recording(self, run: Run) -> None:
@@ -306,7 +306,7 @@ def signalled_when_quiet(it: Recorder) -> None:
 def signalled_without_files(it: Recorder) -> None:
     out = it.room / "whole"
     ended = subprocess.run([it.program, "-o", out], env={**os.environ, "PLAN": "2:signal 4:end"}, capture_output=True,
-                           text=True, timeout=60)
+                           encoding="utf-8", timeout=60)
     if ended.returncode or "nothing is kept: only a recording with --files removes files" not in ended.stderr:
         it.fail(f"signalled_without_files: {ended.returncode}: {ended.stderr}")
 
@@ -315,11 +315,12 @@ def asked(it: Recorder) -> None:
     """By `--keep`: the recorder of these files, or the only one."""
     out = it.room / "asked" / "o"
     out.parent.mkdir()
-    with subprocess.Popen(it.words(out), env={**os.environ, "PLAN": ""}, stderr=subprocess.PIPE, text=True) as program:
+    with subprocess.Popen(it.words(out), env={**os.environ, "PLAN": ""}, stderr=subprocess.PIPE,
+                          encoding="utf-8") as program:
         while not (out.parent / "o-1.cap").exists():
             time.sleep(0.01)
         time.sleep(0.5)
-        told = [subprocess.run([it.program, "--keep", *words], cwd=out.parent, capture_output=True, text=True)
+        told = [subprocess.run([it.program, "--keep", *words], cwd=out.parent, capture_output=True, encoding="utf-8")
                 for words in (["-o", "o"], ["-o", str(out)], ["-o", "p"])]
         program.send_signal(signal.SIGINT)
         _, said = program.communicate(timeout=60)
