@@ -137,6 +137,7 @@ def load_state(database: sqlite3.Connection, copy: Copy, openings: list[Opening]
     owners = {(one.opening.driver, number): (one.upid, *map(signed, node)) for one in found + silent
               for node, number in one.opening.node_numbers.items()}
     threads = {(upid, tid): utid for upid, tid, utid in database.execute("SELECT upid, tid, utid FROM thread")}
+    servers = {number: (place.opening.pid, place.thread) for number, place in places_of_calls(openings)[1].items()}
     for upid, opening in found:
         database.execute("INSERT INTO book_opening VALUES (?, ?, ?, ?, ?, ?, ?, ?, ?)",
                          (moment, upid, is_quiet(database, copy, upid), opening.deaths > 0,
@@ -152,8 +153,10 @@ def load_state(database: sqlite3.Connection, copy: Copy, openings: list[Opening]
             (moment, upid, number, signed(area.address), area.data, area.offsets, number in unread)
             for number, area in opening.areas.items()))
         database.executemany(
-            "INSERT INTO book_call(moment, upid, utid, tid, side, number, code) VALUES (?, ?, ?, ?, ?, ?, ?)",
-            ((moment, upid, threads.get((upid, tid)), tid, side, item and item.number, item and item.code)
+            "INSERT INTO book_call(moment, upid, utid, tid, side, number, code, server_pid, server_tid)"
+            " VALUES (?, ?, ?, ?, ?, ?, ?, ?, ?)",
+            ((moment, upid, threads.get((upid, tid)), tid, side, item and item.number, item and item.code,
+              *(servers.get((opening.driver, item.number), (None, None)) if item and side == "made" else (None, None)))
              for side, tid, item in sides_of(opening)))
 
 

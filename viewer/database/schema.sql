@@ -335,7 +335,7 @@ CREATE TABLE book_buffer(moment TEXT NOT NULL, upid INTEGER NOT NULL, number INT
   data_size INTEGER, offsets_size INTEGER, unread INTEGER NOT NULL,
   PRIMARY KEY(moment, upid, number)) STRICT;
 CREATE TABLE book_call(id INTEGER PRIMARY KEY, moment TEXT NOT NULL, upid INTEGER NOT NULL, utid INTEGER,
-  tid INTEGER NOT NULL, side TEXT NOT NULL, number INTEGER, code INTEGER) STRICT;
+  tid INTEGER NOT NULL, side TEXT NOT NULL, number INTEGER, code INTEGER, server_pid INTEGER, server_tid INTEGER) STRICT;
 CREATE INDEX book_call_of ON book_call(moment, upid, number);
 CREATE TABLE book_process(upid INTEGER PRIMARY KEY, device INTEGER NOT NULL, pid INTEGER NOT NULL, name TEXT) STRICT;
 CREATE TABLE book_open(number INTEGER NOT NULL, upid INTEGER NOT NULL, utid INTEGER, tid INTEGER NOT NULL,

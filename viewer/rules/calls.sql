@@ -71,12 +71,19 @@
 --   met by: `calls_back_to_a_full_pool()`: a service calls a client with its only looper, and another thread calls back
 --   where frames are missing: M2
 --   ring: yes
+-- C12 maybe: No answer, and the process that should answer was not recorded.
+--   next: the copy of the driver's transactions at the end, which has all processes: which thread has the call
+--   met by: `calls_what_is_not_recorded()`: a client is recorded, and not the service that hangs
+-- C13 maybe: It was delivered, and not replied; whether its caller still waits was not recorded.
+--   next: what the thread has done since it got the call; whether the caller lives, by the driver's transactions
+--   met by: `serves_what_is_not_recorded()`: a service is recorded, and not its client
 
 -- ---- what they say of which finding
 
 -- A: one finding with an open call.
 UPDATE finding SET rule = 'A1', lead = w.id FROM waits w
-WHERE section IN ('served', 'buffers') AND w.delivery = finding.place AND (w.replied = 0 OR section = 'served');
+WHERE section IN ('served', 'buffers') AND w.delivery = finding.place AND w.id <> finding.id
+  AND (w.replied = 0 OR section = 'served');
 -- A call that failed because its server ended, and the served call there.
 UPDATE finding SET rule = 'A1', lead = f.id
 FROM raw_delivery d JOIN raw_call c ON c.place = d.send JOIN raw_record e ON e.place = c.closer

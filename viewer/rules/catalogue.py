@@ -15,13 +15,14 @@ Then come lines, which may go on in the next one, five spaces in:
                               is also the title of its groups, and in the keys of its defects
     title, title of SECTION   another title of its groups, `of its section` if that has a title for them
     where frames are missing  the rule that stands in its place there
+    of a part                 what its note says where the other side was not recorded
     ring                      `yes` if its groups come before others for which as many wait
 
 And what findings are called that no rule names otherwise, by their section and what they are there:
 
     -- calls open are called: calls without an answer
 
-Of this the tables `rule`, `title` and `if_missing` are made, and those of docs/RULES.md. The order of the files comes
+Of this the tables `rule`, `title`, `if_missing` and `if_part` are made, and those of docs/RULES.md. The order of the files comes
 of their heads: of what they need of one another, and of lines `-- after: FILE, FILE`, where an order matters that no
 name shows. `-- after: the rules` is after all files with rules."""
 
@@ -39,7 +40,7 @@ FOLDER = pathlib.Path(__file__).resolve().parent
 SAID = re.compile(r"\n-- (?:([A-Z])(\d+) (real|maybe|explained|normal)|(\w+)(?: (\w+))? are called):"
                   r" (.*(?:\n--   .*)*)")
 HEAD = {word: re.compile(rf"\n-- {word}: .*(?:\n--   .*)*") for word in ("needs", "after")}
-FIELD = re.compile(r"\n--   (next|rests on|met by|fault|title(?: of \w+)?|where frames are missing|ring): ")
+FIELD = re.compile(r"\n--   (next|rests on|met by|fault|title(?: of \w+)?|where frames are missing|of a part|ring): ")
 GOES_ON = re.compile(r"\n-- +")
 
 
@@ -135,4 +136,5 @@ def rows_of(catalogue: Catalogue) -> dict[str, list[tuple]]:
         "title": [(None, *called) for called in catalogue.called] + [
             (rule.id, section, None, title) for rule in catalogue.rules for section, title in rule.titles()],
         "if_missing": [(rule.id, rule.fields["where frames are missing"]) for rule in catalogue.rules
-                       if "where frames are missing" in rule.fields]}
+                       if "where frames are missing" in rule.fields],
+        "if_part": [(rule.id, rule.fields["of a part"]) for rule in catalogue.rules if "of a part" in rule.fields]}

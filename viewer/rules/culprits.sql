@@ -1,7 +1,7 @@
 -- Which process causes a finding, where the capture shows that it is another one than the one that has the finding.
 -- needs: database/schema.sql: finding, raw_record; failures.sql: failure, in_freeze, takes_no_fds; waits.sql: waits;
 --   refusals.sql: in_the_way
--- after: missing.sql
+-- after: part.sql
 -- makes: nothing
 
 -- Of an open call, the process that should answer it. In a ring, the call that nobody got is a matter of its caller,

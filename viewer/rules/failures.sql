@@ -28,6 +28,7 @@
 -- E4 maybe: The process that serves it was frozen.
 --   next: who froze the process, and whether it should have been frozen
 --   rests on: OFTEN
+--   of a part: whether it was thawed later is not recorded
 --   met by: `goes_on_calling_the_frozen()`: three calls of one thread in one freeze
 -- E5 real: The driver refused it.
 --   next: the note, if it says why; then the size and the objects of the call, or what filled the receiver

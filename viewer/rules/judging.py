@@ -41,7 +41,7 @@ WORDS: dict[str, Callable] = {
     "bare_name": lambda name: name and short_of(name)}
 
 # The temporary tables that others than the statements of the rules take: here, and in agreement.py.
-OF_RULES, OF_WAITS, OF_BOOKS = ("if_missing",), ("waits", "full_pool", "queued", "step", "waited"), (
+OF_RULES, OF_WAITS, OF_BOOKS = ("if_missing", "if_part"), ("waits", "full_pool", "queued", "step", "waited"), (
     "lossy", "dead_record", "told_death")
 
 

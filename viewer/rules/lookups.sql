@@ -16,6 +16,7 @@
 -- N2 maybe: Asked for {TOO_MANY} times or more, for over {VERY_LONG}, and not there up to the end.
 --   next: whether the service is started at all, and registers under this name
 --   rests on: TOO_MANY, VERY_LONG
+--   of a part: whether it came later is not recorded
 --   met by: `asks_in_vain()`: ten requests in 1.1 s
 -- N3 normal: Asked for, and not there.
 --   rests on: TOO_MANY, VERY_LONG

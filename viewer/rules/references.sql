@@ -1,8 +1,8 @@
 -- H3 to H12, H14 to H17, T, U: references to handles and nodes that are held, and those that are balanced.
 -- needs: database/schema.sql: finding, raw_generation, raw_record, raw_send, raw_thread, side_time; nodes.sql: manager,
 --   node_of, who; records.sql: dead_record, told_death; paths.sql: given, given_way, thing_path; ages.sql: ended, last,
---   leaving, process_life, recorded; handles.sql: handle_row; rule.sql: lossy; waits.sql: waits; ways.sql: collector,
---   earlier, kept_handle, kept_way, let_go, of_way, outlived
+--   leaving, process_life, recorded; handles.sql: handle_row; rule.sql: lossy; ways.sql: collector, earlier,
+--   kept_handle, kept_way, let_go, of_way, outlived; waits.sql: waits
 -- makes: temporary tables: mourned, dead_way, outlives, let_go_later, told_by_reply, reference_level, most_held,
 --   more_references, each_again, nearly_all, growing, by_design, overdue, unused, outliving, not_collected,
 --   kept_elsewhere, weakly_kept; temporary views: held_change; indexes: most_held_of, more_references_of, by_design_of
@@ -28,6 +28,7 @@
 -- H5 maybe: Nearly all handles that came this way from one process are kept.
 --   next: what the process does with what it gets this way: nothing lets go of it
 --   rests on: MANY, NEARLY_ALL, MOST, SETTLED
+--   of a part: whether the process that gave them had just started is not recorded
 --   met by: `hello-sessions`: a client keeps six sessions
 --   fault: references kept
 -- H6 normal: Still held, and nothing says that this is too long.

@@ -1,7 +1,8 @@
 -- The tables of the rules, of which the first one that fits a finding decides; the rules that findings of several
--- sections may get; and the processes of which frames are missing.
--- needs: database/schema.sql: raw_capture, raw_process, side_lost, side_missed, side_time; ages.sql: last, process_life
--- makes: tables: rule, title; temporary tables: if_missing, lossy
+-- sections may get; what was left out of a recording of a part; and the processes of which frames are missing.
+-- needs: database/schema.sql: capture, raw_capture, raw_process, side_lost, side_missed, side_time; ages.sql: last,
+--   process_life
+-- makes: tables: rule, title; temporary tables: if_missing, if_part, narrowed, lossy
 
 -- ---- the rules
 
@@ -69,6 +70,16 @@ CREATE TABLE title(rule TEXT, section TEXT, what TEXT, title TEXT NOT NULL) STRI
 -- that it rests on may have ended another send (M3). All rules that are real are here but O1, which one record shows;
 -- and of others those of which nothing is left without what is missing.
 CREATE TEMP TABLE if_missing(rule TEXT PRIMARY KEY, becomes TEXT NOT NULL) STRICT;
+-- What the note of a finding says, by its rule, if the other side was not recorded.
+CREATE TEMP TABLE if_part(rule TEXT PRIMARY KEY, told TEXT NOT NULL) STRICT;
+
+-- ---- a recording of a part of a system
+
+-- One row, if only a part was recorded: whether processes were left out, and whether devices were.
+CREATE TEMP TABLE narrowed AS
+SELECT p.value AS processes, d.value AS devices
+FROM capture p JOIN capture d ON d.key = 'narrowed_devices'
+WHERE p.key = 'narrowed_processes';
 
 -- ---- the processes of which frames are missing
 

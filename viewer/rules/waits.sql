@@ -1,7 +1,8 @@
 -- What open calls wait for, and what the threads do that could take them.
--- needs: database/schema.sql: book_call, book_open, book_process, finding, raw_call, raw_process, raw_record, raw_send,
---   raw_thread, side_calls, side_thread, side_time; database/views.sql: came_to, process, sent_to, thread; records.sql:
---   from_before, to_frozen; ages.sql: last, life, old, process_life; judging.py: call_name, duration
+-- needs: database/schema.sql: book_call, book_open, book_process, finding, raw_call, raw_delivery, raw_process,
+--   raw_record, raw_send, raw_thread, side_calls, side_thread, side_time; database/views.sql: came_to, process,
+--   sent_to, thread; records.sql: from_before, to_frozen; ages.sql: last, life, old, process_life; rule.sql: narrowed;
+--   judging.py: call_name, duration
 -- after: counts.sql
 -- makes: temporary tables: waits, few, waits_for, main_thread, ring_step, ring, lock_step, lock_way, lock_ring,
 --   own_ring, serves_on, queued, loop, taker, taken, came, occupies, pool, full_pool, pool_ring, step, waited; indexes:
@@ -22,6 +23,11 @@ WHERE f.section = 'calls' AND f.what = 'open'
 UNION ALL SELECT b.id, b.place, b.upid, coalesce(b.utid, -b.tid), b.delivery, coalesce(b.server_utid, -b.server_tid),
   iif(b.delivery NOTNULL, 0, NULL), b.server, 'the call from before by thread ' || b.tid
 FROM from_before b;
+-- And served calls whose callers were not recorded.
+INSERT INTO waits
+SELECT f.id, f.place, NULL, NULL, f.place, f.utid, v.verdict, f.upid, 'the call at ' || f.place
+FROM narrowed n CROSS JOIN finding f JOIN raw_delivery d USING (place) JOIN raw_call v USING (place)
+WHERE n.processes AND f.section = 'served' AND f.what = 'open' AND d.send IS NULL;
 CREATE UNIQUE INDEX temp.waits_id ON waits(id);
 CREATE INDEX temp.waits_process ON waits(upid);
 CREATE INDEX temp.waits_place ON waits(place);
