@@ -79,7 +79,8 @@ class Parts:
         """The rows of a table, each of which begins so. The first ones are on the page at once."""
         if len(markup) <= OF_TABLE and self.take(len(markup)):
             return Rows(markup, None)
-        first, *others = (begin + one if at else one for at, one in enumerate(markup.split(begin)))
+        # Of plain text: what is added to markup of a template is escaped, which makes it longer.
+        first, *others = (begin + one if at else one for at, one in enumerate(str(markup).split(begin)))
         kept, size = 0, len(first)
         most = min(OF_TABLE, max(self.left, 0))
         while kept < len(others) and (kept < LEAST_ROWS or size + len(others[kept]) <= most):

@@ -7,6 +7,8 @@ import pathlib
 import re
 import zlib
 
+from markupsafe import Markup
+
 from checks.kit.checking import Fail, compare
 from checks.viewer.page.common import loaded, stored, texts_stored, view, written
 from checks.viewer.sessions.session import Session
@@ -25,14 +27,16 @@ def unpacked(text: str) -> str:
 def check_parts(_: pathlib.Path, __: pathlib.Path, fail: Fail) -> None:
     """Nothing of a large page is lost, its order stays, and what is there at once has a ceiling; all of a small one is
     there at once."""
-    rows = "".join(f"<tr><td>{at} {'é' * 90}\n" for at in range(3000))
+    rows = Markup("".join(f"<tr><td>{at} {'é' * 90}\n" for at in range(3000)))  # as a template has them
     for left, text in ((MOST, rows), (1000, rows), (MOST, rows[:3000])):
         parts = Parts(left)
         made = parts.rows(text, "<tr")
         packed = unpacked(made.packed.text) if made.packed else ""
         what = f"{len(text)} characters of rows where {left} may be there"
-        compare(f"{what}: they are all there", made.drawn + packed == text, True, fail)
+        compare(f"{what}: they are all there", str(made.drawn) + packed == text, True, fail)
         compare(f"{what}: how many are packed", made.packed.amount if made.packed else 0, packed.count("<tr"), fail)
+        compare(f"{what}: a row begins each part", [
+            one.startswith("<tr") for one in (made.drawn, packed) if one], [True] * (1 + bool(packed)), fail)
         compare(f"{what}: some are there", made.drawn.count("<tr") >= min(LEAST_ROWS, text.count("<tr")), True, fail)
         compare(f"{what}: how many are there at once", len(made.drawn) <= max(OF_TABLE, LEAST_ROWS * 200), True, fail)
         compare(f"{what}: whether some are packed", bool(made.packed), len(text) > OF_TABLE, fail)
