@@ -1,9 +1,11 @@
 """Two captures compared by their defects: what is new, worse, grown or gone in the one since the other."""
 
 import sqlite3
+from contextlib import closing
 from typing import Iterator, NamedTuple
 
-from viewer.defects.seen import Defect, Seen, defects_of, facts_of, seconds_of
+from viewer.defects import times
+from viewer.defects.seen import Defect, Seen, defects_of, facts_of, kept_database, seconds_of
 from viewer.files import Stopped
 from viewer.malformed import Fault
 from viewer.terminal import line_of
@@ -56,6 +58,8 @@ class Comparison:
         self.before, self.now = old.defects, defects_of(new)
         self.met = {who for who, in new.execute("SELECT program || ' on ' || device FROM program")}
         self.called = set(new.execute("SELECT caller, call FROM talk UNION SELECT server, call FROM talk"))
+        self.name, self.database = name, new
+        self.times = times.changes(old.times, times.times_of(new))
         self.changes = [Change(self.what(key), self.now.get(key) or self.before[key],
                                self.count(self.before, key), self.count(self.now, key))
                         for key in {**self.now, **self.before} if self.is_told(key)]
@@ -86,12 +90,17 @@ class Comparison:
         return [change for change in self.changes if change.what in what]
 
     def lines(self, fault: Fault | None) -> Iterator[str]:
-        """A line for each defect that is not the same, then one with counts. If the new capture is malformed, the first
-        line says so."""
+        """A line for each defect that is not the same, and for each method that is slower or faster, then one with
+        counts. If the new capture is malformed, the first line says so."""
         if fault:
             yield line_of("malformed", None, None, None, fault.kind, None, fault.file, fault.place, None)
         for what in SHOWN:
             for _, defect, before, now in self.of(what):
                 yield line_of(what, defect.verdict, before, now, defect.kind, defect.who, defect.path, defect.place,
                               defect.key)
-        yield ", ".join(f"{len(self.of(what))} {what}" for what in (*SHOWN, SAME, NOT_MET)) + "\n"
+        if self.times:
+            with closing(kept_database(self.name)) as old:
+                yield from times.lines(self.times, old, self.database)
+        counts = {**{what: len(self.of(what)) for what in (*SHOWN, SAME, NOT_MET)},
+                  **{what: sum(it.what == what for it in self.times) for what in (times.SLOWER, times.FASTER)}}
+        yield ", ".join(f"{count} {what}" for what, count in counts.items()) + "\n"

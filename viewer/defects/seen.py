@@ -4,6 +4,7 @@ import pathlib
 import sqlite3
 from typing import Any, NamedTuple
 
+from viewer.defects.times import Timed, times_of
 from viewer.files import Stopped, state_of
 from viewer.rules import verdicts
 
@@ -83,6 +84,7 @@ class Seen(NamedTuple):
     """What a comparison takes of a capture."""
     facts: dict[str, object]
     defects: dict[str, Defect]
+    times: list[Timed]
 
 
 def are_ours(seen: Seen) -> bool:
@@ -90,14 +92,16 @@ def are_ours(seen: Seen) -> bool:
     return (all(isinstance(seen.facts.get(name), kind) for name, kind in FACTS.items())
             and all(isinstance(value, kind) for defect in seen.defects.values()
                     for value, kind in zip(defect, Defect.__annotations__.values()))
-            and all(defect.verdict in RANKS for defect in seen.defects.values()))
+            and all(defect.verdict in RANKS for defect in seen.defects.values())
+            and all(isinstance(value, kind) for timed in seen.times
+                    for value, kind in zip(timed, Timed.__annotations__.values())))
 
 
 def seen_in(path: str) -> Seen:
     """What a database has that was kept. A file may have been changed since, or be a stranger's."""
     database = kept_database(path)
     try:
-        seen = Seen(facts_of(database), defects_of(database))
+        seen = Seen(facts_of(database), defects_of(database), times_of(database))
     except sqlite3.Error as error:
         raise Stopped(4, f"{path}: {error}: rebuild it with --database") from error
     finally:

@@ -2,10 +2,11 @@
 method is slower or faster in another one."""
 
 import sqlite3
-from collections.abc import Iterable
+from collections.abc import Iterable, Iterator
 from statistics import median
 from typing import NamedTuple
 
+from viewer.terminal import line_of
 from viewer.units import defect_key
 
 # What became of a method.
@@ -30,6 +31,15 @@ SELECT server, call, calls, queue, work FROM (
 WHERE nth = 1 ORDER BY calls DESC, server, call"""
 
 
+# How long its calls took on average after a thread had them, in milliseconds.
+AVERAGE = """
+SELECT avg(t.dur - t.wait) / 1e6 FROM txn t JOIN program p ON p.upid = t.server_upid
+WHERE t.outcome = 'answered' AND t.call = ? AND p.program || ' on ' || p.device = ?"""
+
+# Of fewer calls in a capture a median says little.
+CALLS = 10
+
+
 class Timed(NamedTuple):
     """The median times of a method in a capture, in nanoseconds."""
     server: str
@@ -37,6 +47,9 @@ class Timed(NamedTuple):
     calls: int
     queue: int
     work: int
+
+    def of(self, part: str) -> int:
+        return self.queue if part == "queue" else self.work
 
 
 def times_of(database: sqlite3.Connection) -> list[Timed]:
@@ -62,3 +75,50 @@ def change_of(before: float, now: float, load: float) -> str | None:
     if before - now >= LEAST and before >= FACTOR * now * max(1.0, 1 / load):
         return FASTER
     return None
+
+
+class Change(NamedTuple):
+    """A part of the time of a method that is another one in the new capture."""
+    what: str
+    part: str
+    before: Timed
+    now: Timed
+
+    @property
+    def key(self) -> str:
+        return key_of(self.part, self.now.server, self.now.call)
+
+
+def changes(before: list[Timed], now: list[Timed]) -> list[Change]:
+    """The methods of two captures that are slower or faster in the new one, beside the load of both. It is no test: two
+    captures do not say what chance does."""
+    old = {(timed.server, timed.call): timed for timed in before}
+    both = [(old[timed.server, timed.call], timed) for timed in now if (timed.server, timed.call) in old]
+    found = []
+    for part in PARTS:
+        load = load_of((new.of(part), was.of(part)) for was, new in both)
+        found += [Change(what, part, was, new) for was, new in both if min(was.calls, new.calls) >= CALLS
+                  and (what := change_of(was.of(part), new.of(part), load))]
+    return sorted(found, key=lambda it: (it.what != SLOWER, it.now.server, it.now.call, it.part))
+
+
+def average_of(database: sqlite3.Connection, timed: Timed) -> float | None:
+    average, = database.execute(AVERAGE, (timed.call, timed.server)).fetchone()
+    return average if isinstance(average, float) else None
+
+
+def said_of(change: Change, averages: tuple[float | None, float | None]) -> str:
+    """What a line says of the times of a method."""
+    before, now = (timed.of(change.part) / 1e6 for timed in (change.before, change.now))
+    said = f"{change.part}: median {before:.3g} ms, then {now:.3g}"
+    if change.part == "work" and None not in averages:
+        said += f"; without the queue {averages[0]:.3g} ms on average, then {averages[1]:.3g}"
+    return f"{said}; no test"
+
+
+def lines(found: list[Change], old: sqlite3.Connection, new: sqlite3.Connection) -> Iterator[str]:
+    """A line for each change, with how many calls there are in both captures."""
+    for it in found:
+        averages = average_of(old, it.before), average_of(new, it.now)
+        yield line_of(it.what, None, it.before.calls, it.now.calls, said_of(it, averages), it.now.server, it.now.call,
+                      None, it.key)

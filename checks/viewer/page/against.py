@@ -17,6 +17,9 @@ from viewer.files import Stopped
 
 IDS = marked("check.forms.IIds")
 
+# How the last line ends if no method is slower or faster.
+NO_TIMES = ", 0 slower, 0 faster"
+
 # How many replies to each code are not freed, by code, in the captures that are compared.
 OLD = {10: 3, 11: 3, 12: 3, 13: 3}
 NEW = {10: 3, 11: 9, 14: 3}
@@ -66,7 +69,7 @@ def check_against(folder: pathlib.Path, room: pathlib.Path, fail: Fail) -> None:
     due = [("new", "real", "0", "3", path_of(14)), ("grown", "real", "3", "9", path_of(11)),
            ("gone", "real", "3", "0", path_of(12))]
     compare("--against", (status, short_of(lines), lines.splitlines()[-1]),
-            (0, due, "1 new, 0 worse, 1 grown, 1 gone, 1 same, 1 not met"), fail)
+            (0, due, "1 new, 0 worse, 1 grown, 1 gone, 1 same, 1 not met" + NO_TIMES), fail)
     text = texts_of(room / "new.html")
     compare("--against: marks of the page", ("real new replies never freed" in text, "real grown replies" in text,
                                              " Gone 1 Defects of the other" in text, text.count("client on binder: ")),
@@ -79,6 +82,7 @@ def check_against(folder: pathlib.Path, room: pathlib.Path, fail: Fail) -> None:
             fail)
     check_gate(folder, room, old, new, fail)
     check_worse(folder, room, fail)
+    check_slower(folder, room, fail)
     check_unlike(folder, room, old, new, fail)
 
 
@@ -122,11 +126,39 @@ def check_worse(folder: pathlib.Path, room: pathlib.Path, fail: Fail) -> None:
     """A call that was under way hangs in the other capture."""
     for name, wait in (("early", 20), ("late", 600)):
         view(folder, room, *written(hangs(wait), room, name), "--groups", "--database", f"{name}.db")
-    for one, other, due in (("late", "early", "0 new, 1 worse, 0 grown, 0 gone, 0 same, 0 not met"),
-                            ("early", "late", "0 new, 0 worse, 0 grown, 0 gone, 1 same, 0 not met")):
+    for one, other, due in (("late", "early", "0 new, 1 worse, 0 grown, 0 gone, 0 same, 0 not met" + NO_TIMES),
+                            ("early", "late", "0 new, 0 worse, 0 grown, 0 gone, 1 same, 0 not met" + NO_TIMES)):
         status, lines, _ = view(folder, room, f"{one}.cap", "--side", f"{one}.side", "--against", f"{other}.db",
                                 "--fail-on", "real")
         compare(f"{one} against {other}", (status, lines.splitlines()[-1]), (10 if one == "late" else 0, due), fail)
+
+
+def timed(took: dict[int, int], count: int) -> Session:
+    """So many calls of each code, which take so many milliseconds."""
+    s = Session()
+    service, client = s.two()
+    for _ in range(count):
+        for code, milliseconds in took.items():
+            client.main.asks(service.main, code, took=milliseconds, body=IDS)
+    return s
+
+
+def check_slower(folder: pathlib.Path, room: pathlib.Path, fail: Fail) -> None:
+    """Methods that are slower or faster by a fifth and 1 ms have a line, which says of how many calls it is, and that
+    it is no test; not if all are so, or if there are few calls."""
+    usual = {code: 4 + code % 3 for code in range(40, 48)}
+    view(folder, room, *written(timed(usual, 12), room, "usual"), "--groups", "--database", "usual.db")
+    for name, took, count, due in (
+            ("slower", {**usual, 41: 15}, 11, [("slower", "12", "11", "work: median 7 ms, then 16", 41)]),
+            ("faster", {**usual, 42: 2}, 12, [("faster", "12", "12", "work: median 5 ms, then 3", 42)]),
+            ("same", {**usual, 41: 7}, 12, []), ("few", {**usual, 41: 15}, 9, []),
+            ("all", {code: 2 * milliseconds for code, milliseconds in usual.items()}, 12, [])):
+        _, lines, _ = view(folder, room, *written(timed(took, count), room, name), "--against", "usual.db")
+        some = [fields for line in lines.splitlines() if len(fields := line.split("\t")) == 9]
+        came = [(what, there, here, said.partition(";")[0], int(path.rpartition(" ")[2]))
+                for what, _, there, here, said, _, path, *_ in some if said.endswith("; no test")]
+        compare(f"--against: {name}", (came, lines.splitlines()[-1].rpartition("met")[2]), (
+            due, f", {name == 'slower':d} slower, {name == 'faster':d} faster"), fail)
 
 
 def check_unlike(folder: pathlib.Path, room: pathlib.Path, old: tuple, new: tuple, fail: Fail) -> None:
@@ -139,7 +171,8 @@ def check_unlike(folder: pathlib.Path, room: pathlib.Path, old: tuple, new: tupl
         compare(f"methods on one side, {against}", (status, lines, told.count("\n")), (1, "", 1), fail)
     view(folder, room, *old, "--methods", "table", "--groups", "--database", "old-named.db")
     _, lines, _ = view(folder, room, *named, "--against", "old-named.db")
-    compare("methods on both sides", lines.splitlines()[-1], "1 new, 0 worse, 1 grown, 1 gone, 1 same, 1 not met", fail)
+    compare("methods on both sides", lines.splitlines()[-1],
+            "1 new, 0 worse, 1 grown, 1 gone, 1 same, 1 not met" + NO_TIMES, fail)
     compare("a key with a method", "reply to check.forms.IIds.tenth of service" in "\n".join(
         path for path, in sqlite3.connect(room / "named.db").execute("SELECT path FROM defect")), True, fail)
     view(folder, room, old[0], "--no-side", "--groups", "--database", "no-side.db")
