@@ -23,7 +23,7 @@ static const char usage[] =
 static const char usage_of_keep[] = "record --keep [-o OUT]";
 
 static const char usage_of_adb[] =
-	"record --adb [SERIAL] [--detach | --fetch] [--view] [--no-names] [--collect[=NAME,..]] [OPTION].."
+	"record --adb [SERIAL] [--detach | --fetch | --keep] [--view] [--no-names] [--collect[=NAME,..]] [OPTION].."
 	" [-- PROGRAM ARGUMENT...]";
 
 static const char help[] =
@@ -44,7 +44,8 @@ static const char help[] =
 	"--stacks           also records the stacks of calls that write, as far as programs keep frame pointers\n"
 	"--keep             has a recorder that runs with --files keep its files as they are now, with side lists and copies of\n"
 	"                   what the driver holds, in the folder OUT.kept-TIME, while it goes on: the one with this OUT, or\n"
-	"                   the only one. SIGUSR1 does the same\n"
+	"                   the only one. SIGUSR1 does the same. With --adb it is the recorder on the device, and all\n"
+	"                   folders that it has kept are fetched\n"
 	"--keep-on TRIGGER  with --files: keeps them as soon as there is, and at most once a minute\n"
 	"                     hang:TIME     a call that has been open for so long, as in hang:5s\n"
 	"                     pool:TIME     a process whose threads have all served for so long, while a call waits\n"

@@ -92,8 +92,9 @@ static void look_for_hang(u64 time)
 	why.since = call->since;
 	why.limit = asked_triggers.hang;
 	clean(name, call->thread->process->name);
-	snprintf(why.words, sizeof why.words, "a call of %.60s (%u), %s code %u, has been open for %.1f s", name, why.pid,
-		 interface_name(call->interface), call->code, seconds(time - call->since));
+	snprintf(why.words, sizeof why.words, "a call of %.60s (%u), %s%scode %u, has been open for %.1f s", name, why.pid,
+		 call->interface ? interface_name(call->interface) : "", call->interface ? " " : "", call->code,
+		 seconds(time - call->since));
 	if (ask(&why, time))
 		mark_hanging(time);
 }

@@ -7,6 +7,7 @@ What must hold:
 
 - A recording is fetched as it was on the device, into files of the owner alone, and removed there. PROGRAM has its
   output and its status; without one SIGINT ends the recording, and a line says so. Lines before say what is done.
+- A flight recorder keeps its files when it is asked, or by a trigger, and goes on; all sets that it kept are fetched.
 - Apps, or the processes that are named, collect garbage before the recording ends, and none ends by that.
 - The packages of a device are in a file beside the side list, and a device that does not tell them holds up nothing.
 - A recorder ends whose folder and whose adb are gone.
@@ -46,6 +47,7 @@ from typing import Callable, Iterator
 from checks.kit.checking import Fail, check
 from checks.kit.frames import frames_of
 from checks.kit.programs import CHECKS, ROOT
+from checks.recorder.keeping import WRAPPED
 from checks.recorder.phone.play import server_of_version_39
 
 LIMIT = 300  # seconds, for a machine with much other work
@@ -300,6 +302,47 @@ def check_detached(device: Device) -> None:
     device.says(["--fetch", "-o", "later"], 0, ENDING, COUNTS, *fetches("later"))
     device.fetched("later")
     device.says(["--fetch", "-o", "again"], 1, NONE)
+
+
+KEPT_THERE = r"record: kept \d files, \d+ bytes, in capture\.kept-\w+(-\d+)?, because {0}"
+KEPT_HERE = (r"record: a set that was kept on one, \d+ files, \d+ bytes, fetched;"
+             r" next: \S+view day\.kept-\S+/day-\d+\.cap.*")
+
+
+def check_kept(device: Device) -> None:
+    """A recording that goes on keeps its files by a trigger, and when it is asked. All that it kept is fetched."""
+    device.what = "a set by a trigger"
+    wrapped = "".join(f",--wrap={name}" for name in WRAPPED)
+    subprocess.run([CHECKS / "recorder/build.sh", "keeping", device.room, f"-Wl{wrapped}"], check=True)
+    still = r"one still records; to end that, and fetch it: \S+record --adb one --fetch -o day"
+    with device.with_file("recorder/program.sh", f"#!/bin/sh\necho {device.room}/keeping\n", 0o755):
+        device.says(["--keep"], 1, "record: one records nothing now")
+        device.says(["--detach", "--size", "1000000", "--keep-when-file", f"{device.room}/come", "-o", "day"], 0,
+                    *PREPARED, READY, r"record: one records, .*", PLAN="")
+        device.write("come", "")
+        device.wait_until("a set", lambda: list(device.folder().glob("capture.kept-*")) != [])
+        device.what = "--keep"
+        device.says(["--keep", "--redact"], 64, "record: --keep takes no --redact: the recording has begun with its"
+                    " options")
+        device.says(["--keep", "-o", "day"], 0, KEPT_HERE, KEPT_HERE, f"record: {still}")
+        sets = sorted((device.room / "out").glob("day.*"))
+        lists = [max(it.glob("day-*.side"), key=lambda path: int(path.stem[4:])).read_text("utf-8") for it in sets]
+        told = [re.findall(r" kept (\w+) ", text) + re.findall(r" end (recording) ", text[-80:]) for text in lists]
+        if sorted(told) != [["asked", "recording"], ["file", "recording"]] or list(device.folder().glob("*.kept-*")):
+            device.report(f"{device.what}: of {sets} the lists say {told}")
+        device.what = "--fetch with a set"
+        with device.with_file("cut", "cat capture-"):
+            device.says(["--keep", "-o", "day"], 1,
+                        rf"record: capture-\d+\.cap of one did not come as it is there; {still}")
+        device.says(["--fetch", "-o", "day"], 0, ENDING, KEPT_THERE.format(r"\S+/come has come, or was changed"),
+                    *[KEPT_THERE.format("somebody asked for it")] * 2, COUNTS, KEPT_HERE, FETCHING,
+                    r"record: \d+ files, \d+ bytes fetched from one; next: \S+view day-\d+\.cap .*")
+        kept = sorted((device.room / "out").glob("day.kept-*"))
+        if len(kept) != 3 or any(path.stat().st_mode & 0o777 != 0o600 for it in kept for path in it.iterdir()):
+            device.report(f"{device.what}: of three sets these are here: {kept}")
+        for path in kept:
+            path.rename(device.room / path.name)
+    device.fetched("day")
 
 
 def check_packages(device: Device) -> None:
@@ -677,10 +720,10 @@ def check_server(device: Device) -> None:
 
 def judge(_: argparse.Namespace, room: pathlib.Path, fail: Fail) -> None:
     device = Device(room, fail)
-    for part in (check_sessions, check_words, check_named, check_bar, check_view, check_detached, check_packages,
-                 check_garbage, check_two, check_left, check_restarted, check_power, check_quoted, check_interrupted,
-                 check_fetched_twice, check_lacking, check_lacking_here, check_lost, check_full, check_ownerless,
-                 check_gone, check_lost_early, check_strange, check_devices, check_server):
+    for part in (check_sessions, check_words, check_named, check_bar, check_view, check_detached, check_kept,
+                 check_packages, check_garbage, check_two, check_left, check_restarted, check_power, check_quoted,
+                 check_interrupted, check_fetched_twice, check_lacking, check_lacking_here, check_lost, check_full,
+                 check_ownerless, check_gone, check_lost_early, check_strange, check_devices, check_server):
         part(device)
 
 

@@ -17,6 +17,8 @@ PIECE = 1 << 20
 BEGIN = "capture"  # of the names on the device
 # What the recorder adds to the begin of its files' names, and on_device.sh for the packages.
 ENDING = re.compile(r"(-[0-9]{1,10}\.(cap|side)|\.side|\.(begin|end)\.(state|transactions|stats)|\.packages)")
+# The same of a folder with a set of files that is kept while the recording goes on, and of one that is not whole.
+SET = re.compile(r"\.kept-[0-9]{8}T[0-9]{6}Z(-[0-9]{1,2})?|\.keeping")
 # Lines of `stat` and of `sha256sum`.
 SIZE, SUM = re.compile(r"([0-9]{1,18}) (.*)", re.DOTALL), re.compile(r"([0-9a-f]{64}) [ *](.*)", re.DOTALL)
 
@@ -39,6 +41,11 @@ def is_made(name: str) -> bool:
     return name.startswith(BEGIN) and ENDING.fullmatch(name, len(BEGIN)) is not None
 
 
+def is_set(name: str) -> bool:
+    """Whether the recorder gives this name to the folder of a set."""
+    return name.startswith(BEGIN) and SET.fullmatch(name, len(BEGIN)) is not None
+
+
 def unreadable(folder: Folder, said: str) -> Stopped:
     return Stopped(f"the files in {folder.path} of {folder.serial} can't be read: {said}")
 
@@ -49,7 +56,8 @@ def listed(folder: Folder) -> Listed:
     names = sorted(filter(is_made, sizes))
     if not names:
         raise unreadable(folder, answer.said)
-    return Listed([File(name, sizes[name]) for name in names], sorted(sizes.keys() - set(names)))
+    others = sorted(name for name in sizes.keys() - set(names) if not is_set(name))
+    return Listed([File(name, sizes[name]) for name in names], others)
 
 
 def digests(folder: Folder, files: list[File]) -> dict[str, str]:

@@ -79,7 +79,7 @@ interrupt() {
 }
 
 has_begun() {
-	cat capture.side capture-1.side | grep -q ' begin realtime='
+	cat capture.side capture-*.side | grep -q ' begin realtime='	# the first one may be removed by now
 }
 
 # Android ends all processes of the service adbd when it stops it, for example when the cable comes off: those in its

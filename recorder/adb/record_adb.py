@@ -20,6 +20,7 @@ from typing import Iterator, NamedTuple
 import device
 import fetch
 import folder as folders
+import kept_sets
 import words
 from connection import Connection, Lost, Nothing, Stopped, command_line, need_adb, on_device, the_device
 from folder import OLDEST, Folder, Found, Gone
@@ -213,6 +214,17 @@ def remove_fetched(command: Command) -> None:
              f" {on_device(command.serial, 'rm', '-r', command.folder.path)}")
 
 
+def fetch_sets(command: Command) -> list[list[str]]:
+    """Fetches the sets that were kept, and names the command for each. Returns the paths of the files of each."""
+    found = []
+    for paths in kept_sets.fetch_sets(command.folder, command.words.out):
+        size = sum(os.path.getsize(path) for path in paths)
+        tell(f"a set that was kept on {command.serial}, {len(paths)} files, {size} bytes, fetched; next:"
+             f" {view_command(command.record, paths)}")
+        found.append(paths)
+    return found
+
+
 def finish(command: Command) -> int:
     """Fetches what was recorded, removes it from the device, and names the next command."""
     folder = command.folder
@@ -222,6 +234,7 @@ def finish(command: Command) -> int:
         raise Nothing(f"nothing was recorded on {command.serial}", status or 1)
     if (space := folder.space()) is not None and space < LEAST_SPACE:
         tell(f"{command.serial} is full, with {space} bytes free in {folder.path}: the recording ends early")
+    fetch_sets(command)
     files, others = fetch.listed(folder)
     tell_others(command, others)
     tell(f"fetching {len(files)} files, {sum(file.size for file in files) / 1e6:.1f} MB, from {command.serial}")
@@ -274,6 +287,22 @@ def fetch_recording(command: Command) -> int:
         return finish(command)
 
 
+def keep_recording(command: Command) -> int:
+    """Has the recorder keep its files, and fetches the sets that it has kept. The recording goes on."""
+    found = folders.look(command.folder.connection, command.folder.path)
+    if not found or not found.folder.is_recording():
+        raise Nothing(f"{command.serial} records nothing now")
+    command = command._replace(folder=found.folder)
+    answer = command.folder.ask(f"./record --keep -o {fetch.BEGIN}")
+    tell_all(answer.errors, command.serial)
+    with keeping(command):
+        sets = fetch_sets(command)
+    if not sets:
+        raise Nothing(f"nothing was kept on {command.serial}, which still records")
+    tell(f"{command.serial} still records; to end that, and fetch it: {command.to_fetch}")
+    return (show(command.record, sets[-1]) if command.words.view else 0) or answer.status
+
+
 # ---- failures
 
 
@@ -316,6 +345,8 @@ def failure_line(failure: Exception) -> str:
 def run(command: Command) -> int:
     if command.words.fetch:
         return fetch_recording(command)
+    if command.words.keep:
+        return keep_recording(command)
     command = prepare(command)
     if command.words.check:
         command.folder.remove()
@@ -329,7 +360,7 @@ def run(command: Command) -> int:
 
 def command_of(name: str, given: list[str]) -> Command:
     asked = words.read(given)
-    words.refuse_files(asked.out)
+    words.refuse_files(asked)
     need_adb()
     connection = Connection(the_device(asked.serial))
     device.become_root(connection)

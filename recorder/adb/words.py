@@ -9,7 +9,7 @@ from connection import Stopped
 from fetch import ENDING, refuse
 
 WRONG_WORDS = 64  # the status
-OWN = ("--detach", "--fetch", "--check", "--no-names", "--view")  # what the recorder on the device is not given
+OWN = ("--detach", "--fetch", "--keep", "--check", "--no-names", "--view")  # what the device's recorder is not given
 
 
 class Wrong(Stopped):
@@ -24,6 +24,7 @@ class Words(NamedTuple):
     out: str
     detach: bool
     fetch: bool
+    keep: bool  # asks a recording that goes on
     check: bool
     view: bool
     names: bool
@@ -95,10 +96,11 @@ def kept_few(options: list[str]) -> list[str]:
 
 
 def refuse_beside(own: set[str], others: list[str]) -> None:
-    """What is ended and fetched has its options already."""
-    wrong = [*sorted(own - {"--fetch", "--view"}), *others]
+    """What is fetched has its options already."""
+    what = "--fetch" if "--fetch" in own else "--keep"
+    wrong = [*sorted(own - {what, "--view"}), *others]
     if wrong:
-        raise Wrong(f"--fetch takes no {wrong[0]}: the recording has begun with its options")
+        raise Wrong(f"{what} takes no {wrong[0]}: the recording has begun with its options")
 
 
 def read(given: list[str]) -> Words:
@@ -112,20 +114,21 @@ def read(given: list[str]) -> Words:
         raise Wrong("record --help has the options of --adb, too")
     own = {word for word in options if word in OWN}
     collect, others = take_collect([word for word in options if word not in own])
-    if "--fetch" in own:
+    if own & {"--fetch", "--keep"}:
         refuse_beside(own, [*others, *program, *(["--collect"] if collect else [])])
     if "--view" in own and own & {"--detach", "--check"}:
         raise Wrong(f"--view shows what is fetched, and {min(own & {'--detach', '--check'})} fetches nothing")
     if "--detach" in own:
         others = kept_few(others)
-    return Words(named[0] if named else None, out, "--detach" in own, "--fetch" in own, "--check" in own,
-                 "--view" in own, "--no-names" not in own, collect, others + program)
+    return Words(named[0] if named else None, out, "--detach" in own, "--fetch" in own, "--keep" in own,
+                 "--check" in own, "--view" in own, "--no-names" not in own, collect, others + program)
 
 
-def refuse_files(out: str) -> None:
-    """No file of a recording may be there: those of the recorder, by their endings."""
-    refuse([path for path in sorted(glob.glob(glob.escape(out) + "[-.]*"))
-            if ENDING.fullmatch(path.removesuffix(".part"), len(out))])
-    folder = os.path.dirname(out) or "."
+def refuse_files(asked: Words) -> None:
+    """No file of a recording may be there: those of the recorder, by their endings. A set has a folder of its own."""
+    if not asked.keep:
+        refuse([path for path in sorted(glob.glob(glob.escape(asked.out) + "[-.]*"))
+                if ENDING.fullmatch(path.removesuffix(".part"), len(asked.out))])
+    folder = os.path.dirname(asked.out) or "."
     if not os.path.isdir(folder) or not os.access(folder, os.W_OK):
         raise Stopped(f"{folder} is not a folder in which files can be made")

@@ -7,6 +7,7 @@ import pathlib
 import re
 import sqlite3
 import struct
+import subprocess
 import tempfile
 from collections import Counter, defaultdict
 from typing import TYPE_CHECKING, Callable, Iterable, NamedTuple
@@ -178,6 +179,34 @@ def flight_differences(recording, folder):
         strangers = {(frame.device, frame.process, frame.thread) for frame in one.frames} - set(one.tids)
         if strangers:
             yield "flight", path.stem, "strangers", len(strangers), 0
+
+
+def kept_differences(scenario):
+    """One set was kept while the recording went on: because of the call that hangs, whole, and the page begins with it;
+    and nothing was lost."""
+    if " frames, 0 lost; files removed " not in scenario.output or " has been open for 5." not in scenario.output:
+        yield "kept", "all", "said", scenario.output.strip(), "0 lost"
+    folders = sorted(scenario.folder.glob("capture.kept-*"))
+    if len(folders) != 1:
+        yield "kept", "all", "sets", len(folders), 1
+    for folder in folders:
+        yield from set_differences(Recording(folder), folder)
+
+
+def set_differences(recording, folder):
+    numbers = [frame.sequence for frame in recording.frames]
+    if numbers != list(range(numbers[0], numbers[-1] + 1)) or recording.lost or len(recording.captures) > MOST_FILES:
+        yield "kept", folder.name, "frames", len(numbers), numbers[-1] - numbers[0] + 1
+    why = re.findall(r" kept (hang) .* limit=5000000000 name=$", recording.side, re.M)
+    if why != ["hang"]:
+        yield "kept", folder.name, "why", why, ["hang"]
+    yield from end_differences(recording)
+    yield from form_differences(recording, False)
+    yield from copy_differences("flight", recording, folder)
+    shown = subprocess.run([ROOT / "view", "--groups", *recording.captures], stdout=subprocess.PIPE,
+                           stderr=subprocess.DEVNULL, encoding="utf-8", check=False)
+    if not re.match(r"kept\thang\t.*kept because .* has been open for 5\.\d s\tcamera_app", shown.stdout):
+        yield "kept", folder.name, "page", shown.stdout[:200], "the call that hangs"
 
 
 # KiB of the recorder's own memory: 256 MiB of frames that wait, and at most what is in its ring.
@@ -367,7 +396,7 @@ SAYS = {
 
 
 # How it is recorded if the recorder does not record all, from beginning to end.
-PARTIAL = {"late", "hidden", "before", "killed", "stopped", "full", "narrow", "flight", "hoard"}
+PARTIAL = {"late", "hidden", "before", "killed", "stopped", "full", "narrow", "flight", "hoard", "kept"}
 MOST_AFTER = 200_000_000  # nanoseconds from the last frame to the end, if the scenario goes on after it
 MOST_CUT = 8192  # bytes of a last frame of the load that a killed recorder may leave cut
 
@@ -440,8 +469,9 @@ KINDS = [
     Kind("capture lost names books end form", partial, partly_lost),
     Kind("capture names end", partial, cut_differences),
     Kind("", played("flight"), lambda it: flight_differences(it.recording, it.folder)),
+    Kind("", played("kept"), kept_differences),
     Kind("", played("hoard"), lambda it: hoard_differences(it.output, it.folder)),
-    Kind("", played("flight", "hoard", "before"), status_differences),
+    Kind("", played("flight", "hoard", "before", "kept"), status_differences),
     Kind("view", lambda it: partial(it) and it.name == "before", lambda it: view_differences(it.folder)),
     Kind("purpose capture status names books", whole, lambda it: purpose_differences(it.name, it.report, it.recording)),
     Kind("lost", whole, lambda it: lost_differences(it.recording)),

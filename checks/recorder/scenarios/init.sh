@@ -25,6 +25,8 @@
 #            all processes are alive at the end of the recording
 #   traced   by the recorder only, beside Perfetto's service, which traces the scheduler meanwhile into `system.pftrace`
 #   traced-long  the same, where the trace is written piece by piece, with flushes
+#   kept     by the recorder only, which keeps the newest 4 files of 1 MiB, and a set of them when a call has been open for
+#            5 s
 #   flight   by the recorder only, which keeps the newest 4 files of 128 KiB; `most-files` is how many there were at
 #            most
 # shellcheck shell=dash source=checks/recorder/guest/init.sh disable=SC2046,SC2086,SC2154
@@ -101,9 +103,9 @@ count_files() {
 	echo $most >$here/most-files
 }
 
-newest_files() { # BYTES WATCHER: keeps the newest 4 files of so many bytes, while the watcher looks
+newest_files() { # BYTES WATCHER [OPTION]: keeps the newest 4 files of so many bytes, while the watcher looks
 	$2 & watcher=$!
-	/record $more --size $1 --files 4 -o $here/capture -- /scenarios.static $scenario $here $number
+	/record $more --size $1 --files 4 $3 -o $here/capture -- /scenarios.static $scenario $here $number
 	status=$?
 	touch $here/ended
 	wait $watcher
@@ -190,6 +192,7 @@ play() { # HOW SCENARIO [NUMBER]
 	traced) traced;;
 	traced-long) traced 'write_into_file: true file_write_period_ms: 2500 flush_period_ms: 5000';;
 	flight) newest_files 131072 count_files;;
+	kept) newest_files 1048576 count_files '--keep-on hang:5s';;
 	hoard) newest_files 8388608 watch_memory;;
 	late) background TERM;;
 	before) before /scenarios.static;;
