@@ -8,6 +8,7 @@ from viewer.page.axis import TICK, Span, axis_of, merged
 from viewer.page.bars import Lane, Mark, bars_of
 from viewer.page.capture import Capture
 from viewer.page.moment import moment_of
+from viewer.terminal import shown
 from viewer.units import counted, duration_of
 
 # The width of the strip, in the units of its pictures; its parts; and the height of the traffic.
@@ -132,4 +133,4 @@ class Strip:
                 yield Mark(Span(span.begin, max(last.end, span.begin)), f"{counted(missing, 'frame')} missing", None)
         for ts, what, count in self.capture.ask("SELECT ts, what, count FROM side_missed ORDER BY ts LIMIT ?", GAPS):
             if self.axis.has_times and (span := self.axis.span(ts, None, 0, 0)):
-                yield Mark(span, f"missed without a number: {count} {what}", None)
+                yield Mark(span, f"missed without a number: {count} {shown(what)}", None)

@@ -264,11 +264,15 @@ def check_hostile(folder: pathlib.Path, room: pathlib.Path, fail: Fail) -> pathl
     side = (DRIVER / "leaks/capture.side").read_text("utf-8")
     for old, new in HOSTILE.items():
         side = re.sub(f"name={old}$", lambda _: "name=" + new.replace("\t", "\\x09"), side, flags=re.MULTILINE)
-    (room / "hostile.side").write_text(side, "utf-8")
+    *lines, end = side.splitlines(keepends=True)
+    missed = f"{end.split()[0]} missed 1 what=<script>window.bad=1</script>\u202e from=1 after=2\n"
+    (room / "hostile.side").write_text("".join((*lines, missed, end)), "utf-8")
     named = room / "<script>bad&\u202e.cap"
     shutil.copy(DRIVER / "leaks/capture-1.cap", named)
-    compare("hostile names, status",
-            view(folder, room, named.name, "--side", "hostile.side", "-o", "hostile.html")[0], 0, fail)
+    before = "<script>bad&\u202e.db"
+    for words in ("--groups", "--database", before), ("-o", "hostile.html", "--against", before):
+        compare(f"hostile names, status of {words[0]}",
+                view(folder, room, named.name, "--side", "hostile.side", *words)[0], 0, fail)
     text = (room / "hostile.html").read_text("utf-8")
     check_policy(text, fail)
     check_harmless("hostile names", text, fail)
