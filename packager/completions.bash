@@ -69,14 +69,15 @@ _binder_record() { # COMMAND WORD BEFORE
   done
   case $3 in
     --) mapfile -t COMPREPLY < <(compgen -c -- "$2") ;;
-    -o) _binder_audit_files ;;
+    -o | --methods) _binder_audit_files ;;
     --device) _binder_audit_words "$2" 'binder hwbinder vndbinder' ;;
     --size | --files | --pid | --only | --ring | --keep-most) ;;
     --keep-on) _binder_audit_words "$2" 'hang: pool: refused: death: logcat:' ;;
     --keep-when-file) _binder_audit_files ;;
     *)
-      _binder_audit_words "$2" '-o --size --files --pid --only --device --redact --no-attachments --stacks --keep
-        --keep-on --keep-when-file --keep-most --ring --check --adb --detach --fetch --view --no-names --collect --help --version --'
+      _binder_audit_words "$2" '-o --size --files --pid --only --device --redact --no-attachments --stacks --live
+        --methods --keep --keep-on --keep-when-file --keep-most --ring --check --adb --detach --fetch --view --no-names
+        --collect --help --version --'
       ;;
   esac
 }

@@ -100,6 +100,8 @@ case $service in
       '--redact[replace what is secret]' \
       '--no-attachments[leave out the data]' \
       '--stacks[record stacks of calls]' \
+      '--live[show what goes on]' \
+      '*--methods[table of methods]:table:_files' \
       '--keep[have a running recorder keep its newest files]' \
       '*--keep-on[when to keep the newest files]:hang\:5s, pool\:2s, refused\:100/s, death\:NAME, logcat\:REGEX:' \
       '--keep-when-file[keep them when this file comes]:file:_files' \

@@ -161,13 +161,19 @@ const char *command_line(u32 opening, u32 device, u32 process)
 	return line;
 }
 
-int command_is_called(u32 opening, const char *name)
+u32 command_program(u32 opening, const char **begin)
 {
 	const struct kept *k = kept_if(opening);
 	u32 word = k && k->text ? (u32)strnlen(k->text, k->bytes) : 0;
 	const char *slash = word ? memrchr(k->text, '/', word) : NULL;
-	const char *begin = !word ? NULL : slash ? slash + 1 : k->text;
-	size_t length = word ? (size_t)(k->text + word - begin) : 0;
+	*begin = slash ? slash + 1 : word ? k->text : NULL;
+	return word ? (u32)(k->text + word - *begin) : 0;
+}
+
+int command_is_called(u32 opening, const char *name)
+{
+	const char *begin;
+	u32 length = command_program(opening, &begin);
 	return length && strlen(name) == length && !memcmp(begin, name, length);
 }
 

@@ -25,6 +25,9 @@ int command_keep(const struct command *command);
 const char *command_line(u32 opening, u32 device, u32 process);
 /* Whether its program is called so, without folders, by what is kept of its command line. */
 int command_is_called(u32 opening, const char *name);
+/* What its program is called, without folders, by the command line that is kept: how many bytes it has, and where they
+ * begin. 0 if none is known. */
+u32 command_program(u32 opening, const char **begin);
 /* The opening is closed, and gets no line any more. */
 void command_forget(u32 opening);
 #endif

@@ -2,6 +2,7 @@
 #include "frame.h"
 #include "codes.h"
 #include "grammar.h"
+#include "live.h"
 #include "met.h"
 #include "open_calls.h"
 #include "parts.h"
@@ -399,5 +400,6 @@ enum reason frame_write(struct frame *frame, u64 consumed)
 	write_lines(frame, left_out);
 	met_frame(frame);
 	open_calls_frame(frame);
+	live_frame(frame);
 	return REASON_NONE;
 }

@@ -12,6 +12,7 @@
 #include "kept_set.h"
 #include "kernel.h"
 #include "lack.h"
+#include "live.h"
 #include "met.h"
 #include "missed.h"
 #include "names.h"
@@ -148,10 +149,10 @@ static void tell_progress(void)
 }
 
 /* Records until the program ends or a signal comes. Returns 0, or the errno of a write that failed. */
-static int record(struct ring *ring, u64 pause)
+static int record(struct ring *ring, u64 pause, int is_live)
 {
 	/* A caller may show the progress on a terminal that the recorder does not see. */
-	int is_terminal = isatty(STDERR_FILENO) || getenv("RECORD_PROGRESS"), error = 0;
+	int is_terminal = !is_live && (isatty(STDERR_FILENO) || getenv("RECORD_PROGRESS")), error = 0;
 	u64 flushed = now(), told = flushed;
 	while (!signal_got && !error) {
 		long count = take(ring);
@@ -161,6 +162,7 @@ static int record(struct ring *ring, u64 pause)
 		keep_look();
 		keep_asked_look();
 		triggers_look();
+		live_look();
 		if (time - flushed >= FLUSH_EVERY) {
 			missed_tell();
 			error = parts_flush();
@@ -334,6 +336,7 @@ static void begin(const struct options *options, const char *self, FILE *for_rea
 	if (options->files)
 		keep_begin(options, beside(self, "view"));
 	triggers_begin(options);
+	live_begin(options);
 	keep_room_for_lines();
 	create_files(options);
 	if (options->files)
@@ -374,7 +377,7 @@ int main(int count, char **words)
 		return check(&options, &ring);
 	load(&options, &ring);
 	begin(&options, words[0], for_ready);
-	int error = record(&ring, pause_of(&options));
+	int error = record(&ring, pause_of(&options), options.live);
 	if (error)
 		books_drop_names();
 	else

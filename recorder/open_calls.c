@@ -52,7 +52,7 @@ static struct open_process *process_of(const struct use *use)
 		return p;
 	p = allocate(sizeof *p);
 	*p = (struct open_process){ .device = use->who.device, .process = use->who.process,
-				    .pid = use->opening->process_id };
+				    .pid = use->opening->process_id, .opening = use->opening->id };
 	memcpy(p->name, use->opening->name, NAME_BYTES);
 	link_put_before(&open_processes, &p->all);
 	*table_make(&processes, key_of(p->device, p->process), 0) = (u64)(uintptr_t)p;
@@ -74,6 +74,11 @@ void open_calls_thread(const struct use *use)
 static struct open_thread *thread_of(const struct who *who)
 {
 	return table_thing(&threads, key_of(who->device, who->process), who->thread);
+}
+
+struct open_process *open_calls_process(u32 device, u32 process)
+{
+	return process_if(device, process);
 }
 
 /* ---- pools */
@@ -130,6 +135,12 @@ static u64 *queue_of(u32 device, u32 sender, const struct open_level *call, int 
 	return is_made ? table_make(&queues, key, second) : table_find(&queues, key, second);
 }
 
+struct open_process *open_calls_receiver(const struct who *who, u32 handle)
+{
+	const u64 *receiver = table_find(&receivers, key_of(who->device, who->process), handle);
+	return receiver && *receiver ? process_if(who->device, (u32)(*receiver - 1)) : NULL;
+}
+
 static void wait_for_receiver(struct open_level *call)
 {
 	u64 *place = queue_of(call->thread->who.device, call->thread->pid, call, 1);
@@ -140,9 +151,7 @@ static void wait_for_receiver(struct open_level *call)
 		*place = (u64)(uintptr_t)queue;
 	}
 	link_put_before(&queue->calls, &call->alike);
-	const u64 *receiver = table_find(&receivers, key_of(call->thread->who.device, call->thread->who.process),
-					 call->handle);
-	call->receiver = receiver && *receiver ? process_if(call->thread->who.device, (u32)(*receiver - 1)) : NULL;
+	call->receiver = open_calls_receiver(&call->thread->who, call->handle);
 	if (call->receiver)
 		call->receiver->waiting++;
 }
@@ -164,11 +173,11 @@ static void stop_waiting(struct open_level *call)
 	*place = 0;
 }
 
-static void remember_receiver(const struct open_level *call, u32 process)
+void open_calls_note_receiver(const struct who *who, u32 handle, u32 receiver)
 {
 	if (receivers.used >= MOST_HANDLES)
 		table_empty(&receivers);
-	*table_make(&receivers, key_of(call->thread->who.device, call->thread->who.process), call->handle) = process + 1ull;
+	*table_make(&receivers, key_of(who->device, who->process), handle) = receiver + 1ull;
 }
 
 /* A process lets go of a handle, which may mean another object when it has it again. */
@@ -192,6 +201,12 @@ static struct open_level *call_for(const struct open_level *served, u32 sender)
 static struct open_level *innermost(struct open_thread *t)
 {
 	return link_is_alone(&t->levels) ? NULL : LINKED(t->levels.before, struct open_level, of_thread);
+}
+
+struct open_level *open_calls_innermost(const struct who *who)
+{
+	struct open_thread *t = thread_of(who);
+	return t ? innermost(t) : NULL;
 }
 
 /* NULL if there are too many. */
@@ -260,7 +275,7 @@ static void serve_call(struct open_thread *t, const struct frame *frame, u32 rec
 	struct open_level *call = call_for(served, (u32)data->sender_pid);
 	if (!call)
 		return;
-	remember_receiver(call, t->who.process);
+	open_calls_note_receiver(&call->thread->who, call->handle, t->who.process);
 	stop_waiting(call);
 	call->other = served;
 	served->other = call;

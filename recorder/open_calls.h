@@ -13,6 +13,9 @@ struct open_process {
 	struct link all;
 	u32 device, process;
 	u32 pid;
+	u32 opening;			/* the number of its opening */
+	u32 oneways;			/* oneway calls whose data is in its async space, */
+	u64 oneway_bytes;		/* and how many bytes that takes: as in oneways.h */
 	u32 pool;			/* threads that were seen to wait for work of the process, or to do some */
 	u32 serving;			/* how many of them serve a call, or have a oneway one */
 	u32 waiting;			/* calls for it that none of its threads has; see `receiver` below */
@@ -70,6 +73,13 @@ static inline void open_calls_frame(const struct frame *frame)
 	if (open_calls_are_kept)
 		open_calls_take(frame);
 }
+/* The process with these numbers, or NULL. */
+struct open_process *open_calls_process(u32 device, u32 process);
+/* The innermost call of a thread, or NULL. */
+struct open_level *open_calls_innermost(const struct who *who);
+/* Who got the last call of the process for this handle, or NULL; and that this process got one. */
+struct open_process *open_calls_receiver(const struct who *who, u32 handle);
+void open_calls_note_receiver(const struct who *who, u32 handle, u32 receiver);
 /* What ended has no open calls any more. */
 void open_calls_thread_ended(struct who who);
 void open_calls_process_ended(u32 device, u32 process);

@@ -17,8 +17,8 @@
 
 static const char usage[] =
 	"record [-o OUT] [--size BYTES] [--files N] [--pid PID].. [--only PROCESS].. [--device NAME].."
-	" [--redact] [--no-attachments] [--ring BYTES] [--stacks] [--keep-on TRIGGER].. [--keep-when-file PATH]"
-	" [--keep-most N] [--check | --version | -- PROGRAM ARGUMENT...]";
+	" [--redact] [--no-attachments] [--ring BYTES] [--stacks] [--live [--methods FILE]..]"
+	" [--keep-on TRIGGER].. [--keep-when-file PATH] [--keep-most N] [--check | --version | -- PROGRAM ARGUMENT...]";
 
 static const char usage_of_keep[] = "record --keep [-o OUT]";
 
@@ -42,6 +42,10 @@ static const char help[] =
 	"                   and keeps of command lines only what programs are called, without folders\n"
 	"--no-attachments   leaves out the data of transactions and replies\n"
 	"--stacks           also records the stacks of calls that write, as far as programs keep frame pointers\n"
+	"--live             once a second: calls by sender, receiver and method, calls that have been open for over a second\n"
+	"                   and who has them, threads in use, oneways that wait, lost frames, and the rate on the disk. On\n"
+	"                   a terminal a table that stays in place, whose keys its last line has; else lines\n"
+	"--methods FILE     names methods in it, by a table of viewer/methods/table.py, as ./view takes; also for --view\n"
 	"--keep             has a recorder that runs with --files keep its files as they are now, with side lists and copies of\n"
 	"                   what the driver holds, in the folder OUT.kept-TIME, while it goes on: the one with this OUT, or\n"
 	"                   the only one. SIGUSR1 does the same. With --adb it is the recorder on the device, and all\n"
@@ -136,6 +140,8 @@ static void take(struct options *options, int letter, const char *word)
 	case 'w': triggers_add_file(optarg); break;
 	case 'm': options->keep_most = (u32)number("--keep-most", optarg, 1, MOST_SETS); break;
 	case 'K': options->keep = 1; break;
+	case 'l': options->live = 1; break;
+	case 'M': refuse("--methods goes with --live or --adb --view, and the script record reads it");
 	case 'r': options->ring = number("--ring", optarg, SMALLEST_RING, LARGEST_RING); break;
 	case 'c': options->check = 1; break;
 	case 'b': refuse("--adb comes first, and --detach, --fetch, --view, --no-names and --collect after it: %s", usage_of_adb);
@@ -154,6 +160,7 @@ void options_read(struct options *options, int count, char **words)
 		{ "only", required_argument, NULL, 'n' },
 		{ "redact", no_argument, NULL, 'x' }, { "no-attachments", no_argument, NULL, 'a' },
 		{ "ring", required_argument, NULL, 'r' },
+		{ "live", no_argument, NULL, 'l' }, { "methods", required_argument, NULL, 'M' },
 		{ "stacks", no_argument, NULL, 't' }, { "check", no_argument, NULL, 'c' },
 		{ "adb", no_argument, NULL, 'b' }, { "detach", no_argument, NULL, 'b' },
 		{ "fetch", no_argument, NULL, 'b' }, { "no-names", no_argument, NULL, 'b' },

@@ -15,7 +15,7 @@ struct options {
 	u32 device_count;
 	const char *called[MOST_NAMED];	/* names and users of --only */
 	u32 called_count;
-	int redact, no_attachments, stacks;
+	int redact, no_attachments, stacks, live;
 	u32 keep_most;			/* how many sets are kept at one time */
 	int keep;			/* only asks a recorder that runs already */
 	int has_out;

@@ -14,7 +14,7 @@
 
 static struct file part;
 static const char *prefix;
-static u64 most_bytes, bytes_before;
+static u64 most_bytes, bytes_before, bytes_removed;
 static u64 *sizes;		/* by number, of the closed files; at the end also of the last one; 0: no file of ours */
 static u32 count, first = 1;	/* the files from number `first` to number `count` are kept */
 static u32 made, removed;	/* how many there were, and how many are not kept */
@@ -191,6 +191,7 @@ static int remove_oldest(void)
 	int error = remove_part(first, "cap");
 	int side_error = remove_part(first, "side");
 	bytes_before -= sizes[first - 1];
+	bytes_removed += sizes[first - 1];
 	first++;
 	removed++;
 	return error ? error : side_error;
@@ -354,6 +355,11 @@ u64 parts_last(void)
 const char *parts_path(void)
 {
 	return side_failed ? side_path() : part.path;
+}
+
+u64 parts_written(void)
+{
+	return parts_bytes() + bytes_removed;
 }
 
 u64 parts_bytes(void)

@@ -47,6 +47,8 @@ const char *parts_path(void);
 /* How many frames are in the files for certain, and the number of the last one. */
 u64 parts_frames(void);
 u64 parts_last(void);
+/* How many bytes were written, also into files that are not kept. */
+u64 parts_written(void);
 /* How many bytes are in the files that are kept, how many files were made, and how many are kept. */
 u64 parts_bytes(void);
 u32 parts_count(void);

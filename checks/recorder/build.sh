@@ -25,7 +25,7 @@ program=$1 folder=$(readlink -f -- "$2")
 flags+=("${@:3}")
 
 # Only these are about the programs in the kernel, which are not built here.
-sources=("$here/kit.c" "$here/made_proc.c" "$here/played.c")
+sources=("$here/kit.c" "$here/made_proc.c" "$here/played.c" "$here/scene.c")
 for source in "$recorder"/*.c; do
   if [[ $source != *.bpf.c && $source != */kernel.c ]]; then sources+=("$source"); fi
 done

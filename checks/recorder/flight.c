@@ -2,7 +2,8 @@
  * unless GOES_ON is in the environment. It is through with its only write after that: so nearly all frames are written
  * after its books were copied. And it does more then, which is not in the recording. PLANTED in the environment names
  * files that somebody else makes meanwhile; the system sleeps meanwhile, or with SET_BACK in the environment somebody
- * sets the wall clock back. See loader. */
+ * sets the wall clock back. With SCENE there, what scene.c plays comes in place of all that, until a signal. See loader
+ * and live. */
 #define _GNU_SOURCE
 #include "drivers.h"
 #include "kernel.h"
@@ -10,6 +11,7 @@
 #include "lack.h"
 #include "names.h"
 #include "needs.h"
+#include "scene.h"
 #include <fcntl.h>
 #include <linux/android/binder.h>
 #include <signal.h>
@@ -88,6 +90,10 @@ long ring_drain(struct ring *ring, void (*hear)(const void *message, u64 bytes))
 	u64 before = last;
 	(void)ring;
 	looks++;
+	if (scene_has("")) {
+		last = is_stopped ? last : scene_play(hear, last, looks);
+		return (long)(last - before);
+	}
 	if (looks == 1)
 		plant();
 	if (looks <= 2) {
@@ -262,4 +268,6 @@ void kernel_meet_openings(void)
 	names_opening(1, now(), 0, 1000, 1, name, MET_FROM_START);
 	names_thread(DIRECTION_WRITE, 1001, 1000, 1, name);
 	names_thread(DIRECTION_READ, 1002, 1000, 1, name);
+	if (scene_has(""))
+		scene_meet();
 }

@@ -3,7 +3,8 @@
 #     sh on_device.sh record NAMES COLLECT [OPTION..] [-- PROGRAM ARGUMENT..]
 #         records, and passes on what the recorder says, first what the device lacks or that it is ready, until PROGRAM
 #         ends. Without PROGRAM it says when the recording has begun. Each line of standard input, and its end, is
-#         passed on as SIGINT. If NAMES is `services` or `all`, the managers are asked for the names of all services; if
+#         passed on as SIGINT, but for `keep`, which is SIGUSR1. With --live the recorder writes its lines of each second
+#         to the connection; a thread of its own does that. If NAMES is `services` or `all`, the managers are asked for the names of all services; if
 #         it is `all`, the packages and their user ids are asked for too, and are in capture.packages. COLLECT is who
 #         collects garbage before the recording ends: `nobody`, `apps`, or the names of processes, with commas between.
 #     sh on_device.sh detach NAMES COLLECT [OPTION..] [-- PROGRAM ARGUMENT..]
@@ -15,7 +16,8 @@
 #
 # The folder has `state`: `recording`, and then the status of the recorder, or nothing if the device is full; `pid`;
 # `collect`, who collects garbage, until that is done; and `messages`, what the recorder says, of which so many bytes as `told` has were passed on when it began. The recorder
-# does not write to the connection itself, which may stall, but for the line that it is ready, before PROGRAM begins.
+# does not write to the connection itself, which may stall, but for these lines and the one that it is ready, before
+# PROGRAM begins.
 # It uses what toybox, mksh and busybox have.
 # shellcheck shell=dash
 umask 077
@@ -126,7 +128,7 @@ end_without_folder() { # RECORDER
 
 # Runs the recorder in a session of its own, so that it and its program can be signalled as one.
 run() { # NAMES COLLECT [OPTION..] [-- PROGRAM ARGUMENT..]
-	names=$1 asker= program=
+	names=$1 asker= program= live=-
 	if [ "$2" != nobody ]; then
 		echo "$2" >collect
 		program='sh on_device.sh program'
@@ -135,11 +137,14 @@ run() { # NAMES COLLECT [OPTION..] [-- PROGRAM ARGUMENT..]
 	for word; do	# the program comes after the first --
 		shift
 		set -- "$@" "$word"
+		if [ "$word" = --live ] && [ $live = - ]; then live=4; fi
+		if [ "$word" = -- ] && [ $live = - ]; then live=none; fi
 		# shellcheck disable=SC2086
 		if [ "$word" = -- ]; then set -- "$@" $program && program=; fi
 	done
 	if [ "$names" = all ]; then ask_packages & asker=$!; fi
-	RECORD_READY=3 setsid ./record -o capture "$@" </dev/null 3>&4 2>>messages 4>&- & recorder=$!
+	if [ $live = none ]; then live=-; fi
+	RECORD_READY=3 RECORD_LIVE=5 setsid ./record -o capture "$@" </dev/null 3>&4 5>&$live 2>>messages 4>&- & recorder=$!
 	# Until setsid has become the recorder, or that has ended.
 	while [ -e /proc/$recorder/exe ] && ! [ /proc/$recorder/exe -ef record ]; do sleep 0.1; done
 	echo $recorder >pid
@@ -168,8 +173,14 @@ tell_begun() { # NAMES COLLECT [OPTION..] [-- PROGRAM ARGUMENT..]
 	fi
 }
 
+# A line is `keep`, or an interrupt.
 listen() {
-	while read -r _; do interrupt; done
+	while read -r word; do
+		case $word in
+		keep) is_recording && kill -USR1 "$(cat pid)" ;;
+		*) interrupt ;;
+		esac
+	done
 	interrupt
 }
 

@@ -15,7 +15,7 @@ import subprocess
 import sys
 import threading
 from types import FrameType
-from typing import Iterator, NamedTuple
+from typing import Callable, Iterator, NamedTuple
 
 import device
 import fetch
@@ -26,7 +26,7 @@ from connection import Connection, Lost, Nothing, Stopped, command_line, need_ad
 from folder import OLDEST, Folder, Found, Gone
 from next_command import view_command
 from show import show
-from told import pass_on, progress, tell, tell_all, write
+from told import ENDING, pass_on, progress, tell, tell_all, write
 
 LEAST_SPACE = 1 << 20  # bytes; with less, a recording begins nowhere
 MOST_NAMED = 5  # the most names of files in a line
@@ -145,23 +145,26 @@ def check(command: Command) -> None:
 def tell_ending(serial: str) -> None:
     """What is on its way is waited for, and the driver's books are copied: that takes some seconds on a busy device."""
     write(progress(""))
-    tell(f"ending the recording on {serial}")
+    tell(ENDING.format(serial))
 
 
 class Signals:
     """Until its end, SIGINT and SIGTERM are passed on to the recorder, as lines; after three it is given up."""
 
-    def __init__(self, program: subprocess.Popen[bytes], serial: str):
-        self.program, self.serial, self.count = program, serial, 0
+    def __init__(self, program: subprocess.Popen[bytes], tell_first: Callable[[], None]):
+        self.program, self.tell_first, self.count = program, tell_first, 0
         self.before = {number: signal.signal(number, self.pass_on) for number in (signal.SIGINT, signal.SIGTERM)}
 
     def pass_on(self, number: int, _: FrameType | None) -> None:
+        self.end_recording()
+
+    def end_recording(self) -> None:
         self.count += 1
         if self.count > 2:
             self.program.kill()
             return
         if self.count == 1:
-            tell_ending(self.serial)
+            self.tell_first()
         try:
             assert self.program.stdin
             self.program.stdin.write(b"\n")
@@ -176,14 +179,22 @@ class Signals:
 
 def record(command: Command) -> None:
     """Records until the recorder has ended, or the connection is lost."""
+    show = None
+    if command.words.live:
+        from live import Shown
+        show = Shown(command.words, command.serial)
     with subprocess.Popen(command.folder.words(command.on_device("record")), stdin=subprocess.PIPE,
-                          stderr=subprocess.PIPE, start_new_session=True) as program:
+                          stdout=subprocess.PIPE if show and show.is_drawn else None, stderr=subprocess.PIPE,
+                          start_new_session=True) as program:
         assert program.stderr
-        signals = Signals(program, command.serial)
-        reader = threading.Thread(target=pass_on, args=(program.stderr.fileno(), command.serial))
-        reader.start()
-        program.wait()
-        reader.join()
+        signals = Signals(program, lambda: show.say_ending() if show else tell_ending(command.serial))
+        if show:
+            show.until_end(program, signals.end_recording)
+        else:
+            reader = threading.Thread(target=pass_on, args=(program.stderr.fileno(), command.serial))
+            reader.start()
+            program.wait()
+            reader.join()
         signals.end()
     if command.folder.is_recording():
         raise Stopped(f"the connection to {command.serial} has ended")
@@ -247,7 +258,7 @@ def finish(command: Command) -> int:
     fetched = f"{len(paths)} files, {size} bytes fetched from {command.serial}"
     if command.words.view:
         tell(fetched)
-        return show(command.record, paths) or status
+        return show(command.record, paths, command.words.methods) or status
     tell(f"{fetched}; next: {view_command(command.record, paths)}")
     return status
 

@@ -15,10 +15,11 @@ def has_browser() -> bool:
     return any(os.environ.get(name) for name in ("BROWSER", "DISPLAY", "WAYLAND_DISPLAY"))
 
 
-def show(record: str, paths: list[str]) -> int:
+def show(record: str, paths: list[str], methods: list[str]) -> int:
     """Returns the status of `./view` if it made no page: with 2 it has made one of a capture that is malformed."""
     words = view_words(paths)
-    status = subprocess.run([view_beside(record), *words], stdin=subprocess.DEVNULL).returncode
+    tables = [word for table in methods for word in ("--methods", table)]
+    status = subprocess.run([view_beside(record), *words, *tables], stdin=subprocess.DEVNULL).returncode
     if status not in (0, 2):
         return status
     page = pathlib.Path(f"{words[0]}.html").absolute()

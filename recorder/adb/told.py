@@ -6,6 +6,7 @@ import sys
 from viewer import terminal
 from viewer.terminal import shown
 
+ENDING = "ending the recording on {}"
 CLEAR = "\x1b[K"  # with which the recorder ends the line that shows the progress
 OF_DEVICE = ("record: ready: ", "record: recording; ")  # lines that don't say of which device they are
 

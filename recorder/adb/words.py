@@ -28,6 +28,8 @@ class Words(NamedTuple):
     check: bool
     view: bool
     names: bool
+    live: bool
+    methods: list[str]  # tables that name them
     collect: str  # whose garbage is collected before the end: names with commas between, `apps`, or nobody's
     options: list[str]  # for the recorder on the device, with the program
 
@@ -46,37 +48,39 @@ def split_program(words: list[str]) -> tuple[list[str], list[str]]:
 
 
 class Named(NamedTuple):
-    """What names a device and the files here, and the other options."""
+    """What names a device and files here, and the other options."""
 
     serial: str | None
     out: str
+    methods: list[str]
     others: list[str]
 
 
-VALUED = (("-s", "", "the serial of a device"), ("-o", "--out", "the start of the files' names"))
+VALUED = (("-s", "", "the serial of a device"), ("-o", "--out", "the start of the files' names"),
+          ("", "--methods", "a table of methods"))
 
 
 def take_names(options: list[str]) -> Named:
-    """Takes -s and -o out, whose values may begin with a dash. Of several the last one counts."""
-    values: dict[str, str] = {}
+    """Takes -s, -o and --methods out, whose values may begin with a dash. Of several -s or -o the last one counts."""
+    values: dict[str, list[str]] = {short or long: [] for short, long, _ in VALUED}
     others, rest = [], iter(options)
     for word in rest:
         for short, long, _ in VALUED:
             if word in (short, long):
-                values[short] = next(rest, "")
+                values[short or long].append(next(rest, ""))
             elif long and word.startswith(f"{long}="):
-                values[short] = word.removeprefix(f"{long}=")
-            elif word.startswith(short):
-                values[short] = word.removeprefix(short)
+                values[short or long].append(word.removeprefix(f"{long}="))
+            elif short and word.startswith(short):
+                values[short].append(word.removeprefix(short))
             else:
                 continue
             break
         else:
             others.append(word)
-    for short, _, what in VALUED:
-        if values.get(short) == "":
-            raise Wrong(f"{short} takes {what}")
-    return Named(values.get("-s"), values.get("-o", "capture"), others)
+    for short, long, what in VALUED:
+        if "" in values[short or long]:
+            raise Wrong(f"{short or long} takes {what}")
+    return Named([None, *values["-s"]][-1], ["capture", *values["-o"]][-1], values["--methods"], others)
 
 
 def take_collect(options: list[str]) -> tuple[str, list[str]]:
@@ -106,7 +110,7 @@ def refuse_beside(own: set[str], others: list[str]) -> None:
 def read(given: list[str]) -> Words:
     first = [given.pop(0)] if given and not given[0].startswith("-") else []
     options, program = split_program(given)
-    serial, out, options = take_names(options)
+    serial, out, methods, options = take_names(options)
     named = list(dict.fromkeys([*first, *([serial] if serial else [])]))
     if len(named) > 1:
         raise Wrong(f"two devices are named: {' and '.join(named)}")
@@ -118,10 +122,15 @@ def read(given: list[str]) -> Words:
         refuse_beside(own, [*others, *program, *(["--collect"] if collect else [])])
     if "--view" in own and own & {"--detach", "--check"}:
         raise Wrong(f"--view shows what is fetched, and {min(own & {'--detach', '--check'})} fetches nothing")
+    if methods and "--view" not in own and "--live" not in others:
+        raise Wrong("--methods goes with --live or --view")
+    if "--live" in others and own & {"--detach", "--check"}:
+        raise Wrong(f"--live shows what is recorded meanwhile, and {min(own & {'--detach', '--check'})} does not wait")
     if "--detach" in own:
         others = kept_few(others)
     return Words(named[0] if named else None, out, "--detach" in own, "--fetch" in own, "--keep" in own,
-                 "--check" in own, "--view" in own, "--no-names" not in own, collect, others + program)
+                 "--check" in own, "--view" in own, "--no-names" not in own, "--live" in others, methods, collect,
+                 others + program)
 
 
 def refuse_files(asked: Words) -> None:

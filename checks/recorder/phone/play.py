@@ -339,7 +339,8 @@ def detached(stage: Stage) -> None:
     after = stage.shell(f"cat {FOLDER}/capture-*.side | grep -c ' frames '").said
     stage.must(f"it does not go on: {before} and {after}", before != after)
     came = stage.record(stage.serials[0], "--fetch", "-o", "flight")
-    stage.line(came, 0, r"record: \d+ frames, 0 lost; .*", r"record: \d+ files, .*; next: \S+view flight-\d+\.cap .*")
+    stage.line(came, 0, ENDING, r"record: \d+ frames, 0 lost; .*", FETCHING,
+               r"record: \d+ files, .*; next: \S+view flight-\d+\.cap .*")
     command = came.said.rpartition("next: ")[2].split()
     said = subprocess.run([*command, "--groups"], cwd=stage.given.out, capture_output=True, encoding="utf-8")
     stage.must(f"the command that is next: {said.stderr}", said.returncode == 0 and "never freed" in said.stdout)
@@ -391,8 +392,8 @@ def fetched_wrong(stage: Stage) -> None:
     (stage.given.out / "wrong-1.cap").touch()
     stage.line(stage.record(stage.serials[0], "--fetch", "-o", "wrong"), 1,
                "record: wrong-1.cap exists already, and is not overwritten")
-    stage.line(stage.record(stage.serials[0], "--fetch", "-o", "right"), 0, r"record: \d+ frames, 0 lost; .*",
-               r"record: \d+ files, .*")
+    stage.line(stage.record(stage.serials[0], "--fetch", "-o", "right"), 0, ENDING, r"record: \d+ frames, 0 lost; .*",
+               FETCHING, r"record: \d+ files, .*")
     stage.nothing_left()
 
 
