@@ -44,6 +44,7 @@
 #define LONGEST_PAUSE (16u * MILLISECOND)
 #define RING_OF_LONGEST_PAUSE (64u << 20)	/* some 4 GB a second would fill such a ring meanwhile */
 #define FEW_MESSAGES 256
+#define LONGEST_PATH 4200
 #define ROOM_FOR_LINES 16384		/* bytes */
 #define LAST_WAIT (1000u * MILLISECOND)		/* for frames that are not whole when the recording ends */
 
@@ -256,11 +257,9 @@ static void tell_end(const char *audit)
 
 /* The auditor and the viewer are in the folder of the script that was called. In a package all names begin with
  * `binder-`. */
-static char *beside(const char *self, const char *name)
+static const char *beside(const char *self, const char *name, char *path, size_t room)
 {
 	const char *slash = strrchr(self, '/'), *own = slash ? slash + 1 : self;
-	size_t room = strlen(self) + strlen(name) + 8;
-	char *path = allocate(room);
 	snprintf(path, room, "%.*s%s%s", (int)(own - self), self, strcmp(own, "binder-record") ? "" : "binder-", name);
 	return path;
 }
@@ -328,13 +327,14 @@ static void load(const struct options *options, struct ring *ring)
 /* Begins the recording, and then the program. */
 static void begin(const struct options *options, const char *self, FILE *for_ready)
 {
+	static char view[LONGEST_PATH];
 	redact_begin(options->redact);
 	if (options->redact)
 		command_redact();
 	if (options->stacks)
 		stacks_begin();
 	if (options->files)
-		keep_begin(options, beside(self, "view"));
+		keep_begin(options, beside(self, "view", view, sizeof view));
 	triggers_begin(options);
 	live_begin(options);
 	keep_room_for_lines();
@@ -360,6 +360,7 @@ static void begin(const struct options *options, const char *self, FILE *for_rea
 
 int main(int count, char **words)
 {
+	static char audit[LONGEST_PATH];
 	struct options options;
 	struct ring ring;
 	options_read(&options, count, words);
@@ -392,7 +393,7 @@ int main(int count, char **words)
 	if (error)
 		complain("%s: %s; the recording ends after number %llu", parts_path(), strerror(error),
 			 (unsigned long long)parts_last());
-	tell_end(beside(words[0], "audit"));
+	tell_end(beside(words[0], "audit", audit, sizeof audit));
 	int status = wait_for_program();
 	kernel_unload();
 	return error ? 1 : status;

@@ -9,6 +9,7 @@
 #include "kit.h"
 #include "met.h"
 #include "names.h"
+#include "open_calls.h"
 #include "parts.h"
 #include "played.h"
 #include "redact.h"
@@ -502,6 +503,7 @@ static void begin(const char *out, u32 files)
 	stacks_begin();
 	if (files) {
 		met_keep(SIZE);
+		open_calls_begin();
 		window_bound_refused();
 		may_be_refused = any_lies;
 	}
