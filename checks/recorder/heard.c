@@ -1,7 +1,9 @@
-/* heard OUT BYTES CALLS [followed]: gives the recorder's loader the messages of so many calls, each with BYTES of data and 4 bytes
- * of answer, as cost/calls.c makes them. See heard. */
+/* heard OUT BYTES CALLS [followed|live]: gives the recorder's loader the messages of so many calls, each with BYTES of
+ * data, which begins with the token of an interface, and 4 bytes of answer, as cost/calls.c makes them. With `followed`
+ * it follows which calls are open, as triggers have it do, and with `live` it counts what --live shows. See heard. */
 #include "frame.h"
 #include "kit.h"
+#include "live.h"
 #include "names.h"
 #include "open_calls.h"
 #include "parts.h"
@@ -12,7 +14,10 @@
 #include <stdlib.h>
 #include <string.h>
 
-enum { CLIENT = 1, SERVICE, PROCESS = 100, MOST_DATA = 1 << 16, ANSWER = 4, RECORD = 4 + sizeof(struct binder_transaction_data) };
+enum {
+	CLIENT = 1, SERVICE, PROCESS = 100, MOST_DATA = 1 << 16, ANSWER = 4,
+	RECORD = 4 + sizeof(struct binder_transaction_data)
+};
 #define MOST_BEHIND 16383u		/* bytes of data in the message of a small frame: small.bpf.h */
 #define CALLS_AT_ONCE 16		/* of which the messages are in the ring together */
 #define RING_BYTES (64u << 20)		/* as by default */
@@ -25,10 +30,21 @@ static union {
 } message;
 static u8 *end;				/* of the commands in `message` */
 
-/* Puts a message into the ring, with so many bytes of data behind it, whatever they are. */
+static u8 token[MOST_DATA];		/* data that begins with one */
+
+static void begin_token(void)
+{
+	static const char interface[] = "android.hardware.camera.ICamera";
+	u32 head[] = { 0, 0, 0x53595354, sizeof interface - 1 };
+	memcpy(token, head, sizeof head);
+	for (u32 i = 0; i < sizeof interface - 1; i++)
+		token[sizeof head + 2 * i] = (u8)interface[i];
+}
+
+/* Puts a message into the ring, with so many bytes of data behind it. */
 static void tell(const void *message, u64 bytes, u64 data)
 {
-	made_ring_put(&ring, message, bytes, NULL, data);
+	made_ring_put(&ring, message, bytes, token, data);
 }
 
 static void command(u32 word, const void *payload, u32 bytes)
@@ -137,9 +153,11 @@ static void hear_calls(u32 bytes, long calls)
 int main(int count, char **words)
 {
 	if (count < 4 || strtoul(words[2], NULL, 10) > MOST_DATA)
-		fail("heard OUT BYTES CALLS [followed]");
-	if (count > 4)
+		fail("heard OUT BYTES CALLS [followed|live]");
+	begin_token();
+	if (count > 4 && !strcmp(words[4], "followed"))
 		open_calls_begin();
+	live_begin(&(struct options){ .live = count > 4 && !strcmp(words[4], "live") });
 	u32 bytes = (u32)strtoul(words[2], NULL, 10);
 	made_ring_begin(&ring, RING_BYTES);
 	redact_begin(0);

@@ -6,9 +6,10 @@ It builds the parts of the recorder that need no kernel, as `recorder/build.sh` 
 messages of calls in a ring (heard.c): a call is two writes and two reads of its client and its service, and a write
 and a read that free the buffer and wait. valgrind counts the instructions with which the loader takes these. What the
 loader takes of the kernel, and what else it does each time it looks into the ring, is not in it; `checks/run cost`
-counts that too, in a guest. The same is counted when a trigger has it follow which calls are open.
+counts that too, in a guest. The same is counted when a trigger has it follow which calls are open, and when it counts
+for --live what goes on, but not the lines that it then writes each second.
 
-A ceiling is some 3 percent above what was counted, on x86-64 with the C library of Debian 12. So a call of malloc or of
+The data of a call begins with the token of an interface. A ceiling is some 3 percent above what was counted, on x86-64 with the C library of Debian 12. So a call of malloc or of
 printf for each message is seen, and any copy of 65,536 bytes. With --table a table is printed.
 """
 
@@ -22,8 +23,9 @@ from checks.kit.programs import CHECKS
 
 # How many instructions a call may take, by the bytes of its data.
 CEILINGS = {128: 10_800, 65_536: 11_900}
-# The same while it follows which calls are open.
-FOLLOWED = {128: 13_500}
+# The same while it follows which calls are open; and with --live.
+FOLLOWED = {128: 15_300}
+LIVE = {128: 16_100, 65_536: 17_400}
 CALLS = 400
 
 
@@ -41,7 +43,7 @@ def judge(given: argparse.Namespace, room: pathlib.Path, fail: Fail) -> None:
     subprocess.run([CHECKS / "recorder/build.sh", "heard", room, "-O2"], check=True)
     if given.table:
         row("data, bytes", "instructions for a call", "ceiling")
-    for ceilings, words in (CEILINGS, ()), (FOLLOWED, ("followed",)):
+    for ceilings, words in (CEILINGS, ()), (FOLLOWED, ("followed",)), (LIVE, ("live",)):
         for size, ceiling in ceilings.items():
             each = counted(room / "heard", size, room, *words)
             if given.table:

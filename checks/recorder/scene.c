@@ -45,7 +45,7 @@ static void meet(u32 number, u32 process, const char *name, const char *line, u3
 {
 	char its_name[NAME_BYTES] = { 0 };
 	struct command command = { .head = head_of(MESSAGE_COMMAND, 0, 0, 0), .user = 10123, .bytes = bytes };
-	strncpy(its_name, name, NAME_BYTES - 1);
+	memcpy(its_name, name, strnlen(name, NAME_BYTES - 1));
 	names_opening(number, now(), 0, process, 1, its_name, MET_FROM_START);
 	command.head.opening = number;
 	memcpy(command.text, line, bytes < COMMAND_BYTES ? bytes : COMMAND_BYTES);
@@ -56,7 +56,7 @@ static void meet(u32 number, u32 process, const char *name, const char *line, u3
 static void meet_thread(u32 number, u32 id, u32 process, const char *name)
 {
 	char its_name[NAME_BYTES] = { 0 };
-	strncpy(its_name, name, NAME_BYTES - 1);
+	memcpy(its_name, name, strnlen(name, NAME_BYTES - 1));
 	names_thread(number, id, process, 1, its_name);
 }
 

@@ -311,7 +311,7 @@ def keep_recording(command: Command) -> int:
     if not sets:
         raise Nothing(f"nothing was kept on {command.serial}, which still records")
     tell(f"{command.serial} still records; to end that, and fetch it: {command.to_fetch}")
-    return (show(command.record, sets[-1]) if command.words.view else 0) or answer.status
+    return (show(command.record, sets[-1], command.words.methods) if command.words.view else 0) or answer.status
 
 
 # ---- failures
