@@ -4,6 +4,7 @@ devices differ."""
 import json
 import pathlib
 import random
+import re
 from collections import Counter
 from collections.abc import Iterator
 from contextlib import closing
@@ -13,10 +14,12 @@ from xml.etree import ElementTree
 from checks.kit.checking import Fail, compare
 from checks.lab.models import capture, finding, lab_of
 from lab import reports
-from lab.compare import Comparison
+from lab.compare import Comparison, Enough
 from lab.doubts import doubts
 from lab.fail_on import fail_on
 from lab.known_until import Known
+from lab.page import page
+from lab.renamed import Renamed
 
 # The methods of five servers. One of them is planted.
 SERVERS, CODES, SLOW = 5, 12, ("server1 on binder", "IServer1 code 3")
@@ -129,4 +132,17 @@ def check_slower_fails(_: pathlib.Path, __: pathlib.Path, fail: Fail) -> None:
         compare("slower, and known", (both.failed(fail_on(["slower"])), [*both.unseen_lines()]), ([], []), fail)
 
 
-SLOWER = check_slower, check_as_slow, check_all_slower, check_slower_fails
+def check_series(_: pathlib.Path, __: pathlib.Path, fail: Fail) -> None:
+    """The page of a lab has the times of such a method by build, and what became of it in each."""
+    given = [one for build, factor in (("b1", 1.0), ("b2", 1.0), ("b3", 2.6), ("b4", 2.6), ("b5", 1.0))
+             for one in results(ALIKE, "series", build, 20, factor)]
+    with closing(lab_of(given)) as lab:
+        text = "".join(page.document(lab, "LAB.db", Enough(), {}, Renamed({})))
+    tab = text.partition('id="times-head"')[2].partition("</section>")[0]
+    series = re.search(r"(b1 [^<]*)</span><td>([^<]*)", tab)
+    came = [re.sub("[0-9.]+ ms", "", one).replace(" ", "") for one in series.groups()] if series else []
+    compare("the page: methods, times by build, states", (tab.count("<tr id="), came), (
+        1, ["b1,b2,b3slower,b4,b5faster", "fasterinb5,slowerinb3"]), fail)
+
+
+SLOWER = check_slower, check_as_slow, check_all_slower, check_slower_fails, check_series

@@ -8,12 +8,13 @@ from typing import NamedTuple
 
 from lab import chance
 from lab.commands import Commands, commands_of
-from lab.compare import BACK, SHOWN, TOLD, Comparison, Enough
+from lab.compare import BACK, SHOWN, TIMED, TOLD, Comparison, Enough
 from lab.doubts import doubts
 from lab.first_seen import FIRST
 from lab.known_until import Known
 from lab.order import wrong_clocks
 from lab.page.builds import Build, builds_of, captures_of
+from lab.page.methods import series_of
 from lab.renamed import Renamed, Text
 from viewer.defects.changes import GONE, GROWN, NEW, WORSE
 from viewer.files import Stopped
@@ -179,6 +180,7 @@ class Lab:
         self.rows = {build: {row.key: row for row in compared.rows} for build, compared in self.compared.items()}
         self.clocks = list(wrong_clocks(lab, [build.name for build in self.builds]))
         self.defects = [self.defect(*one) for one in self.found(lab).items()]
+        self.methods = series_of(self.builds, self.captures, self.compared)
 
     def recorded_of(self) -> dict[str, chance.Recorded]:
         """How long the captures of each build are; without times of all of them no rate is told."""
@@ -249,8 +251,9 @@ class Lab:
                       known, [self.named(one) for one in newest[:NAMED]], self.commands(newest[0]))
 
     def counts(self) -> dict[str, int]:
-        """How many defects became what in the last build."""
-        return {what: sum(defect.last.what == what for defect in self.defects) for what in TOLD}
+        """How many defects and methods became what in the last build."""
+        return {**{what: sum(defect.last.what == what for defect in self.defects) for what in TOLD},
+                **{what: sum(series.last.what == what for series in self.methods) for what in TIMED}}
 
     def changed(self) -> list[Defect]:
         """What changed in the last build, what is worst first."""

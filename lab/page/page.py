@@ -11,7 +11,7 @@ from collections.abc import Iterator
 
 from lab import chance
 from lab.commands import folder_of
-from lab.compare import Enough
+from lab.compare import Enough, milliseconds
 from lab.known_until import Known
 from lab.page.builds import REFUSED
 from lab.page.defects import BEFORE, NAMED, Lab, picture_of
@@ -42,8 +42,12 @@ def small(p: float | None) -> str | None:
     return None if p is None else f"{p:.2g}"
 
 
+def in_milliseconds(ns: float | None) -> str | None:
+    return None if ns is None else milliseconds(ns)
+
+
 FILTERS = {**of_capture.FILTERS, "of_hundred": of_hundred, "interval": interval, "small": small, "picture": picture_of,
-           "builds_with": builds_with}
+           "builds_with": builds_with, "milliseconds": in_milliseconds}
 
 
 def document(lab: sqlite3.Connection, path: str, enough: Enough, known: dict[str, Known], renamed: Renamed
