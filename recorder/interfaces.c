@@ -59,6 +59,47 @@ static u32 number_of(const u8 *name, u64 bytes, u64 step)
 	return (u32)(*number = ++count);
 }
 
+/* ---- tokens that came lately: most calls have one of few */
+
+/* What follows the two numbers that may differ from call to call. */
+#define HEAD 8u
+#define NAME 16u			/* where the name begins, since Android 11 */
+static struct lately {
+	u32 bytes, number;		/* of the whole token; 0: none */
+	u8 rest[2 * 128];
+} lately[64];
+
+/* The place of data that begins with a token, by the end of its name, in which alike ones differ; NULL if it has none. */
+static struct lately *lately_of(const u8 *data, u64 bytes)
+{
+	u64 end = bytes > NAME ? NAME + 2 * (u64)load_u32(data + NAME - 4) : 0, last;
+	if (end < NAME + sizeof last || end > bytes)
+		return NULL;
+	memcpy(&last, data + end - sizeof last, sizeof last);
+	return lately + (last * 0x9e3779b97f4a7c15u >> 58);
+}
+
+static void keep_lately(struct lately *l, const u8 *token, u64 bytes, u32 number)
+{
+	if (bytes - HEAD > sizeof l->rest)
+		return;
+	l->bytes = (u32)bytes;
+	l->number = number;
+	memcpy(l->rest, token + HEAD, bytes - HEAD);
+}
+
+static u32 number_in(const u8 *data, u64 count)
+{
+	struct lately *l = lately_of(data, count);
+	if (l && l->bytes && l->bytes <= count && !memcmp(data + HEAD, l->rest, l->bytes - HEAD))
+		return l->number;
+	u64 step, bytes = token_bytes(data, count), begin = bytes ? name_begin(data, bytes, &step) : 0;
+	u32 number = bytes ? number_of(data + begin, bytes - begin, step) : 0;
+	if (l && number && begin == NAME)
+		keep_lately(l, data, bytes, number);
+	return number;
+}
+
 u32 interface_of(const struct frame *frame, u32 record)
 {
 	u8 data[TOKEN_ROOM];
@@ -67,11 +108,11 @@ u32 interface_of(const struct frame *frame, u32 record)
 		entry = entry->next;
 	if (!entry || entry->record != record || entry->got != (u64)entry->data + entry->offsets)
 		return 0;
-	u64 bytes = entry->data < sizeof data ? entry->data : sizeof data, step;
+	u64 bytes = entry->data < sizeof data ? entry->data : sizeof data;
+	if (entry->bytes)
+		return number_in(entry->bytes, bytes);
 	entry_read(entry, 0, data, bytes);
-	bytes = token_bytes(data, bytes);
-	u64 begin = bytes ? name_begin(data, bytes, &step) : 0;
-	return bytes ? number_of(data + begin, bytes - begin, step) : 0;
+	return number_in(data, bytes);
 }
 
 const char *interface_name(u32 interface)

@@ -7,15 +7,16 @@
 #define _GNU_SOURCE
 #include "frame.h"
 #include "kit.h"
+#include "live.h"
 #include "met.h"
 #include "names.h"
-#include "open_calls.h"
 #include "parts.h"
 #include "played.h"
 #include "redact.h"
 #include "side.h"
 #include "stacks.h"
 #include "window.h"
+#include <fcntl.h>
 #include <linux/android/binder.h>
 #include <sanitizer/asan_interface.h>
 #include <stdlib.h>
@@ -100,6 +101,7 @@ static void look(void)
 	names_look();
 	while (window_settle())
 		continue;
+	live_look();
 	u64 memory = __sanitizer_get_current_allocated_bytes();
 	most_memory = memory > most_memory ? memory : most_memory;
 }
@@ -491,6 +493,15 @@ int __wrap_clock_gettime(clockid_t clock, struct timespec *time)
 	return 0;
 }
 
+/* What --live counts is told to nobody. */
+static void begin_live(void)
+{
+	char descriptor[16];
+	snprintf(descriptor, sizeof descriptor, "%d", open("/dev/null", O_WRONLY));
+	setenv("RECORD_LIVE", descriptor, 1);
+	live_begin(&(struct options){ .live = 1 });
+}
+
 static void begin(const char *out, u32 files)
 {
 	if (parts_begin(out, SIZE, files))
@@ -503,7 +514,7 @@ static void begin(const char *out, u32 files)
 	stacks_begin();
 	if (files) {
 		met_keep(SIZE);
-		open_calls_begin();
+		begin_live();
 		window_bound_refused();
 		may_be_refused = any_lies;
 	}
