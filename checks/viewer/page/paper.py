@@ -18,9 +18,9 @@ TEXTS = """[...document.querySelectorAll('h1, h2, h3, header > p, .counts > div,
     : [(one.tagName === 'TH' && one.querySelector('button') || one).textContent])
   .map(text => text.replace(/\\s+/g, '')).filter(Boolean)"""
 
-# Signs that are not compared: the one that the style writes before what is proved, and the hyphen, which pdftotext
-# leaves out where a line ends in one.
-SIGNS = re.compile("[\N{CHECK MARK}-]")
+# Signs that are not compared: those that the style writes, before what is proved and before what a colour means, and
+# the hyphen, which pdftotext leaves out where a line ends in one.
+SIGNS = re.compile("[\N{CHECK MARK}\N{BLACK SQUARE}-]")
 
 # In inches.
 PAPERS = {"A4": (8.27, 11.69), "Letter, on its side": (11, 8.5)}
