@@ -1,5 +1,5 @@
-"""Checks that a page of a part of a system says nothing that the page of the whole one contradicts. Each small session of
-sessions/*cases.py, and each stored capture, is narrowed to each of its processes, and to each of its devices, as
+"""Checks that a page of a part of a system says nothing that the page of the whole one contradicts. Each small session
+of sessions/*cases.py, and each stored capture, is narrowed to each of its processes, and to each of its devices, as
 `./record` would have recorded it.
 
     checks/run narrowed                  narrows some of them, by a seed that it prints

@@ -3,8 +3,8 @@
 -- needs: database/schema.sql: book, book_opening, capture, finding, raw_call, raw_capture, raw_delivery, raw_frame,
 --   raw_process, raw_record, raw_thread, side_lost, side_time; database/views.sql: process, thread; late.sql: late
 -- after: counts.sql
--- makes: temporary tables: last, process_life, begun, life, written, usual, old, ended, leaving, recorded; indexes:
---   life_of_process, begun_process, life_of_thread, old_finding, ended_finding, leaving_finding, recorded_of
+-- makes: temporary tables: last, process_life, begun, life, written, usual, old, ended, left_pool, leaving, recorded;
+--   indexes: life_of_process, begun_process, life_of_thread, old_finding, ended_finding, leaving_finding, recorded_of
 
 -- ---- how long: to the end of its thread, its process or the capture
 
@@ -100,13 +100,22 @@ SELECT f.id FROM finding f JOIN life l USING (utid)
   JOIN process_life p ON p.upid = iif(section = 'oneway', f.target, f.upid)
 WHERE iif(section = 'oneway', p.ended_after, l.ended_after) IS NOT NULL AND f.id NOT IN (SELECT id FROM old);
 CREATE UNIQUE INDEX temp.ended_finding ON ended(id);
+-- When a thread of a process said last that it is no looper any more, as libraries do when the process is about to end.
+-- beside: records.sql
+CREATE TEMP TABLE left_pool AS
+SELECT t.upid, max(r.place) AS place
+FROM (SELECT 1 FROM finding WHERE section = 'clears' LIMIT 1) CROSS JOIN raw_record r JOIN raw_thread t USING (utid)
+WHERE r.kind = :BC_EXIT_LOOPER GROUP BY 1;
 -- What a process leaves undone within :LONG of its end: the driver drops all that is for a process with it, and what a
--- thread had still to read of clears and nodes with the thread.
+-- thread had still to read of clears and nodes with the thread. One whose loopers leave its pool after a clear reads
+-- no more of it, and may take longer to end.
 CREATE TEMP TABLE leaving AS
 SELECT f.id FROM finding f JOIN process_life p USING (upid) LEFT JOIN life l USING (utid)
 WHERE f.section IN ('buffers', 'deaths', 'freezes', 'freeze_clears') AND p.ended_after NOTNULL AND f.age <= :LONG
   OR f.section IN ('nodes', 'clears') AND l.ended_after NOTNULL
-    AND l.ended - (SELECT ts FROM side_time x WHERE x.seq = f.seq) <= :LONG;
+    AND l.ended - (SELECT ts FROM side_time x WHERE x.seq = f.seq) <= :LONG
+  OR f.section = 'clears' AND p.ended_after NOTNULL AND f.age <= :VERY_LONG
+    AND f.place < (SELECT place FROM left_pool o WHERE o.upid = f.upid);
 CREATE UNIQUE INDEX temp.leaving_finding ON leaving(id);
 
 -- ---- when each process was at work

@@ -17,6 +17,7 @@
 
 -- B1 maybe: Open throughout, by the driver's books of beginning and end: a long poll, or it hangs.
 --   next: whether the call waits for an event; else what the server's thread does, by its stack
+--   of a part: what its process or its server does is not recorded
 --   met by: `open_throughout()`
 -- C1 maybe: The server replied over {LONG} before the calling thread ended, and the thread never read the reply.
 --   next: why the caller's thread went on without reading, and ended

@@ -16,6 +16,10 @@ WHERE n.processes AND f.section IN ('served', 'buffers') AND d.send IS NULL;
 INSERT INTO unrecorded
 SELECT f.id FROM narrowed n CROSS JOIN finding f JOIN raw_send s USING (place)
 WHERE n.processes AND f.section = 'services' AND s.delivery IS NULL;
+INSERT INTO unrecorded
+SELECT f.id FROM narrowed n CROSS JOIN finding f
+WHERE n.processes AND f.section = 'books'
+  AND (f.upid NOT IN (SELECT upid FROM raw_process) OR f.target NOT IN (SELECT upid FROM raw_process));
 CREATE UNIQUE INDEX temp.unrecorded_id ON unrecorded(id);
 
 -- Which thread has a call, by the driver's book of the end: if the thread that made the call has one of its code there.

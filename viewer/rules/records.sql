@@ -1,7 +1,7 @@
 -- The findings that no row of the report has, and what the record of each finding says of it: its thread, its call, and
 -- which node its handle leads to.
--- needs: database/schema.sql: book_open, finding, raw_call, raw_delivery, raw_generation, raw_record, raw_send,
---   raw_thread, report; database/views.sql: delivery, status; nodes.sql: node_of
+-- needs: database/schema.sql: book_open, capture, finding, raw_call, raw_delivery, raw_generation, raw_process,
+--   raw_record, raw_send, raw_thread, report; database/views.sql: delivery, status; nodes.sql: node_of
 -- after: freeze_facts.sql
 -- makes: temporary tables: to_frozen, from_before, dead_record, told_death, asked, replied; indexes: call_of_thread,
 --   to_frozen_place, dead_cookie, dead_handle, told_generation, asked_node, replied_by
@@ -12,12 +12,15 @@ CREATE INDEX call_of_thread ON raw_call(utid, place);
 
 -- ---- findings that are not rows of the report
 
--- Oneway sends that the driver took and that were never seen to come; and those that it suspects as spam.
+-- Oneway sends that the driver took and that were never seen to come, but not to a process that was not recorded; and
+-- those that it suspects as spam.
 -- beside: nodes.sql
 INSERT INTO finding(section, what, place, upid)
 SELECT 'oneway', 'undelivered', s.place, t.upid
 FROM raw_send s JOIN raw_record r USING (place) JOIN raw_thread t ON t.utid = s.utid
-WHERE s.delivery IS NULL AND s.refused IS NULL AND s.generation IN (SELECT generation FROM node_of)
+WHERE s.delivery IS NULL AND s.refused IS NULL AND s.generation IN (SELECT generation FROM node_of
+    WHERE upid IN (SELECT upid FROM raw_process)
+      OR NOT EXISTS (SELECT 1 FROM capture WHERE key = 'narrowed_processes' AND value = 1))
   AND r.flags & :TF_ONE_WAY;
 
 INSERT INTO finding(section, what, place, upid)

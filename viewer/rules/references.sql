@@ -1,11 +1,13 @@
 -- H3 to H12, H14 to H17, T, U: references to handles and nodes that are held, and those that are balanced.
--- needs: database/schema.sql: finding, raw_generation, raw_record, raw_send, raw_thread, side_time; nodes.sql: manager,
---   node_of, who; records.sql: dead_record, told_death; paths.sql: given, given_way, thing_path; ages.sql: ended, last,
---   leaving, process_life, recorded; handles.sql: handle_row; rule.sql: lossy; ways.sql: collector, earlier,
---   kept_handle, kept_way, let_go, of_way, outlived; waits.sql: waits
+-- needs: database/schema.sql: finding, raw_generation, raw_object, raw_record, raw_send, raw_thread, side_time;
+--   nodes.sql: manager, node_of, who; records.sql: asked, dead_record, told_death; paths.sql: given, given_way,
+--   thing_path; ages.sql: ended, last, leaving, process_life, recorded; handles.sql: handle_row; rule.sql: lossy;
+--   ways.sql: collector, earlier, kept_handle, kept_way, let_go, of_way, outlived; waits.sql: waits; judging.py:
+--   call_name
 -- makes: temporary tables: mourned, dead_way, outlives, let_go_later, told_by_reply, reference_level, most_held,
 --   more_references, each_again, nearly_all, growing, by_design, overdue, unused, outliving, not_collected,
---   kept_elsewhere, weakly_kept; temporary views: held_change; indexes: most_held_of, more_references_of, by_design_of
+--   kept_elsewhere, used_of_way, weakly_kept, handed_over; temporary views: held_change; indexes: most_held_of,
+--   more_references_of, by_design_of
 
 -- ---- what findings are called
 
@@ -90,6 +92,12 @@
 --   rests on: TOO_MANY, VERY_LONG, OLD
 --   met by: `holds_the_dead()`: a client keeps ten objects of a process that ended, and calls nine
 --   fault: references to ended processes
+--   where frames are missing: M1
+-- H18 real: {OFTEN} or more, and nearly all of its process, are not acknowledged while their threads went on.
+--   next: the threads that read: each has to answer BR_INCREFS and BR_ACQUIRE
+--   rests on: OFTEN, NEARLY_ALL
+--   met by: `nodes_not_acknowledged()`: a process acknowledges none of three objects
+--   fault: references never acknowledged
 --   where frames are missing: M1
 
 -- ---- what they say of which finding
@@ -348,18 +356,42 @@ UPDATE finding SET
 FROM kept_handle k JOIN given g USING (generation) LEFT JOIN growing w ON w.way = k.way
   LEFT JOIN kept_elsewhere e ON g.reply AND e.way = k.way LEFT JOIN not_collected c ON c.way = k.way
 WHERE rule IN ('H5', 'H8', 'H9', 'H10', 'H14') AND k.generation = finding.generation;
+-- What is kept like a leak, but of which some is in use, may be a cache that still fills.
+CREATE TEMP TABLE used_of_way AS
+SELECT k.way, sum(k.in_use) AS n, count(*) AS kept FROM kept_handle k
+WHERE k.way IN (SELECT k.way FROM kept_handle k JOIN finding f USING (generation) WHERE f.rule IN ('H5', 'H9'))
+GROUP BY 1 HAVING sum(k.in_use) > 0;
+UPDATE finding SET note = coalesce(note || '; ', '') || u.n || ' of ' || u.kept || ' that are kept are in use'
+FROM kept_handle k JOIN used_of_way u USING (way)
+WHERE rule IN ('H5', 'H9') AND k.generation = finding.generation;
 -- A death recipient of libbinder keeps its object weakly, until it is unlinked.
 CREATE TEMP TABLE weakly_kept AS
-SELECT f.id FROM finding f JOIN raw_generation g ON g.id = f.generation
-WHERE f.rule IN ('H4', 'H5', 'H8', 'H9', 'H10', 'H11', 'H14', 'H15') AND g.strong = 0 AND g.weak > 0
-  AND EXISTS (SELECT 1 FROM finding q WHERE q.section = 'requests' AND q.generation = g.id);
-UPDATE finding SET note = coalesce(note || '; ', '') || 'held weakly, with a request for its death'
-WHERE id IN (SELECT id FROM weakly_kept);
+SELECT f.id, EXISTS (SELECT 1 FROM finding q WHERE q.section = 'requests' AND q.generation = g.id) AS is_watched
+FROM finding f JOIN raw_generation g ON g.id = f.generation
+WHERE f.section = 'handles' AND f.what = 'held' AND f.rule NOTNULL AND g.strong = 0 AND g.weak > 0;
+UPDATE finding SET
+  note = coalesce(note || '; ', '') || 'held weakly' || iif(k.is_watched, ', with a request for its death', '')
+FROM weakly_kept k WHERE k.id = finding.id;
 UPDATE finding SET rule = CASE WHEN later = 0 AND finding.id IN (SELECT id FROM ended)
     OR finding.id IN (SELECT id FROM leaving) THEN 'T1'
   WHEN finding.upid IN (SELECT upid FROM lossy) THEN 'M1' WHEN later > 1 THEN 'U4' ELSE 'U6' END
 FROM handle_row h
 WHERE rule IS NULL AND section = 'nodes' AND h.id = finding.id AND h.more;
+-- A process that acknowledges hardly any of its objects; and with which calls it handed them over first.
+UPDATE finding SET rule = 'H18'
+FROM (SELECT f.upid FROM finding f WHERE f.rule = 'U4' AND f.section = 'nodes' GROUP BY 1
+  HAVING count(*) >= :OFTEN AND count(*) >= :NEARLY_ALL * (SELECT count(*) FROM asked a WHERE a.upid = f.upid)) p
+WHERE rule = 'U4' AND section = 'nodes' AND p.upid = finding.upid;
+CREATE TEMP TABLE handed_over AS
+SELECT f.id, min(r.place) AS place
+FROM finding f JOIN raw_object o ON o.binder = f.ptr JOIN raw_record r ON r.place = o.place
+  JOIN raw_thread t ON t.utid = r.utid
+WHERE f.rule = 'H18' AND t.upid = f.upid AND r.kind IN (:BC_TRANSACTION, :BC_TRANSACTION_SG) GROUP BY 1;
+UPDATE finding SET note = 'handed over with '
+  || call_name(r.code, coalesce(n.upid, -finding.upid), coalesce(n.ptr, r.handle))
+FROM handed_over h JOIN raw_record r ON r.place = h.place JOIN raw_send s ON s.place = h.place
+  LEFT JOIN node_of n ON n.generation = s.generation
+WHERE h.id = finding.id;
 -- What was let go is not in use, unless buffers hold it. Handles in use are one group with those that came the same
 -- way.
 UPDATE finding SET rule = 'H7' FROM handle_row h

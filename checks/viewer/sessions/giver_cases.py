@@ -12,8 +12,8 @@ def takes_back(giver, holder, handles):
 
 
 @case("H13:12", "given by calls of code 4 from client 200 (held by server 300; 6 held at half of its time, 12 at the"
-      " end; of those from others it keeps 0 of 4 from other 400)", "H13 by client 200: 12",
-      "real references kept: 12 of 12 given by calls of code 4 from client 200 H13")
+      " end; 12 of 12 that are kept are in use; of those from others it keeps 0 of 4 from other 400)",
+      "H13 by client 200: 12", "real references kept: 12 of 12 given by calls of code 4 from client 200 H13")
 @case("H13:10", gains=(3, 3, 2, 2))
 @case("H5:9", "of those from others it keeps 0 of 4 from other 400", gains=(3, 2, 2, 2))
 @case("H13:12", gains=(3, 3, 3, 3), back=3)

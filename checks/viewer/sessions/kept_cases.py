@@ -48,9 +48,9 @@ def sessions_kept(s, kept, let_go, others=0):
 
 
 @case("H5:4", "H5 (held weakly, with a request for its death)")
-@case("H5:4", "4 of 4 given by replies to code 5 of server 300 node 0x9000 H5 ()", asks=False)
+@case("H5:4", "4 of 4 given by replies to code 5 of server 300 node 0x9000 H5 (held weakly)", asks=False)
 @case("H5:4", "4 of 4 given by replies to code 5 of server 300 node 0x9000 H5 ()", weakly=False)
-@case("H5:4 D1:4", "4 of 4 given by replies to code 5 of server 300 node 0x9000 H5 ()", again=True)
+@case("H5:4 D1:4", "4 of 4 given by replies to code 5 of server 300 node 0x9000 H5 (held weakly)", again=True)
 @case("H10:12", "(6 held at half of its time, 12 at the end; held weakly, with a request for its death)", count=12)
 @case("H4:1", "(2 times, weakly, and let go of 0 times; handle 2, server 300 node 0x200; held weakly, with a request"
       " for its death)", count=1, twice=True)
@@ -193,7 +193,8 @@ class Quarters:
         main.asks(self.manager.main)
 
 
-@case("H9:8", "given by replies to code 5 of server 300 node 0x9000 (4 held at half of its time, 8 at the end)",
+@case("H9:8", "given by replies to code 5 of server 300 node 0x9000 (4 held at half of its time, 8 at the end; 8 of 8"
+      " that are kept are in use)",
       "maybe references kept: 8 of 16 given by replies to code 5 of server 300 node 0x9000 H9")
 @case("H9:4", gains=(0, 0, 2, 2))
 @case("", gains=(0, 0, 2, 1))
@@ -254,7 +255,8 @@ def more_and_more(s, gains=(2, 2, 2, 2), passing=2, drops=(0, 0, 0, 0), twice=(0
 
 
 @case("P1:8")
-@case("H5:8 P1:8", "(0 held at half of its time, 8 at the end)", of_other=True, gains=(0, 0, 4, 4))
+@case("H5:8 P1:8", "(0 held at half of its time, 8 at the end; 8 of 8 that are kept are in use)",
+      of_other=True, gains=(0, 0, 4, 4))
 @case("P1:8", known=False)
 @case("H9:8 P1:4", "4 held at half of its time, 8 at the end", lets_go=(1, 1, 1, 1), gains=(1, 1, 3, 3))
 @case("P1:4", lets_go=(1, 1, 1, 1), gains=(1, 1, 7, 1))
@@ -282,7 +284,7 @@ def had_before(s, gains=(2, 2, 2, 2), lets_go=(2, 2, 2, 2), stays=0, passing=0, 
 
 
 @case("H15:12", "real references taken more than once: 12 of 12 given by replies to code 5 of server 300 node 0x9000"
-      " H15 (2 times, weakly, and let go of 0 times; handle 20, server 300 node 0x1400)",
+      " H15 (2 times, weakly, and let go of 0 times; handle 20, server 300 node 0x1400; held weakly)",
       "defect: references taken more than once | client on binder | given by replies to code 5 of server; key ")
 @case("H15:10", gains=(3, 3, 2, 2))
 @case("H4:9", "maybe references taken more than once: 9 of 9 given by replies to code 5 of server 300 node 0x9000 H4",

@@ -34,7 +34,8 @@ BOOK = PART + "by the driver's book of the end "
 @case("C12:1", f"{BOOK}no thread of process 100 has it", book=0)
 @case("C12:1", SEE, book=101, code=4)
 @case("C5:1", "not got", book=101, option=None)
-def calls_what_is_not_recorded(s, option="pid:200", wait=1100, good=0, took=1, lost=False, ends=False, book=None, code=1):
+def calls_what_is_not_recorded(s, option="pid:200", wait=1100, good=0, took=1, lost=False, ends=False, book=None,
+                               code=1):
     """A client calls a service that is not recorded, and gets no answer. The driver's book may say which thread has the
     call, or has another one."""
     is_narrowed(s, option)

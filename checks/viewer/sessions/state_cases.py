@@ -1,9 +1,9 @@
 """More sessions as in cases.py: handles, nodes, deaths, clears, frees, objects, and oneway sends that never came."""
 
 from checks.kit.captures import (BC_ACQUIRE, BC_ACQUIRE_DONE, BC_CLEAR_DEATH_NOTIFICATION, BC_DEAD_BINDER_DONE,
-                                 BC_DECREFS, BC_INCREFS, BC_RELEASE, BC_REQUEST_DEATH_NOTIFICATION, BR_ACQUIRE,
-                                 BR_CLEAR_DEATH_NOTIFICATION_DONE, BR_DEAD_BINDER, BR_FAILED_REPLY, BR_RELEASE, ENTER,
-                                 each, each_long, node, of_handle, offsets, record, watch)
+                                 BC_DECREFS, BC_EXIT_LOOPER, BC_INCREFS, BC_RELEASE, BC_REQUEST_DEATH_NOTIFICATION,
+                                 BR_ACQUIRE, BR_CLEAR_DEATH_NOTIFICATION_DONE, BR_DEAD_BINDER, BR_FAILED_REPLY,
+                                 BR_RELEASE, ENTER, each, each_long, node, of_handle, offsets, record, watch)
 from checks.viewer.sessions.cases import case
 from checks.viewer.sessions.session import DONE, ONE_WAY, UPDATE_TXN, Sent
 
@@ -237,6 +237,27 @@ def not_acknowledged(s, then, ends, wait=200, lost=False):
         s.wait(300)
 
 
+@case("H18:3", "(handed over with code 4)", "real references never acknowledged: 3 of ")
+@case("H18:4", count=5, done=1)
+@case("U4:3", count=4, done=1)
+@case("U4:2", count=2)
+@case("M1:3", lost=True)
+@case("U4:2 U6:1", then=1)
+def nodes_not_acknowledged(s, count=3, done=0, lost=False, then=2):
+    """The driver asks for references to the objects of a client, which acknowledges some, and goes on."""
+    service, client = s.two()
+    if lost:
+        s.loses(client)
+    for at in range(1, count + 1):
+        client.main.gives(service.main, at, node=0x900 + at)
+        client.main.reads(node(BR_ACQUIRE, 0x900 + at, 0))
+        if at <= done:
+            client.main.writes(node(BC_ACQUIRE_DONE, 0x900 + at, 0))
+    for _ in range(then):
+        client.main.writes(ENTER)
+    s.wait(200)
+
+
 # ---- deaths and clears
 
 
@@ -266,6 +287,26 @@ def clear_not_confirmed(s, then, wait, ends=False, lost=False, thread=False):
     if ends:
         clearing.ends() if thread else client.ends()
         s.wait(300)
+
+
+@case("T1:1", wait=900)
+@case("U4:1", wait=1100)
+@case("U4:1", wait=900, leaves=False)
+@case("U4:1", wait=900, before=True)
+def clears_and_leaves(s, wait, leaves=True, before=False):
+    """A client clears its request, and its other thread leaves the pool after that or before; then the client ends."""
+    _, client = watching(s)
+    other = client.looper(1)
+    if before:
+        other.writes(record(BC_EXIT_LOOPER))
+    client.main.writes(watch(BC_CLEAR_DEATH_NOTIFICATION, 1, 0xD))
+    for _ in range(2):
+        client.main.writes(ENTER)
+    if leaves and not before:
+        other.writes(record(BC_EXIT_LOOPER))
+    s.wait(wait)
+    client.ends()
+    s.wait(300)
 
 
 @case("D10:1", "given by replies to code 5 of service 100 node 0x0 (the request is at 708)",
