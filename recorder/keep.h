@@ -24,7 +24,7 @@ void keep_begin(const struct options *options, const char *view);
 int keep_ask(const struct why_kept *why);
 /* Does what is due. It is called each time that the ring was looked at. */
 void keep_look(void);
-/* The recording ends. A set that has its files already is kept, and waited for; any other one is left to what remains. */
+/* The recording has ended, and its files are closed. A set that ends before it is kept, and waited for. */
 void keep_end(void);
 /* When the last set was begun; 0 if there is none. */
 u64 keep_last(void);

@@ -51,14 +51,23 @@ static socklen_t address_of(struct sockaddr_un *address, u32 process)
 	return (socklen_t)(offsetof(struct sockaddr_un, sun_path) + 1 + (size_t)length);
 }
 
+static void stop_listening(void)
+{
+	if (listener >= 0)
+		close(listener);
+	listener = -1;
+}
+
 void keep_asked_begin(const char *out)
 {
 	struct sockaddr_un address;
 	socklen_t length = address_of(&address, (u32)getpid());
 	whole_path(out, own_path);
 	listener = socket(AF_UNIX, SOCK_SEQPACKET | SOCK_NONBLOCK | SOCK_CLOEXEC, 0);
-	if (listener < 0 || bind(listener, (void *)&address, length) || listen(listener, MOST_WAITING))
-		complain("--keep can't ask this recorder: %s", strerror(errno));
+	if (listener >= 0 && !bind(listener, (void *)&address, length) && !listen(listener, MOST_WAITING))
+		return;
+	complain("--keep can't ask this recorder: %s", strerror(errno));
+	stop_listening();
 }
 
 void keep_asked_by_signal(int number)
@@ -159,6 +168,7 @@ void keep_asked_look(void)
 void keep_asked_end(void)
 {
 	look_at_waiting();
+	stop_listening();
 	for (u32 i = 0; i < waiting_count; i++)
 		answer(waiting[i].socket, "failed the recording has ended");
 	waiting_count = 0;

@@ -384,11 +384,11 @@ int main(int count, char **words)
 	else
 		books_copy(options.out, "end");
 	triggers_end();
-	keep_end();
-	keep_asked_end();
 	finish(&ring);
 	redact_end();
 	int end_error = parts_end();
+	keep_end();
+	keep_asked_end();
 	error = error ? error : end_error;
 	if (error)
 		complain("%s: %s; the recording ends after number %llu", parts_path(), strerror(error),

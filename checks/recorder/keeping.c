@@ -1,12 +1,18 @@
-/* keeping WORD..: the recorder on these words, with a driver that is made up: 500 calls a second go on in a time of its own,
- * and PLAN in the environment has what else comes, as SECOND:WHAT with spaces between: `hang`, a call that is answered 12 s
- * later; `pool`, a call that no thread is free to take for 4 s; `refused`, 300 sends within a second; `death`, the end of
- * the process `victim`; `touch`, the file WATCHED; `signal`, SIGUSR1; `end`, SIGINT; `quiet`, no more calls.
+/* keeping WORD..: the recorder on these words, with a driver that is made up: 500 calls a second go on in a time of its
+ * own, and PLAN in the environment has what else comes, as SECOND:WHAT with spaces between:
  *
- * What is kept is followed, too: at the call of the system with the number KILL_AT that makes, fills, secures or renames a
- * part of a set the process ends at once; with POWER in the environment what was not secured by then is lost. FREE in the
- * environment is how many bytes the disk has free, and FULL_AT the number of the call from which on it has none. See
- * keeping. */
+ *   hang, long  a call that is answered 12 s later, or 100 s later
+ *   pool        a call that no thread is free to take for 4 s
+ *   refused     300 sends within a second
+ *   death       the end of the process `victim`
+ *   touch       the file WATCHED
+ *   signal      SIGUSR1; `end`: SIGINT
+ *   quiet       no more calls
+ *
+ * What is kept is followed, too: at the call of the system with the number KILL_AT that makes, fills, secures or renames
+ * a part of a set the process ends at once; with POWER in the environment what was not secured by then is lost. FREE is
+ * how many bytes the disk has free, FULL_AT the number of the call from which on it has none, and with NO_LINKS a file
+ * can have no second name. See keeping. */
 #define _GNU_SOURCE
 #include "drivers.h"
 #include "kernel.h"
@@ -147,10 +153,10 @@ static void touch(void)
 
 static void do_planned(void (*to)(const void *, u64), const char *what)
 {
-	if (!strcmp(what, "hang")) {
+	if (!strcmp(what, "hang") || !strcmp(what, "long")) {
 		send_call(to, HANGING, 7);
 		take_call(to, POOL, HANGING, 7);
-		open_until = looks + 12 * LOOKS_OF_SECOND;
+		open_until = looks + (!strcmp(what, "long") ? 100 : 12) * LOOKS_OF_SECOND;
 	} else if (!strcmp(what, "pool")) {
 		send_call(to, WAITING, 7);		/* once served, it is known who gets it */
 		take_call(to, POOL, WAITING, 7);
@@ -205,7 +211,7 @@ long ring_drain(struct ring *ring, void (*to)(const void *message, u64 bytes))
 	looks++;
 	snprintf(plan, sizeof plan, "%s", getenv("PLAN"));
 	for (char *one = strtok(plan, " "); one; one = strtok(NULL, " "))
-		if (looks == (u32)atoi(one) * LOOKS_OF_SECOND)
+		if (looks == (u32)(atof(one) * LOOKS_OF_SECOND + 0.5))
 			do_planned(to, strchr(one, ':') + 1);
 	go_on(to);
 	return (long)(last - before);

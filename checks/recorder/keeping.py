@@ -79,9 +79,12 @@ class Run(NamedTuple):
     status: int
     said: str
 
+    def folders(self) -> list[pathlib.Path]:
+        return list(self.out.parent.glob(f"{self.out.name}.kept-*"))
+
     def sets(self) -> list[pathlib.Path]:
-        """The folders of the sets, the oldest one first."""
-        return sorted(self.out.parent.glob(f"{self.out.name}.kept-*"), key=lambda it: last_line(it, self.out.name)[0])
+        """The folders of whole sets, the oldest one first."""
+        return sorted(self.folders(), key=lambda it: last_line(it, self.out.name)[0])
 
 
 def last_list(folder: pathlib.Path, name: str) -> list[str]:
@@ -138,7 +141,8 @@ class Recorder(NamedTuple):
             self.fail(f"{name}: the frames are not those of its lists, each once")
         if not end or int(end[1]) != numbers[-1] or int(end[2]) != numbers[-1]:
             self.fail(f"{name}: ends with {numbers[-1]}: {last_line(folder, run.out.name)[1]}")
-        if files.frames.keys() != files.lines.keys() or len(files.frames) > FILES:
+        most = FILES if min(files.frames) > 1 else newest
+        if files.frames.keys() != files.lines.keys() or len(files.frames) != most:
             self.fail(f"{name}: has {sorted(files.frames)} and {sorted(files.lines)}")
         if any(line.split(" ")[1] in ("kept", "end recording") for at in files.lines if at != newest
                for line in files.lines[at]):
@@ -208,6 +212,11 @@ def hangs_often(it: Recorder) -> None:
         it.fail(f"hangs_often: sets of calls since {told}")
     for folder in run.sets():
         it.judge_set(run, folder)
+
+
+def hang_is_long(it: Recorder) -> None:
+    """After a minute it is still the same call."""
+    it.one_set(it.run("hang_is_long", "10:long 120:end", "--keep-on", "hang:5s"), HANG_LINE)
 
 
 def pool(it: Recorder) -> None:
@@ -363,18 +372,30 @@ def first_file(it: Recorder) -> None:
             it.fail(f"first_file: {sorted(folder.iterdir())}")
 
 
+def ends_meanwhile(it: Recorder) -> None:
+    """The recording ends while a set is kept: soon after that was asked for, and a while after it."""
+    for looks in (1, 2, 3, 4, 6, 8, 12, 20, 40):
+        run = it.run(f"ends_meanwhile_{looks}", f"20:signal {20 + looks / 20}:end")
+        it.judge_recording(run)
+        for folder in run.sets():
+            it.judge_set(run, folder)
+        said = "record: kept " in run.said, "and its own files have it" in run.said
+        if len(run.sets()) != said[0] or sum(said) != 1:
+            it.fail(f"ends_meanwhile_{looks}: {run.sets()}: {run.said}")
+
+
 SHORT = "5:signal 9:end"
 LEAST_CALLS, MOST_CALLS = 10, 200  # of the system that a set takes
 
 
 def whole_or_none(it: Recorder, run: Run, what: str) -> int:
     """How many sets there are, each of them whole."""
-    for folder in run.sets():
+    for folder in run.folders():
         try:
             it.judge_set(run, folder)
         except (ValueError, AssertionError, IndexError) as error:
             it.fail(f"{what}: {folder.name} is not whole: {error!r}")
-    return len(run.sets())
+    return len(run.folders())
 
 
 def each_call(it: Recorder, name: str, variable: str, judge: Callable[[Run], None], **environment: str) -> None:
@@ -409,10 +430,10 @@ def full(it: Recorder) -> None:
     each_call(it, "full", "FULL_AT", judge)
 
 
-CASES = (hang, hang_is_short, hangs_often, pool, pool_is_short, refused, few_refused, death, death_of_another, watched,
-         watched_before, log, log_is_redacted, log_has_another, no_log, signalled, signalled_when_quiet,
-         signalled_without_files, asked, too_many, no_room, no_links, no_room_for_copies, first_file, killed,
-         killed_while_copying, power, full)
+CASES = (hang, hang_is_short, hang_is_long, hangs_often, pool, pool_is_short, refused, few_refused, death,
+         death_of_another, watched, watched_before, log, log_is_redacted, log_has_another, no_log, signalled,
+         signalled_when_quiet, signalled_without_files, asked, too_many, no_room, no_links, no_room_for_copies,
+         first_file, ends_meanwhile, killed, killed_while_copying, power, full)
 
 
 def judge_all(given: argparse.Namespace, room: pathlib.Path, fail: Fail) -> None:
