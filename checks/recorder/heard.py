@@ -9,8 +9,9 @@ loader takes of the kernel, and what else it does each time it looks into the ri
 counts that too, in a guest. The same is counted when a trigger has it follow which calls are open, and when it counts
 for --live what goes on, but not the lines that it then writes each second.
 
-The data of a call begins with the token of an interface. A ceiling is some 3 percent above what was counted, on x86-64 with the C library of Debian 12. So a call of malloc or of
-printf for each message is seen, and any copy of 65,536 bytes. With --table a table is printed.
+The data of a call begins with the token of an interface. A ceiling is some 3 percent above what was counted, on x86-64
+with the C library of Debian 12. So a call of malloc or of printf for each message is seen, and any copy of 65,536
+bytes. With --table a table is printed.
 """
 
 import argparse

@@ -267,6 +267,21 @@ def check_stalled(stage: Stage) -> None:
 # ---- over adb
 
 
+def check_adb_piped(stage: Stage) -> None:
+    """Through a pipe come the lines, and a table of methods that is none leaves nothing on the device."""
+    device = stage.device
+    for table, status, out, said in ("methods", 0, PIPED[1].replace("{}", " method=open"), r"record: \d+ files, .*"), \
+            ("record", 64, "", r"record: \S+:1: not interface, code, method and source, separated by tabs"):
+        words = ["--adb", "--live", "--methods", stage.room / table, "-o", f"lines-{table}", "--", "sleep", "4"]
+        ended = subprocess.run([stage.room / "record", *words], cwd=stage.room / "out", stdin=subprocess.DEVNULL,
+                               env={**device.environment, "SCENE": "hang"}, capture_output=True, encoding="utf-8")
+        if ended.returncode != status or not re.search(f"^{out}$", ended.stdout, re.MULTILINE) \
+                or not re.fullmatch(said, ended.stderr.rstrip("\n").split("\n")[-1]):
+            stage.fail(f"lines over adb with {table}: {ended}")
+        device.what = f"lines over adb with {table}"
+        device.left_nothing()
+
+
 def check_adb(stage: Stage) -> None:
     terminal = stage.terminal("phone", "hang", 200, 40, "--adb", "--live", "--methods", f"{stage.room}/methods")
     try:
@@ -286,7 +301,7 @@ def check_adb(stage: Stage) -> None:
 
 def judge(_: argparse.Namespace, room: pathlib.Path, fail: Fail) -> None:
     stage = Stage(room, fail)
-    for part in check_hang, check_flood, check_hostile, check_piped, check_stalled, check_adb:
+    for part in check_hang, check_flood, check_hostile, check_piped, check_stalled, check_adb, check_adb_piped:
         part(stage)
 
 

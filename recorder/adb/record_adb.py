@@ -15,7 +15,7 @@ import subprocess
 import sys
 import threading
 from types import FrameType
-from typing import Callable, Iterator, NamedTuple
+from typing import TYPE_CHECKING, Callable, Iterator, NamedTuple
 
 import device
 import fetch
@@ -27,6 +27,9 @@ from folder import OLDEST, Folder, Found, Gone
 from next_command import view_command
 from show import show
 from told import ENDING, pass_on, progress, tell, tell_all, write
+
+if TYPE_CHECKING:
+    from live import Shown
 
 LEAST_SPACE = 1 << 20  # bytes; with less, a recording begins nowhere
 MOST_NAMED = 5  # the most names of files in a line
@@ -177,12 +180,18 @@ class Signals:
             signal.signal(number, handler)
 
 
-def record(command: Command) -> None:
+def shown_of(command: Command) -> "Shown | None":
+    """What is shown meanwhile, if anything is. A table of methods that is none ends the program, before anything is put
+    on the device."""
+    if not command.words.live and not command.words.methods:
+        return None
+    from live import Shown
+    shown = Shown(command.words, command.serial)
+    return shown if command.words.live else None
+
+
+def record(command: Command, show: "Shown | None") -> None:
     """Records until the recorder has ended, or the connection is lost."""
-    show = None
-    if command.words.live:
-        from live import Shown
-        show = Shown(command.words, command.serial)
     with subprocess.Popen(command.folder.words(command.on_device("record")), stdin=subprocess.PIPE,
                           stdout=subprocess.PIPE if show and show.is_drawn else None, stderr=subprocess.PIPE,
                           start_new_session=True) as program:
@@ -358,6 +367,7 @@ def run(command: Command) -> int:
         return fetch_recording(command)
     if command.words.keep:
         return keep_recording(command)
+    shown = shown_of(command)
     command = prepare(command)
     if command.words.check:
         command.folder.remove()
@@ -365,7 +375,7 @@ def run(command: Command) -> int:
     with keeping(command):
         if command.words.detach:
             return begin_detached(command)
-        record(command)
+        record(command, shown)
         return finish(command)
 
 
