@@ -8,7 +8,7 @@ from typing import Callable
 from recorder.live.here import NOTHING_TO_KEEP, known, write, write_lines
 from recorder.live.screen import Actions, is_known_terminal, wait_for_picture, watch
 from recorder.live.source import Source
-from told import ENDING, as_told, write as write_text
+from told import ENDING, as_told, write as write_told
 from words import Words
 
 
@@ -32,7 +32,7 @@ class Shown:
             if stream == 1:
                 write(sys.stdout.buffer, line)
             else:
-                write_text(as_told(line.removesuffix(b"\n"), self.serial))
+                write_told(as_told(line.removesuffix(b"\n"), self.serial))
 
     def keep(self, program: subprocess.Popen[bytes]) -> str:
         if not self.keeps:
