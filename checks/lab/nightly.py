@@ -105,6 +105,6 @@ def check_nightly(folder: pathlib.Path, room: pathlib.Path, count: int, fail: Fa
         begun = time.monotonic()
         status, out, _ = answer([folder / "fleet", "compare", lab / "LAB.db", *builds], encoding="utf-8")
         told = told_by(out)
-        counts = next(line for line in out.splitlines() if line.endswith("not met"))
+        counts = next(line for line in out.splitlines() if line.endswith(" faster"))
         row(" ".join(builds), ", ".join(told) or "none", counts, status, f"{time.monotonic() - begun:.1f}")
         compare(f"{builds}", sorted(told), sorted(OF[one] for one in due), fail)
