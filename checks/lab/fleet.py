@@ -71,7 +71,7 @@ from checks.lab.words import check_words
 from lab import result
 from lab.first_seen import FIRST
 from lab.form import unfolded
-from lab.store import open_lab
+from lab.store import OF_CAPTURE, open_lab
 from viewer.units import defect_key
 
 # The captures whose defects each made-up session has, and those that few have.
@@ -337,7 +337,7 @@ def check_better(folder: pathlib.Path, room: pathlib.Path, of: dict[str, dict], 
         compare(f"results of one capture, {order}", [database.execute("SELECT build FROM capture").fetchall(), database
                 .execute("SELECT count(DISTINCT capture) FROM found").fetchone()], [[("later",)], (1,)], fail)
     with contextlib.closing(sqlite3.connect(lab, isolation_level=None)) as database:
-        for table in ("capture", "found", "talk", "held"):
+        for table in ("capture", *OF_CAPTURE):
             database.execute(f"DELETE FROM {table}")
     compare("a capture that was taken out of the lab", fleet(folder, "load", lab, room / "better-0.json")[:2],
             (0, "1 added, 0 there already\n"), fail)
