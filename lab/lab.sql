@@ -1,4 +1,4 @@
--- A lab: what is kept of many captures. docs/FLEET.md describes the tables. A statement that makes what is there
+-- A lab: what is kept of many captures. docs/DATABASE.md describes the tables. A statement that makes what is there
 -- already changes nothing, so several loaders may run these at once. What the results of many captures have in common,
 -- who talks to whom and which methods are called, is there once: a lab of 5,000 captures so takes a quarter of the space.
 

@@ -9,6 +9,7 @@ What must hold:
   line, also those of `known` defects that come back. The reports for other programs say the same.
 - What can't be told is said, and what should fail fails (blind_spots.py).
 - A method that is slower or faster is told, and no other one, however devices differ (slower.py).
+- The gate of lab/Makefile is quiet, or fails (make_gate.py).
 - Labs of an earlier layout are read, and changed to the one of today (layouts.py).
 """
 
@@ -25,6 +26,7 @@ from checks.kit.checking import Fail, check, compare
 from checks.kit.programs import ROOT
 from checks.lab.blind_spots import BLIND_SPOTS
 from checks.lab.layouts import check_first_layout
+from checks.lab.make_gate import check_make_gate
 from checks.lab.models import ALIKE, PLANTED, SESSIONS, made
 from checks.lab.slower import SLOWER
 from lab import chance, reports
@@ -178,7 +180,7 @@ def check_reports(_: pathlib.Path, room: pathlib.Path, fail: Fail) -> None:
 
 
 CASES = parts_of(check_tests, check_quiet, check_planted, check_known, check_reports, *BLIND_SPOTS, *SLOWER,
-                 check_first_layout)
+                 check_first_layout, check_make_gate)
 
 
 def judge(given: argparse.Namespace, room: pathlib.Path, fail: Fail) -> None:
