@@ -372,6 +372,16 @@ def first_file(it: Recorder) -> None:
             it.fail(f"first_file: {sorted(folder.iterdir())}")
 
 
+def left_over(it: Recorder) -> None:
+    """What a killed recorder has left of a set is in the way, and stays."""
+    out = it.room / "left" / "o"
+    (out.parent / "o.keeping").mkdir(parents=True)
+    ended = subprocess.run(it.words(out), env={**os.environ, "PLAN": "1:end"}, capture_output=True, encoding="utf-8")
+    others = [path for path in out.parent.iterdir() if path.name != "o.keeping"]
+    if ended.returncode != 1 or f"{out}.keeping exists already" not in ended.stderr or others:
+        it.fail(f"left_over: {ended.returncode}: {ended.stderr}")
+
+
 def ends_meanwhile(it: Recorder) -> None:
     """The recording ends while a set is kept: soon after that was asked for, and a while after it."""
     for looks in (1, 2, 3, 4, 6, 8, 12, 20, 40):
@@ -433,7 +443,7 @@ def full(it: Recorder) -> None:
 CASES = (hang, hang_is_short, hang_is_long, hangs_often, pool, pool_is_short, refused, few_refused, death,
          death_of_another, watched, watched_before, log, log_is_redacted, log_has_another, no_log, signalled,
          signalled_when_quiet, signalled_without_files, asked, too_many, no_room, no_links, no_room_for_copies,
-         first_file, ends_meanwhile, killed, killed_while_copying, power, full)
+         first_file, left_over, ends_meanwhile, killed, killed_while_copying, power, full)
 
 
 def judge_all(given: argparse.Namespace, room: pathlib.Path, fail: Fail) -> None:
