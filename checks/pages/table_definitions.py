@@ -21,7 +21,7 @@ CHAPTERS = {
     "The rows": "Messages Spans Buffers",
     "Generations of handles": "Generations Naming",
     "What is seen": "Gaps Keys Settling",
-    "Pairs": "Turns Pairing Changes Guesses",
+    "Pairs": "Turns Pairing Decisions Changes Guesses",
     "Which send a delivery came from": "Certainty OneHandle",
     "What waits": "Waiting Doubts",
     "What is learnt of nodes": "Meanings Learning",

@@ -3,6 +3,7 @@ mod BufferSums
 mod CertaintyLaws
 mod ChangeLaws
 mod CountLaws
+mod DecisionLaws
 mod DoubtLaws
 mod FreshLaws
 mod GuessLaws
@@ -18,6 +19,7 @@ mod RowLaws
 mod SeenLaws
 mod SettlingLaws
 mod StepLaws
+mod TableLaws
 mod TurnLaws
 mod WaitingLaws
 mod WalkLaws

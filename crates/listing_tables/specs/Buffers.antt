@@ -111,7 +111,8 @@ abbrev pub SumsOneMore : Buffers → AddressEvent → Buffers → Type 0
 SumsOneMore old item new =
     (items : List AddressEvent) → BuffersSum old items → BuffersSum new (items ++ item ∷ [])
 
--- the buffer at this index is freed by the record at this place, and the index of the one before it is given
+-- the buffer at this index is freed by the record at this place, and is the last one that is freed; the index of the one
+-- before it is given
 pub record Frees (old : Buffers) (index place : ℕ) (new : Buffers) (given : Option ℕ) : Type 0 where
   pub latest : new.latest ≡ old.latest
   pub rows : (buffer : Buffer) → slice_get old.list.all.items index ≡ Some buffer
@@ -120,3 +121,4 @@ pub record Frees (old : Buffers) (index place : ℕ) (new : Buffers) (given : Op
   pub earlier : (buffer : Buffer) → slice_get old.list.all.items index ≡ Some buffer
       → map earlier_of new.list.all.items ≡ map earlier_of old.list.all.items
   pub next : (buffer : Buffer) → slice_get old.list.all.items index ≡ Some buffer → given ≡ buffer.earlier
+  pub freed : new.freed.all.items ≡ old.freed.all.items ++ index ∷ []

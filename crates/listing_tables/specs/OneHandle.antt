@@ -6,7 +6,7 @@ use Rattle.listing_tables.specs.declared.certainty.Evidence.{Evidence}
 use Rattle.listing_tables.specs.declared.certainty.Sought.{Sought}
 use Rattle.listing_tables.specs.declared.fitting.Fit.{Fit}
 use Rattle.listing_tables.specs.declared.fitting.Fitting.{Fitting}
-use Rattle.listing_tables.specs.Certainty.{AreOfOneHandle, ComesAfter, IsFitOf, IsIn}
+use Rattle.listing_tables.specs.Certainty.{AreOfOneHandle, ComesAfter, HasAll, IsFitOf, IsIn, LooksAtAll}
 
 -- each fit that is left can have been meant, and is of the handle of all that can
 pub record LeavesOneHandle (evidence : Evidence) (sought : Sought) (fitting : Fitting) : Type 0 where
@@ -14,12 +14,19 @@ pub record LeavesOneHandle (evidence : Evidence) (sought : Sought) (fitting : Fi
   pub fits : (fit : Fit) → IsIn fitting.list.items fit
       → IsFitOf evidence sought fit × (fit.sent.generation ≡ handle.generation)
 
--- so it is if all that can have been meant are of one handle
+-- each send that can have been meant is in the capture, and among the fits
+pub record LeavesAll (evidence : Evidence) (sought : Sought) (fitting : Fitting) : Type 0 where
+  pub has_all : HasAll evidence.seen.now sought.upid.index sought.node sought.message.place sought.message.gaps
+  pub looks : LooksAtAll evidence sought fitting
+  pub whole : fitting.is_whole ≡ true
+  pub rank : fitting.rank ≡ 0
+
+-- what is left where all that can have been meant are of one handle, where they are of several, and where it is unknown
 abbrev pub LeavesFits : Evidence → Sought → Fitting → Certainty → Type 0
 LeavesFits evidence sought fitting (Sure fit) = Unit {0}
 LeavesFits evidence sought fitting OneHandle = LeavesOneHandle evidence sought fitting
-LeavesFits evidence sought fitting Several = Unit {0}
-LeavesFits evidence sought fitting Unknown = Unit {0}
+LeavesFits evidence sought fitting Several = LeavesAll evidence sought fitting
+LeavesFits evidence sought fitting Unknown = LooksAtAll evidence sought fitting
 
 -- The first one of two sends that has certainly not come before: the second one takes the place of the first one only if
 -- it is fresh, and is sent before it.

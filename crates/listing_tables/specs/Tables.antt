@@ -8,6 +8,8 @@ use Rattle.listing_tables.specs.Spans.{process_rows, thread_rows}
 use Rattle.listing_fields.specs.declared.table.Table.{Table}
 use Rattle.listing_fields.specs.declared.table.Table.TheVariants.{Capture, Process, Thread, Frame, Record, Interface, Service, Object, Call, Generation, Send, Delivery, Slice, Level}
 use Rattle.listing_tables.specs.declared.tables.Tables.{Tables}
+use Rattle.listing_tables.specs.declared.traffic.Traffic.{Traffic}
+use Rattle.listing_tables.specs.Turns.{PairsTraffic}
 
 -- Each process, thread, generation, send and delivery in the walk's lists has its row, in order, and nothing else is
 -- written. Nothing is written of a table that is written while the walk goes on. Of the others nothing is said.
@@ -28,6 +30,15 @@ WritesTable tables Delivery old new = WritesRows old new (
     delivery_rows tables.traffic.messages.list.all.items tables.traffic.buffers.list.all.items tables.calls.all.items)
 WritesTable tables Slice old new = ⊤
 WritesTable tables Level old new = ⊤
+
+-- the lists of which the tables are written are those that pairing has made, and nothing has changed in them since
+pub record ArePaired (tables : Tables) : Type 0 where
+  pub before : Traffic
+  pub after : Traffic
+  pub pairs : PairsTraffic before tables.calls after
+  pub messages : tables.traffic.messages ≡ after.messages
+  pub buffers : tables.traffic.buffers ≡ after.buffers
+  pub generations : tables.traffic.handles.generations ≡ after.handles.generations
 
 -- the walk's lists, from which the other tables are written, stay
 pub record KeepsLists (old new : Tables) : Type 0 where

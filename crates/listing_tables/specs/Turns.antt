@@ -1,5 +1,5 @@
 -- What a walk does at the turn of each message, and what is done of all messages in order (docs/DATABASE.md#send).
-use Rattle.std.specs.Prelude.{◌≡◌, ◌≤◌, ◌⊎◌, ◌==◌, ℕ, zero, suc, Bool, true, List, [], None, Some, length, slice_get}
+use Rattle.std.specs.Prelude.{◌≡◌, ◌≤◌, ◌⊎◌, ◌==◌, ℕ, zero, suc, Bool, true, [], None, Some, length, slice_get}
 use Rattle.listing_tables.specs.declared.calls.Call.{Call}
 use Rattle.listing_tables.specs.declared.certainty.Sought.{Sought}
 use Rattle.listing_tables.specs.declared.messages.Detail.TheVariants.{Delivered}
@@ -7,12 +7,14 @@ use Rattle.listing_tables.specs.declared.messages.Message.{Message}
 use Rattle.listing_tables.specs.declared.numbered.Numbered.{Numbered}
 use Rattle.listing_tables.specs.declared.pairs.Pairing.{Pairing}
 use Rattle.listing_tables.specs.declared.traffic.Traffic.{Traffic}
+use Rattle.listing_tables.specs.declared.waiting.Waiting.{Waiting}
+use Rattle.listing_tables.specs.Decisions.{Decides, KeepsWaiting, NotesDelivery}
 use Rattle.listing_tables.specs.Meanings.{BeginsEach, MakesAllKnown}
 use Rattle.listing_tables.specs.Pairing.{BeginsWalk, Claims, ClosesCall, KeepsGuess, MarksClaimed, MarksTurn, PairsDelivery, PairsReply, messages_of}
 
 -- A delivery has no partner yet. Its send is looked for, by what is known and noted so far. Before that the send of the
 -- call that the delivery closes may be taken out.
-pub record LooksForSend (old : Pairing) (index : ℕ) (message : Message) (new : List Message) : Type 0 where
+pub record LooksForSend (old : Pairing) (index : ℕ) (message : Message) (new : Pairing) : Type 0 where
   pub buffer : ℕ
   pub is : message.detail ≡ Delivered buffer
   pub alone : message.partner ≡ None
@@ -22,18 +24,28 @@ pub record LooksForSend (old : Pairing) (index : ℕ) (message : Message) (new :
   pub sought : Sought
   pub which : sought.index ≡ index
   pub what : sought.message ≡ message
-  pub pairs : PairsDelivery between sought new
+  pub noted : NotesDelivery old buffer sought
+  pub pairs : PairsDelivery between sought (messages_of new)
+  pub decides : Decides between sought new
 
--- at the turn of any other message no message changes
-abbrev pub TakesTurn : Pairing → ℕ → Message → List Message → Type 0
-TakesTurn old index message new = (new ≡ messages_of old) ⊎ LooksForSend old index message new
+-- At the turn of any other message no message changes. The send of the call that it closes may be taken out. All others
+-- still wait, and of the sends in doubt nothing changes.
+pub record PassesOn (old : Pairing) (message : Message) (new : Pairing) : Type 0 where
+  pub messages : messages_of new ≡ messages_of old
+  pub between : Waiting
+  pub closes : ClosesCall old message between
+  pub kept : KeepsWaiting between new.waiting
+
+-- the send of a delivery is looked for, or it is the turn of another message
+abbrev pub TakesTurn : Pairing → ℕ → Message → Pairing → Type 0
+TakesTurn old index message new = PassesOn old message new ⊎ LooksForSend old index message new
 
 -- a message has its turn; a walk through the messages of calls passes over the oneway ones
 pub record HasTurn (calls : Bool) (old : Pairing) (index : ℕ) (new : Pairing) : Type 0 where
   pub message : Message
   pub there : slice_get (messages_of old) index ≡ Some message
   pub passed : calls ≡ true → message.oneway ≡ true → new ≡ old
-  pub turn : TakesTurn old index message (messages_of new)
+  pub turn : ((calls ≡ true) × (message.oneway ≡ true)) ⊎ TakesTurn old index message new
   pub marks : MarksTurn message index old.marks.all.items new.marks.all.items
   pub facts : new.facts ≡ old.facts
 
@@ -91,9 +103,9 @@ pub record Walks (calls : Bool) (old new : Pairing) : Type 0 where
 abbrev pub WalksAt : Pairing → ℕ → Pairing → Type 0
 WalksAt old walk new = Walks (walk == 0) old new
 
--- so many walks are made, at least one and at most five
+-- so many walks are made, at least two and at most five: the first one is not through oneway messages
 abbrev pub WalksOn : Pairing → Pairing → Type 0
-WalksOn old new = (walks : ℕ) × (1 ≤ walks) × (walks ≤ 5) × MakesEach WalksAt old new walks
+WalksOn old new = (walks : ℕ) × (2 ≤ walks) × (walks ≤ 5) × MakesEach WalksAt old new walks
 
 -- Messages are paired by some walks. After that what the last one guessed is kept, and replies are paired.
 pub record PairsAll (old new : Pairing) : Type 0 where

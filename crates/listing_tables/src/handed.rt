@@ -1,7 +1,8 @@
 //! The objects that transactions and replies hand over, and the nodes that messages name.
 
-ghost use Rattle.std.specs.Prelude.{◌≡◌, IfSome};
+ghost use Rattle.std.specs.Prelude.{◌≡◌, IfOk, IfSome};
 ghost use Rattle.listing_tables.specs.Certainty.{IsIn};
+ghost use Rattle.listing_tables.specs.Decisions.{index_of_node};
 
 use crate::generations::Reference;
 use crate::numbered::narrow;
@@ -51,7 +52,9 @@ impl HandedOver {
     }
 
     /// The index of a node.
-    pub(crate) fn index_of(&mut self, node: Node) -> Result<u32, ListingError> {
+    pub(crate) fn index_of(&mut self, node: Node) -> Result<u32, ListingError>
+        ensures { IfOk result (λ index. index ≡ index_of_node self.old node) }
+    {
         let (index, _) = self.nodes.insert_full(node)?;
         narrow(index as u64)
     }

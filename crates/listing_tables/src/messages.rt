@@ -11,6 +11,7 @@ ghost use Rattle.listing_tables.specs.Numbered.{thing_at};
 ghost use Rattle.listing_tables.specs.Changes.{Changes, Couples, IsSendAt, Rates};
 ghost use Rattle.listing_tables.specs.Changes.{sent_as, settled_as, with_detail, with_partner};
 ghost use Rattle.listing_tables.specs.Certainty.{AreAlike};
+ghost use Rattle.listing_tables.specs.Decisions.{LeadsTo};
 
 use crate::buffers::{Buffer, Buffers};
 use crate::calls::{Call, Closer, verdict_number};
@@ -124,7 +125,9 @@ impl Messages {
     }
 
     /// The node that transactions of this path go to. It is not for replies.
-    pub(crate) fn node_of(&self, path: u32) -> Result<Node, ListingError> {
+    pub(crate) fn node_of(&self, path: u32) -> Result<Node, ListingError>
+        ensures { IfOk result (LeadsTo self.now path) }
+    {
         match self.paths.get_index(path as usize) {
             Some(path) => Ok(Node {
                 upid: path.upid,

@@ -1,7 +1,9 @@
 //! The tables of a capture to an output, or to files.
 
-ghost use Rattle.std.specs.Prelude.{◌<◌, ◌^◌, length, map};
+ghost use Rattle.std.specs.Prelude.{◌≡◌, ◌<◌, ◌^◌, length, map, IfOk, OnOk};
 ghost use Rattle.std.specs.List.{sum_by};
+ghost use Rattle.listing_fields.specs.declared.table.Table.TheVariants.{Call, Frame, Object, Record};
+ghost use Rattle.listing_tables.specs.Tables.{ArePaired, WritesTable};
 ghost use Rattle.listing_tables.specs.Walk.{HasNoSteps};
 
 use crate::before_fault::write_before_fault;
@@ -22,6 +24,13 @@ type Stream<'w, W> = Either<&'w mut W, Sink>;
 
 fn nowhere<'w, W: Write>() -> Stream<'w, W> {
     Right(sink())
+}
+
+/// A writer, and the table whose rows it takes.
+#[derive(Drop)]
+struct TableWriter<W: Write + Drop> {
+    table: Table,
+    writer: W,
 }
 
 /// Writes one table of the capture that has these parts to the output.
@@ -53,49 +62,52 @@ fn walk_for_one<W: Write>(
     requires fits { sum_by length (map (λ part. part.now) parts.now) < 2 ^ 64 }
     requires nothing { HasNoSteps tables.old }
 {
-    match table {
-        Table::Frame => walk_with(
-            alloc,
-            parts,
-            tables,
-            Left(out),
-            nowhere(),
-            nowhere(),
-            nowhere(),
-        ),
-        Table::Record => walk_with(
-            alloc,
-            parts,
-            tables,
-            nowhere(),
-            Left(out),
-            nowhere(),
-            nowhere(),
-        ),
-        Table::Object => walk_with(
-            alloc,
-            parts,
-            tables,
-            nowhere(),
-            nowhere(),
-            Left(out),
-            nowhere(),
-        ),
-        Table::Call => walk_with(
-            alloc,
-            parts,
-            tables,
-            nowhere(),
-            nowhere(),
-            nowhere(),
-            Left(out),
-        ),
-        _ => {
-            let ending = walk_nowhere::<W>(alloc, parts, tables)?;
-            write_table(tables, table, ending, RowWriter::new(alloc, out))?;
-            Ok(ending)
-        }
-    }
+    let writers = match table {
+        Table::Frame => Writers {
+            frames: Left(out),
+            records: nowhere(),
+            objects: nowhere(),
+            calls: nowhere(),
+        },
+        Table::Record => Writers {
+            frames: nowhere(),
+            records: Left(out),
+            objects: nowhere(),
+            calls: nowhere(),
+        },
+        Table::Object => Writers {
+            frames: nowhere(),
+            records: nowhere(),
+            objects: Left(out),
+            calls: nowhere(),
+        },
+        Table::Call => Writers {
+            frames: nowhere(),
+            records: nowhere(),
+            objects: nowhere(),
+            calls: Left(out),
+        },
+        _ => return write_after_walk(alloc, parts, table, tables, out),
+    };
+    walk_with(alloc, parts, tables, writers)
+}
+
+/// Writes a table that is written after the walk.
+fn write_after_walk<W: Write>(
+    alloc: Global,
+    parts: &[&[u8]],
+    table: Table,
+    tables: &mut Tables,
+    out: &mut W,
+) -> Result<Ending, ListingError>
+    requires few { length parts.now < 2 ^ 32 }
+    requires fits { sum_by length (map (λ part. part.now) parts.now) < 2 ^ 64 }
+    requires nothing { HasNoSteps tables.old }
+{
+    let ending = walk_nowhere::<W>(alloc, parts, tables)?;
+    let writer = TableWriter { table, writer: out };
+    write_table(alloc, tables, ending, writer)?;
+    Ok(ending)
 }
 
 /// Walks through the capture for a table that is written after the walk.
@@ -107,17 +119,16 @@ fn walk_nowhere<W: Write>(
     requires few { length parts.now < 2 ^ 32 }
     requires fits { sum_by length (map (λ part. part.now) parts.now) < 2 ^ 64 }
     requires nothing { HasNoSteps tables.old }
+    ensures { OnOk result (ArePaired tables.new) }
 {
     let frames: Stream<'_, W> = nowhere();
-    walk_with(
-        alloc,
-        parts,
-        tables,
+    let writers = Writers {
         frames,
-        nowhere(),
-        nowhere(),
-        nowhere(),
-    )
+        records: nowhere(),
+        objects: nowhere(),
+        calls: nowhere(),
+    };
+    walk_with(alloc, parts, tables, writers)
 }
 
 /// Writes all tables of the capture that has these parts, each to a file of its own in a folder. Of a
@@ -154,18 +165,47 @@ fn walk_for_all<T: Files>(
     requires fits { sum_by length (map (λ part. part.now) parts.now) < 2 ^ 64 }
     requires nothing { HasNoSteps tables.old }
 {
-    let frames = create_table(rt, alloc, folder, "frame")?;
-    let records = create_table(rt, alloc, folder, "record")?;
-    let objects = create_table(rt, alloc, folder, "object")?;
-    let calls = create_table(rt, alloc, folder, "call")?;
-    let ending = walk_with(alloc, parts, tables, frames, records, objects, calls)?;
-    for (name, table) in TABLES {
-        if !table.is_streamed() {
-            let file = create_table(rt, alloc, folder, name)?;
-            write_table(tables, table, ending, RowWriter::new(alloc, file))?;
+    let writers = writers_of(
+        create_table(rt, alloc, folder, ("frame", Table::Frame))?,
+        create_table(rt, alloc, folder, ("record", Table::Record))?,
+        create_table(rt, alloc, folder, ("object", Table::Object))?,
+        create_table(rt, alloc, folder, ("call", Table::Call))?,
+    );
+    let ending = walk_with(alloc, parts, tables, writers)?;
+    for named in TABLES {
+        if !named.1.is_streamed() {
+            let file = create_table(rt, alloc, folder, named)?;
+            write_table(alloc, tables, ending, file)?;
         }
     }
     Ok(ending)
+}
+
+/// The writers of the tables that are written while the walk goes on, each with the rows of its own
+/// table.
+fn writers_of<W: Write + Drop>(
+    frames: TableWriter<W>,
+    records: TableWriter<W>,
+    objects: TableWriter<W>,
+    calls: TableWriter<W>,
+) -> Writers<W>
+    requires frames { frames.table ≡ Frame }
+    requires records { records.table ≡ Record }
+    requires objects { objects.table ≡ Object }
+    requires calls { calls.table ≡ Call }
+    ensures { result ≡ record {
+      frames = frames.writer;
+      records = records.writer;
+      objects = objects.writer;
+      calls = calls.writer;
+    } }
+{
+    Writers {
+        frames: frames.writer,
+        records: records.writer,
+        objects: objects.writer,
+        calls: calls.writer,
+    }
 }
 
 /// Walks through the capture, and writes to these what is written while the walk goes on.
@@ -173,36 +213,33 @@ fn walk_with<W: Write + Drop>(
     alloc: Global,
     parts: &[&[u8]],
     tables: &mut Tables,
-    frames: W,
-    records: W,
-    objects: W,
-    calls: W,
+    writers: Writers<W>,
 ) -> Result<Ending, ListingError>
     requires few { length parts.now < 2 ^ 32 }
     requires fits { sum_by length (map (λ part. part.now) parts.now) < 2 ^ 64 }
     requires nothing { HasNoSteps tables.old }
+    ensures { OnOk result (ArePaired tables.new) }
 {
-    let writers = Writers {
-        frames,
-        records,
-        objects,
-        calls,
-    };
     let (ending, _) = walk_to(alloc, parts, tables, writers)?;
     Ok(ending)
 }
 
-/// Writes a table of the capture that was walked through.
+/// Writes the table of a writer, of the capture that was walked through, and gives the writer back.
 fn write_table<W: Write + Drop>(
+    alloc: Global,
     tables: &mut Tables,
-    table: Table,
     ending: Ending,
-    rows: RowWriter<W>,
-) -> Outcome {
-    let mut rows = rows;
+    to: TableWriter<W>,
+) -> Result<W, ListingError>
+    requires { ArePaired tables.old }
+    ensures written { IfOk result (λ writer. WritesTable tables.old to.table
+        (W.contents to.writer) (W.contents writer)) }
+    ensures paired { ArePaired tables.new }
+{
+    let TableWriter { table, writer } = to;
+    let mut rows = RowWriter::new(alloc, writer);
     tables.write(table, ending, &mut rows)?;
-    rows.finish()?;
-    Ok(())
+    rows.finish()
 }
 
 /// Creates the file of a table in a folder.
@@ -210,9 +247,13 @@ fn create_table<T: Files>(
     rt: &T,
     alloc: Global,
     folder: &str,
-    name: &str,
-) -> Result<T::File, ListingError> {
-    create(rt, alloc, folder, name, ".rows")
+    named: (&str, Table),
+) -> Result<TableWriter<T::File>, ListingError>
+    ensures { IfOk result (λ made. made.table ≡ named.entry.1) }
+{
+    let (name, table) = named;
+    let writer = create(rt, alloc, folder, name, ".rows")?;
+    Ok(TableWriter { table, writer })
 }
 
 fn create<T: Files>(

@@ -2,9 +2,9 @@
 
 ghost use Rattle.std.specs.Prelude.{◌≡◌, ◌≢◌, ◌⊎◌, ℕ, true, false, nat_eq, IfOk, OnOk};
 ghost use Rattle.std.specs.Bool.{OnTrue};
+ghost use Rattle.listing_tables.specs.Decisions.{DoubtsEach};
 ghost use Rattle.listing_tables.specs.Pairing.{MarksEach};
 ghost use Rattle.listing_tables.specs.Turns.{PairsTraffic};
-ghost use Rattle.listing_tables.specs.Waiting.{AllWait, OthersWait};
 ghost use Rattle.listing_tables.specs.declared.waiting.Waiting.{Waiting};
 
 use crate::buffers::Buffers;
@@ -109,6 +109,9 @@ pub(crate) fn pair_all(alloc: Global, traffic: &mut Traffic, calls: &Numbered<Ca
 impl Pairing<'_> {
     ghost use Rattle.indexmap.specs.IndexSet.{contains};
     ghost use Rattle.listing_tables.specs.Changes.{RatesPair};
+    ghost use Rattle.listing_tables.specs.Decisions.{ComesInDoubt, Decides, KeepsWaiting};
+    ghost use Rattle.listing_tables.specs.Decisions.{LearnsOfSend, LearnsTarget, NotesDelivery};
+    ghost use Rattle.listing_tables.specs.Doubts.{CountsLeaving};
     ghost use Rattle.listing_tables.specs.Pairing.{AddsSend, BeginsWalk, Claims, ClosesCall};
     ghost use Rattle.listing_tables.specs.Pairing.{GuessesFit, KeepsGuess};
     ghost use Rattle.listing_tables.specs.Pairing.{MarksClaimed, MarksFits, MarksSome, MarksTurn, MustHaveCome};
@@ -117,7 +120,7 @@ impl Pairing<'_> {
     ghost use Rattle.listing_tables.specs.Turns.{MakesEach, MarksIfClaimed};
     ghost use Rattle.listing_tables.specs.Turns.{PairsAll, TakesTurn, Walks, WalksOn};
     ghost use Rattle.listing_tables.specs.Turns.{count_of};
-    ghost use Rattle.listing_tables.specs.Waiting.{entry_of, waits};
+    ghost use Rattle.listing_tables.specs.Waiting.{OthersWaitBut, entry_of, waits};
 
     fn pair(&mut self) -> Outcome
         ensures { OnOk result (PairsAll self.old self.new) }
@@ -188,7 +191,7 @@ impl Pairing<'_> {
     }
 
     fn pair_message(&mut self, index: u32, message: &Message) -> Outcome
-        ensures turn { OnOk result (TakesTurn self.old index message.now (messages_of self.new)) }
+        ensures turn { OnOk result (TakesTurn self.old index message.now self.new) }
         ensures marks { OnOk result (MarksTurn message.now index self.old.marks.all.items
             self.new.marks.all.items) }
         ensures facts { OnOk result (self.new.facts ≡ self.old.facts) }
@@ -212,7 +215,7 @@ impl Pairing<'_> {
     fn add_send(&mut self, index: u32, send: &Message, sent: &Sent) -> Outcome
         ensures same { OnOk result (self.new ≡ record self.old { waiting = self.new.waiting }) }
         ensures added { OnOk result (AddsSend self.old index send.now sent.now self.new) }
-        ensures kept { OnOk result (AllWait self.old.waiting self.new.waiting) }
+        ensures kept { OnOk result (KeepsWaiting self.old.waiting self.new.waiting) }
     {
         if is_refused(sent) && send.gaps == 0 {
             return Ok(());
@@ -249,6 +252,7 @@ impl Pairing<'_> {
         ensures same { self.new ≡ record self.old { handed = self.new.handed } }
         ensures index { IfOk result (λ sought. sought.index ≡ index) }
         ensures message { IfOk result (λ sought. sought.message ≡ message.now) }
+        ensures noted { IfOk result (NotesDelivery self.old buffer) }
     {
         let buffer = self.facts.buffers.list.at(buffer)?;
         let node = self.messages.node_of(buffer.path)?;
@@ -265,6 +269,7 @@ impl Pairing<'_> {
         ensures pairs { OnOk result (PairsDelivery self.old sought.now (messages_of self.new)) }
         ensures marks { OnOk result (MarksSome sought.now.message.oneway sought.now.index
             self.old.marks.all.items self.new.marks.all.items) }
+        ensures decided { OnOk result (Decides self.old sought.now self.new) }
         ensures facts { OnOk result (self.new.facts ≡ self.old.facts) }
     {
         let evidence = Evidence {
@@ -308,6 +313,10 @@ impl Pairing<'_> {
         ensures pair { OnOk result (RatesPair (messages_of self.old) (messages_of self.new)
             fit.now.listed.index sought.now.index 1 true) }
         ensures gone { OnOk result (waits self.new.waiting (entry_of fit.now.listed) ≡ false) }
+        ensures others { OnOk result (OthersWaitBut (entry_of fit.now.listed) self.old.waiting
+            self.new.waiting) }
+        ensures counts { OnOk result (CountsLeaving self.old.waiting fit.now.listed 0
+            self.new.waiting) }
         ensures marks { OnOk result (self.new.marks ≡ self.old.marks) }
         ensures facts { OnOk result (self.new.facts ≡ self.old.facts) }
     {
@@ -322,6 +331,10 @@ impl Pairing<'_> {
             (messages_of self.old) (messages_of self.new) self.old.fitting count true) }
         ensures marks { OnOk result (MarksFits sought.now.message.oneway self.old.fitting
             sought.now.index self.old.marks.all.items self.new.marks.all.items) }
+        ensures doubts { OnOk result ((guessed : Waiting) × KeepsWaiting self.old.waiting guessed
+            × ComesInDoubt guessed self.old.fitting.list.items sought.now.message.key
+            self.new.waiting) }
+        ensures fitting { OnOk result (self.new.fitting ≡ self.old.fitting) }
         ensures facts { OnOk result (self.new.facts ≡ self.old.facts) }
     {
         let Some(fit) = self.fitting.first() else {
@@ -340,6 +353,8 @@ impl Pairing<'_> {
             (messages_of self.new) self.old.fitting fits certain) }
         ensures marks { OnOk result (MarksFits sought.now.message.oneway self.old.fitting
             sought.now.index self.old.marks.all.items self.new.marks.all.items) }
+        ensures kept { OnOk result (KeepsWaiting self.old.waiting self.new.waiting) }
+        ensures fitting { OnOk result (self.new.fitting ≡ self.old.fitting) }
         ensures facts { OnOk result (self.new.facts ≡ self.old.facts) }
     {
         self.mark_all(sought.index)?;
@@ -370,8 +385,8 @@ impl Pairing<'_> {
     /// Puts the sends that fit a delivery among those in doubt, of which one came.
     fn doubt_all(&mut self, key: u64) -> Outcome
         ensures same { self.new ≡ record self.old { waiting = self.new.waiting } }
-        ensures waiting { OnOk result ((between : Waiting) × AllWait self.old.waiting between
-            × OthersWait between self.new.waiting) }
+        ensures doubts { OnOk result (ComesInDoubt self.old.waiting self.old.fitting.list.items key
+            self.new.waiting) }
     {
         doubt_each(&mut self.waiting, self.fitting.list.as_slice())?;
         self.waiting.came(key)
@@ -395,6 +410,8 @@ impl Pairing<'_> {
     fn make_pair(&mut self, index: u32, sought: &Sought) -> Outcome
         ensures pair { OnOk result (RatesPair (messages_of self.old) (messages_of self.new) index
             sought.now.index 1 true) }
+        ensures learnt { OnOk result (LearnsOfSend self.old index sought.now.node
+            self.new.meanings) }
         ensures same { OnOk result (self.new ≡ record self.old {
           messages = self.new.messages;
           meanings = self.new.meanings;
@@ -409,7 +426,9 @@ impl Pairing<'_> {
 
     /// Notes that the target of a send after so many gaps means a node, if it is that of a handle.
     fn learn_target(&mut self, generation: Option<u32>, gaps: u32, node: u32) -> Outcome
-        ensures { self.new ≡ record self.old { meanings = self.new.meanings } }
+        ensures same { self.new ≡ record self.old { meanings = self.new.meanings } }
+        ensures learnt { OnOk result (LearnsTarget self.old.meanings self.new.meanings generation
+            gaps node) }
     {
         match generation {
             Some(generation) => self.meanings.learn(generation, gaps, node),
@@ -560,7 +579,7 @@ impl Pairing<'_> {
 
 /// Puts each of these sends among those in doubt.
 fn doubt_each(waiting: &mut Waiting, fits: &[Fit]) -> Outcome
-    ensures { OnOk result (AllWait waiting.old waiting.new) }
+    ensures { OnOk result (DoubtsEach waiting.old waiting.new fits.now) }
 {
     for fit in fits {
         waiting.doubt(fit.listed)?;

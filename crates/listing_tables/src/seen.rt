@@ -153,7 +153,12 @@ impl Seen {
     /// Takes a delivery at this place that only a thread that takes calls gets. One that says so
     /// later took calls before the capture too.
     pub(crate) fn take_delivery(&mut self, utid: Utid, upid: Upid, place: u32) -> Outcome
-        ensures { TakesCalls self.entry.now utid.index place → self.exit.now ≡ self.entry.now }
+        ensures said { TakesCalls self.entry.now utid.index place →
+            self.exit.now ≡ self.entry.now }
+        ensures older { OnOk result ((TakesCalls self.entry.now utid.index place → ⊥) →
+            self.exit.now.old.all.items
+            ≡ slice_set self.entry.now.old.all.items upid.index true) }
+        ensures rest { self.exit.now ≡ record self.entry.now { old = self.exit.now.old } }
     {
         if is_said_before(self.threads.at(utid.index)?.takes_calls, place) {
             return Ok(());

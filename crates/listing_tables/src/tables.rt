@@ -5,7 +5,7 @@ ghost use Rattle.capture_frame.specs.Envelope.{placed_frame};
 ghost use Rattle.record_view.specs.State.{placed_record};
 ghost use Rattle.listing_tables.specs.Steps.{AddsMarked, IsKept, KeepsAll, Marked, WritesCalls};
 ghost use Rattle.listing_tables.specs.Steps.{marked_of};
-ghost use Rattle.listing_tables.specs.Tables.{KeepsLists, WritesTable};
+ghost use Rattle.listing_tables.specs.Tables.{ArePaired, KeepsLists, WritesTable};
 ghost use Rattle.listing_tables.specs.Walk.{HasNoSteps};
 
 use crate::calls::{Call, all_calls};
@@ -98,9 +98,10 @@ impl Tables {
         alloc: Global,
         rows: &mut RowWriter<W>,
     ) -> Outcome
-        ensures { OnOk result ((marked : List Marked) →
+        ensures calls { OnOk result ((marked : List Marked) →
             KeepsAll self.old.steps.entries.entries marked →
             WritesCalls rows.old rows.new marked) }
+        ensures paired { OnOk result (ArePaired self.new) }
     {
         let steps = mem::replace(&mut self.steps, Steps::empty(alloc));
         let calls = all_calls(alloc, &steps);

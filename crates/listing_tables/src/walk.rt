@@ -8,6 +8,7 @@ ghost use Rattle.record_view.specs.Records.{records_of};
 ghost use Rattle.transaction_view.specs.Grammar.{IsGood};
 ghost use Rattle.listing_fields.specs.Content.{record_of_item, records_left};
 ghost use Rattle.listing_tables.specs.Columns.{AddsRows};
+ghost use Rattle.listing_tables.specs.Tables.{ArePaired};
 ghost use Rattle.listing_tables.specs.Walk.{BeginsWith, HasNoSteps, IsFrameRow, counted_frames, record_begin, record_begins};
 ghost use Rattle.listing_tables.specs.Steps.{AddsMarked, IsKept, WritesCalls, marked_in, marked_of};
 
@@ -139,6 +140,7 @@ pub(crate) fn walk_to<W: Write + Drop>(
     ensures calls { IfOk result (λ done. WritesCalls
         (W.contents writers.calls) (W.contents done.1.calls)
         (flat_map marked_in (counted_frames (map (λ part. part.now) parts.now)))) }
+    ensures paired { OnOk result (ArePaired tables.new) }
 {
     let mut streams = Streams::new(alloc, writers);
     match walk_capture(alloc, parts, tables, &mut streams) {
@@ -167,6 +169,7 @@ fn walk_capture<W: Write + Drop>(
         (flat_map record_begins (counted_frames (map (λ part. part.now) parts.now)))) }
     ensures calls { OnOk result (WritesCalls streams.old.calls streams.new.calls
         (flat_map marked_in (counted_frames (map (λ part. part.now) parts.now)))) }
+    ensures paired { OnOk result (ArePaired tables.new) }
 {
     let (frames, ending) = frames_of(alloc, parts)?;
     tables.begin(ending);

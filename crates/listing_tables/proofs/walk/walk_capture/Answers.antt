@@ -12,7 +12,7 @@ returns-clause-calls g c =
     let counted : take count c.as_slice.result ≡ counted_frames parts = ap (take count) c.as_slice.ensures ∙ c.in_ok-frames.ensures.counted in
     let kept = c.in_ok-walked.ensures.marked []
     (subst (λ steps. KeepsAll steps.entries.entries []) (sym c.begin.ensures) c.requires.nothing) in
-    let written = c.in_ok-finish.ensures (flat_map marked_in (take count c.as_slice.result)) kept in
+    let written = c.in_ok-finish.ensures.calls (flat_map marked_in (take count c.as_slice.result)) kept in
     subst (λ (old : Option (List ℕ)). WritesCalls old c.finish.new.rows (flat_map marked_in (counted_frames parts)))
     c.in_ok-walked.ensures.calls
     (subst (λ frames. WritesCalls c.walk_frames-walked.new.streams.calls c.finish.new.rows (flat_map marked_in frames)) counted written)

@@ -24,4 +24,5 @@ returns c =
           ∙ set_same (map earlier_of list) index found.earlier
           (slice_get-map earlier_of list index ∙ ap (option_map earlier_of) (is ∙ ap Some (sym (same buffer is))));
       next = λ buffer is. ap earlier_of (same buffer is);
+      freed = c.in_ok-push.ensures.last;
     }

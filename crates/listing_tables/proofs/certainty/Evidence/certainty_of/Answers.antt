@@ -28,3 +28,11 @@ returns-else-message-clause-left c =
     leaves c.args.self.now c.args.sought.now c.look_at_all.new.fitting
     (holds_if c.in_ok-all_there.all_there c.in_ok-all_there.ensures (cc)) c.in_ok-look_at_all.ensures (cc) c.if-not-are_alike.ensures
     c.look_at_all.new.fitting (λ fit h. h)
+
+pub returns-then-not-are_alike-clause-left : goal.returns-then-not-are_alike-clause-left
+returns-then-not-are_alike-clause-left c = record {
+  has_all = holds_if c.in_ok-all_there.all_there c.in_ok-all_there.ensures (cc);
+  looks = c.in_ok-look_at_all.ensures;
+  whole = (cc);
+  rank = (cc);
+}

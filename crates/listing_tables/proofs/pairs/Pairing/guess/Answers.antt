@@ -1,11 +1,13 @@
 use Rattle.std.proofs.Common.{List, Some, None, inl, inr, refl, ap, subst}
 use Rattle.std.proofs.lemmas.Result.{on_ok_weaker}
 use Rattle.listing_tables.specs.Changes.{Rates}
+use Rattle.listing_tables.specs.Decisions.{KeepsWaiting}
 use Rattle.listing_tables.specs.Guesses.{IsGuess}
 use Rattle.listing_tables.specs.Pairing.{messages_of}
 use Rattle.listing_tables.specs.declared.fitting.Fitting.{Fitting}
 use Rattle.listing_tables.specs.declared.messages.Message.{Message}
 use Rattle.listing_tables.specs.declared.pairs.Pairing.{Pairing}
+use Rattle.listing_tables.proofs.DecisionLaws.{keeps_itself}
 use Rattle.listing_tables.proofs.PairLaws.{on_ok_always}
 use Rattle.listing_tables.proofs.pairs.Pairing.guess.Goals as goal
 
@@ -63,3 +65,18 @@ returns-in_default-clause-marks c =
         refl,
       );
     }
+
+pub returns-clause-kept : goal.returns-clause-kept
+returns-clause-kept c =
+    let guessed = c.in_ok-guess.ensures in
+    on_ok_always c.rate.result
+    (subst (λ (p : Pairing). KeepsWaiting p.waiting c.guess.new.self) c.in_ok-mark_all.ensures.same
+    (record { waits = guessed.kept; doubted = guessed.doubted; doubts = guessed.doubts }))
+
+pub returns-in_default-clause-kept : goal.returns-in_default-clause-kept
+returns-in_default-clause-kept c =
+    subst (λ (p : Pairing). KeepsWaiting p.waiting c.mark_all.new.self.waiting) c.in_ok-mark_all.ensures.same
+    (keeps_itself c.mark_all.new.self.waiting)
+
+pub returns-clause-fitting : goal.returns-clause-fitting
+returns-clause-fitting c = on_ok_always c.rate.result (ap (λ (p : Pairing). p.fitting) c.in_ok-mark_all.ensures.same)

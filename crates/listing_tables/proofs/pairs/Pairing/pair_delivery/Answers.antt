@@ -1,4 +1,5 @@
 use Rattle.std.proofs.Common.{List, true, false, inl, inr, refl, sym, ap, ◌∙◌, subst}
+use Rattle.listing_tables.specs.Decisions.{ComesInDoubt}
 use Rattle.std.proofs.lemmas.Result.{on_ok_weaker}
 use Rattle.listing_tables.specs.Changes.{RatesPair}
 use Rattle.listing_tables.specs.Pairing.{MarksFits, MarksSome, PairsDelivery, messages_of}
@@ -6,7 +7,9 @@ use Rattle.listing_tables.specs.declared.marks.Mark.{Mark}
 use Rattle.listing_tables.specs.declared.messages.Message.{Message}
 use Rattle.listing_tables.specs.declared.numbered.Numbered.{Numbered}
 use Rattle.listing_tables.specs.declared.pairs.Pairing.{Pairing}
-use Rattle.listing_tables.proofs.PairLaws.{guess_from, on_ok_always, pairs_guess, pairs_one, pairs_only}
+use Rattle.listing_tables.specs.declared.fitting.Fitting.{Fitting}
+use Rattle.listing_tables.proofs.DecisionLaws.{decides_none, decides_one, decides_sure}
+use Rattle.listing_tables.proofs.PairLaws.{guess_from, on_ok_always, on_ok_both, pairs_guess, pairs_one, pairs_only}
 use Rattle.listing_tables.proofs.pairs.Pairing.pair_delivery.Goals as goal
 
 pub returns-in-Sure-clause-pairs : goal.returns-in-Sure-clause-pairs
@@ -119,3 +122,53 @@ pub returns-in_ok-one_more-in-Unknown-clause-facts : goal.returns-in_ok-one_more
 returns-in_ok-one_more-in-Unknown-clause-facts c =
     on_ok_weaker c.guess-in-Unknown.result (λ facts. facts ∙ ap (λ (p : Pairing). p.facts) c.in_ok-note_crowded.ensures.same)
     c.guess-in-Unknown.ensures.facts
+
+pub returns-in-Sure-clause-decided : goal.returns-in-Sure-clause-decided
+returns-in-Sure-clause-decided c =
+    let taken = c.take.ensures in
+    on_ok_weaker c.take.result
+    (λ all. decides_sure c.args.self.now c.note_crowded.new.self c.take.new.self c.args.sought.now _
+    (record { messages = refl; calls = refl; generations = refl; seen = refl; meanings = refl; waiting = refl; marks = refl })
+    c.certainty_of.new.fitting c.in_ok-note_crowded.ensures.same c.in-Sure.fit (rw c.in-Sure.is at c.in_ok-certainty.ensures.justified)
+    all.0 all.1.0 all.1.1.0 all.1.1.1.0 all.1.1.1.1)
+    (on_ok_both _ _ c.take.result taken.pair (on_ok_both _ _ c.take.result taken.marks
+    (on_ok_both _ _ c.take.result taken.gone (on_ok_both _ _ c.take.result taken.others taken.counts))))
+
+pub returns-in-OneHandle-clause-decided : goal.returns-in-OneHandle-clause-decided
+returns-in-OneHandle-clause-decided c =
+    let taken = c.take_one.ensures in
+    on_ok_weaker c.take_one.result
+    (λ all. decides_one c.args.self.now c.note_crowded.new.self c.take_one.new.self c.args.sought.now _
+    (record { messages = refl; calls = refl; generations = refl; seen = refl; meanings = refl; waiting = refl; marks = refl })
+    c.certainty_of.new.fitting c.in_ok-note_crowded.ensures.same all.0 all.1.0
+    (inr (rw c.in-OneHandle.is at c.in_ok-certainty.ensures.left)) all.1.1.0 all.1.1.1 all.1.1.2)
+    (on_ok_both _ _ c.take_one.result taken.fitting (on_ok_both _ _ c.take_one.result taken.marks taken.doubts))
+
+pub returns-in_ok-guess-in-Several-clause-decided : goal.returns-in_ok-guess-in-Several-clause-decided
+returns-in_ok-guess-in-Several-clause-decided c =
+    let guessed = c.guess.new.self in
+    let was = c.in_ok-guess-in-Several.ensures in
+    let new = c.doubt_all.new.self in
+    let same = c.doubt_all.ensures.same in
+    let sought = c.args.sought.now in
+    let mid = c.note_crowded.new.self in
+    on_ok_weaker c.doubt_all.result
+    (λ doubts. decides_one c.args.self.now mid new sought _
+    (record { messages = refl; calls = refl; generations = refl; seen = refl; meanings = refl; waiting = refl; marks = refl })
+    c.certainty_of.new.fitting c.in_ok-note_crowded.ensures.same (ap (λ (p : Pairing). p.fitting) same ∙ was.fitting)
+    (subst (λ (l : List Mark). MarksFits sought.message.oneway mid.fitting sought.index mid.marks.all.items l)
+    (sym (ap (λ (p : Pairing). p.marks.all.items) same)) was.marks)
+    (inl (rw c.in-Several.is at c.in_ok-certainty.ensures.left)) guessed.waiting was.kept
+    (subst (λ (f : Fitting). ComesInDoubt guessed.waiting f.list.items sought.message.key new.waiting) was.fitting doubts))
+    c.doubt_all.ensures.doubts
+
+pub returns-in_ok-one_more-in-Unknown-clause-decided : goal.returns-in_ok-one_more-in-Unknown-clause-decided
+returns-in_ok-one_more-in-Unknown-clause-decided c =
+    let is = c.guess-in-Unknown.ensures in
+    let result = c.guess-in-Unknown.result in
+    on_ok_weaker result
+    (λ all. decides_none c.args.self.now c.note_crowded.new.self c.guess-in-Unknown.new.self c.args.sought.now _
+    (record { messages = refl; calls = refl; generations = refl; seen = refl; meanings = refl; waiting = refl; marks = refl })
+    c.certainty_of.new.fitting c.in_ok-note_crowded.ensures.same all.0 all.1.0
+    (rw c.in-Unknown.is at c.in_ok-certainty.ensures.left) all.1.1)
+    (on_ok_both _ _ result is.fitting (on_ok_both _ _ result is.marks is.kept))

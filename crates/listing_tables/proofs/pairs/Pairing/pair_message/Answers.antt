@@ -1,19 +1,24 @@
-use Rattle.std.proofs.Common.{ℕ, List, inr, ap, ◌≡◌, ◌∙◌, sym, subst, rules}
+use Rattle.std.proofs.Common.{ℕ, List, inl, inr, ap, ◌≡◌, ◌∙◌, sym, subst, rules}
 use Rattle.std.proofs.lemmas.Result.{on_ok_weaker}
-use Rattle.listing_tables.specs.Pairing.{ClosesCall, MarksSome}
+use Rattle.listing_tables.specs.Decisions.{NotesDelivery}
+use Rattle.listing_tables.specs.Pairing.{ClosesCall, MarksSome, messages_of}
 use Rattle.listing_tables.specs.declared.marks.Mark.{Mark}
 use Rattle.listing_tables.specs.declared.messages.Message.{Message}
 use Rattle.listing_tables.specs.declared.pairs.Pairing.{Pairing}
 use Rattle.listing_tables.specs.declared.waiting.Waiting.{Waiting}
+use Rattle.listing_tables.proofs.PairLaws.{on_ok_both}
 use Rattle.listing_tables.proofs.pairs.Pairing.pair_message.Goals as goal
 
 pub returns-in_ok-sought-in-Delivered-clause-turn : goal.returns-in_ok-sought-in-Delivered-clause-turn
 returns-in_ok-sought-in-Delivered-clause-turn c =
     let between = c.sought.new.self in
     let closed = c.close_send.new.self in
+    let is = c.in_ok-sought-in-Delivered.ensures in
     let waiting : between.waiting ≡ closed.waiting = ap (λ (p : Pairing). p.waiting) c.sought.ensures.same in
+    let noted = subst (λ (p : Pairing). NotesDelivery p c.in-Delivered.buffer c.in_ok-sought-in-Delivered.sought)
+    c.in_ok-close_send.ensures.same is.noted in
     on_ok_weaker c.pair_delivery.result
-    (λ pairs. inr (record {
+    (λ both. inr (record {
       buffer = c.in-Delivered.buffer;
       is = c.in-Delivered.is;
       alone = search rules;
@@ -22,11 +27,33 @@ returns-in_ok-sought-in-Delivered-clause-turn c =
           (c.sought.ensures.same ∙ ap (λ (p : Pairing). record p { handed = between.handed }) c.in_ok-close_send.ensures.same);
       closes = subst (λ (w : Waiting). ClosesCall c.args.self.now c.args.message.now w) (sym waiting) c.in_ok-close_send.ensures.closed;
       sought = c.in_ok-sought-in-Delivered.sought;
-      which = c.in_ok-sought-in-Delivered.ensures.index;
-      what = c.in_ok-sought-in-Delivered.ensures.message;
-      pairs = pairs;
+      which = is.index;
+      what = is.message;
+      noted = record {
+        buffer = noted.buffer;
+        there = noted.there;
+        sender = noted.sender;
+        node = noted.node;
+        leads = noted.leads;
+        at = noted.at;
+        process = noted.process;
+      };
+      pairs = both.0;
+      decides = both.1;
     }))
-    c.pair_delivery.ensures.pairs
+    (on_ok_both _ _ c.pair_delivery.result c.pair_delivery.ensures.pairs c.pair_delivery.ensures.decided)
+
+pub returns-in-Sent-clause-turn : goal.returns-in-Sent-clause-turn
+returns-in-Sent-clause-turn c =
+    let closed = c.in_ok-close_send.ensures in
+    on_ok_weaker c.add_send.result
+    (λ both. inl (record {
+      messages = ap messages_of both.0 ∙ ap messages_of closed.same;
+      between = c.close_send.new.self.waiting;
+      closes = closed.closed;
+      kept = both.1;
+    }))
+    (on_ok_both _ _ c.add_send.result c.add_send.ensures.same c.add_send.ensures.kept)
 
 pub returns-in_ok-sought-in-Delivered-clause-marks : goal.returns-in_ok-sought-in-Delivered-clause-marks
 returns-in_ok-sought-in-Delivered-clause-marks c =

@@ -1,4 +1,6 @@
-use Rattle.std.proofs.Common.{List, true, sym, ap, subst}
+use Rattle.std.proofs.Common.{List, true, sym, ap, subst, ◌∙◌}
+use Rattle.std.proofs.lemmas.Result.{on_ok_weaker}
+use Rattle.listing_tables.specs.Decisions.{ComesInDoubt, KeepsWaiting}
 use Rattle.listing_tables.specs.Pairing.{GuessesFit, MarksFits, messages_of}
 use Rattle.listing_tables.specs.declared.fitting.Fitting.{Fitting}
 use Rattle.listing_tables.specs.declared.marks.Mark.{Mark}
@@ -11,7 +13,7 @@ pub returns-clause-rates : goal.returns-clause-rates
 returns-clause-rates c =
     let old = c.args.self.now in
     let mid = c.learn_target.new.self in
-    let same = c.in_ok-learn_target.ensures in
+    let same = c.in_ok-learn_target.ensures.same in
     let guessed = messages_of c.guess.new.self in
     let fits = c.in_ok-fits.fits in
     on_ok_always c.doubt_all.result (
@@ -24,7 +26,7 @@ pub returns-clause-marks : goal.returns-clause-marks
 returns-clause-marks c =
     let old = c.args.self.now in
     let sought = c.args.sought.now in
-    let same = c.in_ok-learn_target.ensures in
+    let same = c.in_ok-learn_target.ensures.same in
     let guessed = c.guess.new.self.marks.all.items in
     on_ok_always c.doubt_all.result
     (subst (λ (l : List Mark). MarksFits sought.message.oneway old.fitting sought.index old.marks.all.items l)
@@ -32,3 +34,22 @@ returns-clause-marks c =
     (subst (λ (f : Fitting). MarksFits sought.message.oneway f sought.index old.marks.all.items guessed) (ap (λ (p : Pairing). p.fitting) same)
     (subst (λ (l : List Mark). MarksFits sought.message.oneway c.learn_target.new.self.fitting sought.index l guessed)
     (ap (λ (p : Pairing). p.marks.all.items) same) c.in_ok-guess.ensures.marks)))
+
+pub returns-clause-doubts : goal.returns-clause-doubts
+returns-clause-doubts c =
+    let same = c.in_ok-learn_target.ensures.same in
+    let guessed = c.guess.new.self in
+    on_ok_weaker c.doubt_all.result
+    (λ doubts. (
+      guessed.waiting,
+      subst (λ (p : Pairing). KeepsWaiting p.waiting guessed.waiting) same c.in_ok-guess.ensures.kept,
+      subst (λ (f : Fitting). ComesInDoubt guessed.waiting f.list.items c.args.sought.now.message.key c.doubt_all.new.self.waiting)
+          (c.in_ok-guess.ensures.fitting ∙ ap (λ (p : Pairing). p.fitting) same) doubts,
+    ))
+    c.doubt_all.ensures.doubts
+
+pub returns-clause-fitting : goal.returns-clause-fitting
+returns-clause-fitting c =
+    on_ok_always c.doubt_all.result
+    (ap (λ (p : Pairing). p.fitting) c.doubt_all.ensures.same ∙ c.in_ok-guess.ensures.fitting
+    ∙ ap (λ (p : Pairing). p.fitting) c.in_ok-learn_target.ensures.same)
