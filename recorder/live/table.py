@@ -45,7 +45,7 @@ ORDERS: list[Order] = [
     ("all", lambda rate: (-rate.all,)),
     ("sender", lambda rate: (rate.sender_name, rate.sender, -rate.times)),
     ("receiver", lambda rate: (rate.receiver_name, rate.receiver, -rate.times)),
-    ("method", lambda rate: (rate.interface, rate.code, -rate.times)),
+    ("method", lambda rate: (rate.interface, rate.code, rate.sender_name, rate.sender)),
 ]
 
 
