@@ -1,5 +1,5 @@
--- W4: listeners that fall behind, which are findings of their own, one for each node: oneway sends to it wait longer
--- and longer.
+-- W4, W12, W13: listeners that fall behind, which are findings of their own, one for each node: oneway sends to it wait
+-- longer and longer.
 -- needs: database/schema.sql: finding, raw_delivery, raw_record, raw_send, raw_thread, side_time; nodes.sql: node_of;
 --   records.sql: to_frozen; ages.sql: last, process_life; rule.sql: lossy
 -- after: used_up.sql
@@ -21,12 +21,18 @@
 --   rests on: VERY_LONG, LONG, NEARLY_ALL, OLD, ENOUGH, GROWN
 --   met by: `bursts()`: a client sends one each 5 ms, and its receiver takes 15 ms for each
 --   fault: bursts of oneway sends
+-- W13 explained: A short burst: nearly all sends to one object are of this process, and come faster than it takes them,
+--     at last over {LONG} late.
+--   next: whether the sender can send less often, or several in one
+--   rests on: VERY_LONG, LONG, NEARLY_ALL, ENOUGH, GROWN
+--   met by: `bursts()`: a client sends 120, one each 5 ms, and its receiver takes 15 ms for each
+--   fault: short bursts of oneway sends
 
 -- ---- what they say of which finding
 
 -- How long each oneway send waited for its delivery, or if it did not come, for the end of its receiver; but not those
 -- that waited for a thaw. Which of those that wait for one node a delivery belongs to may be a guess, which keeps their
--- order, as the driver does. Of these, those of the nodes for which one waited over :VERY_LONG.
+-- order, as the driver does. Of these, those of the nodes for which one waited over :LONG.
 -- beside: rule.sql
 CREATE TEMP TABLE slow_wait AS
 WITH oneway_wait AS MATERIALIZED (
@@ -41,7 +47,7 @@ WITH oneway_wait AS MATERIALIZED (
     AND (d.place IS NULL OR (t.upid, c.ptr, c.cookie) = (n.upid, n.ptr, n.cookie))
     AND n.upid NOT IN (SELECT upid FROM lossy))
 SELECT *, until - since AS wait FROM oneway_wait
-WHERE (upid, ptr, cookie) IN (SELECT upid, ptr, cookie FROM oneway_wait WHERE until - since > :VERY_LONG);
+WHERE (upid, ptr, cookie) IN (SELECT upid, ptr, cookie FROM oneway_wait WHERE until - since > :LONG);
 CREATE INDEX temp.slow_wait_of ON slow_wait(upid, ptr, cookie, place);
 -- The first and the last quarter of those that came: how many they are, their median, and the least.
 CREATE TEMP TABLE by_quarter AS
@@ -57,16 +63,17 @@ WHERE NOT came GROUP BY 1, 2, 3;
 CREATE UNIQUE INDEX temp.not_come_of ON not_come(upid, ptr, cookie);
 -- A listener that hangs takes nothing any more: of one that falls behind others came while what did not come waited.
 CREATE TEMP TABLE behind AS
-SELECT s.upid, s.ptr, s.cookie, u.place, u.n AS missing, u.wait, min(s.wait) AS quickest
+SELECT s.upid, s.ptr, s.cookie, u.place, u.n AS missing, u.wait, min(s.wait) AS quickest, u.wait AS least
 FROM not_come u JOIN slow_wait s USING (upid, ptr, cookie)
 WHERE s.came AND u.wait > :VERY_LONG GROUP BY 1, 2, 3
 HAVING sum(s.wait < u.wait / :OLD) >= :ENOUGH AND sum(s.until > u.since) >= :ENOUGH;
 INSERT INTO behind
 SELECT z.upid, z.ptr, z.cookie, (SELECT place FROM slow_wait s WHERE s.came
     AND (s.upid, s.ptr, s.cookie) = (z.upid, z.ptr, z.cookie) ORDER BY s.wait DESC, place LIMIT 1), 0,
-  (SELECT max(wait) FROM slow_wait s WHERE s.came AND (s.upid, s.ptr, s.cookie) = (z.upid, z.ptr, z.cookie)), a.least
+  (SELECT max(wait) FROM slow_wait s WHERE s.came AND (s.upid, s.ptr, s.cookie) = (z.upid, z.ptr, z.cookie)), a.least,
+  z.least
 FROM by_quarter a JOIN by_quarter z USING (upid, ptr, cookie)
-WHERE a.quarter = 1 AND z.quarter = 4 AND z.n >= :ENOUGH AND z.least > max(:VERY_LONG, :GROWN * a.median)
+WHERE a.quarter = 1 AND z.quarter = 4 AND z.n >= :ENOUGH AND z.least > max(:LONG, :GROWN * a.median)
   AND (z.upid, z.ptr, z.cookie) NOT IN (SELECT upid, ptr, cookie FROM behind);
 -- A burst, of one sender; its receiver takes each as soon as it has taken the one before.
 CREATE TEMP TABLE burst AS
@@ -81,8 +88,9 @@ WHERE w.longest < :LONG GROUP BY 1, 2, 3, 4 HAVING count(*) >= :NEARLY_ALL * w.n
 INSERT INTO finding(section, what, place, seq, upid, utid, code, ptr, cookie, relation, about, node, rule, culprit,
   said, how_long, usually, how_many, other_upid)
 SELECT 'queues', 'behind', b.place, r.seq, b.upid, r.utid, r.code, b.ptr, b.cookie, 'at', b.upid, b.ptr,
-  iif(k.sender NOTNULL, 'W12', 'W4'), k.sender,
+  CASE WHEN k.sender IS NULL THEN 'W4' WHEN b.least > :VERY_LONG THEN 'W12' ELSE 'W13' END, k.sender,
   iif(k.sender NOTNULL, '{who} sent {how_many}, and one waited {how_long}; each takes {usually}',
     'one waited {how_long}, an earlier one {usually}' || iif(b.missing, '; {how_many:send} did not come', '')),
   b.wait, coalesce(k.each, b.quickest), coalesce(k.n, b.missing), k.sender
-FROM behind b JOIN raw_record r USING (place) LEFT JOIN burst k USING (upid, ptr, cookie);
+FROM behind b JOIN raw_record r USING (place) LEFT JOIN burst k USING (upid, ptr, cookie)
+WHERE k.sender NOTNULL OR b.least > :VERY_LONG;

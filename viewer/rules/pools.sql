@@ -1,18 +1,19 @@
--- Pools that are used up: calls that waited long for their delivery, while all loopers of their server were busy, and
--- what kept these busy.
+-- Pools that are used up: calls that waited for their delivery, while all loopers of their server were busy, and what
+-- kept these busy.
 -- needs: database/schema.sql: finding, raw_call, raw_delivery, raw_record, raw_send, raw_thread, side_time;
 --   database/views.sql: sent_to; nodes.sql: node_of; ages.sql: last, life; rule.sql: lossy; waits.sql: queued;
 --   judging.py: call_name
--- makes: temporary tables: served_late, long_wait, looper_says, pool_looper, busy, full_wait, full_time, kept_by,
---   kept_by_method, kept_for; indexes: pool_looper_of, busy_at, full_wait_of
+-- makes: temporary tables: served_late, long_wait, looper_says, pool_looper, busy, full_wait, pool_wait, full_time,
+--   kept_by, kept_by_method, kept_by_caller, kept_for; indexes: pool_looper_of, busy_at, full_wait_of
 
--- The calls that waited over :VERY_LONG, from the send to the delivery to a thread that was in no call, or to the end.
+-- The calls that waited over :LONG, from the send to the delivery to a thread that was in no call; or to the end, over
+-- :VERY_LONG.
 -- beside: loading
 CREATE TEMP TABLE served_late AS
 SELECT s.place, s.utid, t.upid AS server, x.ts AS since, y.ts AS until
 FROM raw_call v JOIN raw_delivery d USING (place) JOIN raw_send s ON s.place = d.send
   JOIN raw_thread t ON t.utid = v.utid JOIN side_time x ON x.seq = s.seq JOIN side_time y ON y.seq = v.seq
-WHERE v.served AND v.depth = 1 AND s.certain AND y.ts - x.ts > :VERY_LONG;
+WHERE v.served AND v.depth = 1 AND s.certain AND y.ts - x.ts > :LONG;
 CREATE TEMP TABLE long_wait AS
 SELECT place, utid, server, since, until FROM served_late WHERE server NOT IN (SELECT upid FROM lossy)
 UNION ALL SELECT f.place, f.utid, q.upid, x.ts, x.ts + f.age
@@ -74,12 +75,16 @@ WHERE EXISTS (SELECT 1 FROM pool_looper k WHERE k.upid = w.server AND k.since <=
           WHERE b.utid = k.utid AND b.since <= w.since ORDER BY b.since DESC LIMIT 1), 0)
       < :NEARLY_ALL * (w.until - w.since));
 CREATE INDEX temp.full_wait_of ON full_wait(place);
+-- Where calls waited over :VERY_LONG, these alone say for what.
+CREATE TEMP TABLE pool_wait AS
+SELECT * FROM full_wait WHERE until - since > :VERY_LONG
+  OR server NOT IN (SELECT server FROM full_wait WHERE until - since > :VERY_LONG);
 -- The times when such calls waited, each as long as they follow one another.
 CREATE TEMP TABLE full_time AS
 SELECT server, min(since) AS since, max(until) AS until
 FROM (SELECT server, since, until, sum(begins) OVER (PARTITION BY server ORDER BY since, place) AS n
   FROM (SELECT server, place, since, until, coalesce(since > max(until) OVER (PARTITION BY server ORDER BY since, place
-      ROWS BETWEEN UNBOUNDED PRECEDING AND 1 PRECEDING), 1) AS begins FROM full_wait))
+      ROWS BETWEEN UNBOUNDED PRECEDING AND 1 PRECEDING), 1) AS begins FROM pool_wait))
 GROUP BY server, n;
 -- What its loopers were in then, and for how long.
 CREATE TEMP TABLE kept_by AS
@@ -100,6 +105,17 @@ FROM (SELECT k.server, k.place, k.utid, r.code, r.ptr, max(k.ns), sum(k.ns) AS n
   FROM kept_by k JOIN raw_record r USING (place) JOIN raw_thread t ON t.utid = r.utid LEFT JOIN raw_send s USING (place)
     LEFT JOIN node_of n ON n.generation = s.generation
   GROUP BY k.server, call, r.ptr);
+-- The process that did so by its calls and oneway sends for nearly all of that time, if these were several, also at once.
+CREATE TEMP TABLE kept_by_caller AS
+SELECT m.server, c.upid, c.n
+FROM kept_by_method m JOIN (
+    SELECT server, upid, sum(ns) AS ns, sum(n) AS n, max(n) AS at_once
+    FROM (SELECT k.server, t.upid, k.since, sum(k.ns) AS ns, count(*) AS n
+      FROM kept_by k JOIN raw_delivery d USING (place) JOIN raw_send s ON s.place = d.send
+        JOIN raw_thread t ON t.utid = s.utid
+      GROUP BY 1, 2, 3)
+    GROUP BY 1, 2) c USING (server)
+WHERE m.nth = 1 AND c.ns >= :NEARLY_ALL * m.whole AND c.n >= :OFTEN AND c.at_once > 1;
 -- A process that answers the calls which loopers make meanwhile, for nearly all of that time.
 CREATE TEMP TABLE kept_for AS
 SELECT k.server, s.upid, sum(min(coalesce(z.ts, k.until), k.until) - max(x.ts, k.since)) AS ns

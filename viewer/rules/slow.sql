@@ -29,12 +29,20 @@
 
 -- ---- what they say of which finding
 
--- Each method that a process called at an object, with its longest call.
+-- Each method that a process called at an object, with its longest call. What a process sent to many others by one code
+-- in oneway sends has its longest handler: the time from the delivery until its buffer is freed.
 -- beside: nodes.sql
 CREATE TEMP TABLE timed_path AS
-SELECT s.generation, s.code, s.longest, g.upid, n.upid AS server, n.ptr
+SELECT s.generation, s.code, s.oneway, s.longest, g.upid, n.upid AS server, n.ptr
 FROM sent_sum s JOIN raw_generation g ON g.id = s.generation JOIN node_of n ON n.generation = s.generation
-WHERE s.longest NOTNULL AND NOT s.oneway;
+WHERE s.longest NOTNULL OR s.oneway;
+UPDATE timed_path SET longest = (
+  SELECT max(z.ts - x.ts)
+  FROM raw_send s JOIN raw_record r USING (place) JOIN raw_delivery d ON d.place = s.delivery
+    JOIN side_time x ON x.seq = d.seq JOIN side_time z ON z.seq = d.seq + d.dur_seq
+  WHERE s.generation = timed_path.generation AND r.code = timed_path.code)
+WHERE oneway AND (upid, code) IN (SELECT upid, code FROM timed_path WHERE oneway GROUP BY 1, 2
+  HAVING count(DISTINCT server) >= :TOO_MANY);
 
 -- The calls of main threads of apps that took long, of each path the longest. An app has a user id of its own.
 CREATE TEMP TABLE slow_main AS
@@ -42,9 +50,9 @@ SELECT p.upid, p.server, p.ptr, p.code, c.place, c.seq, c.utid, z.ts - x.ts AS d
   row_number() OVER (path ORDER BY z.ts - x.ts DESC, c.place) AS nth
 FROM timed_path p JOIN process a USING (upid) JOIN thread t ON t.upid = a.upid AND t.tid = a.pid
   CROSS JOIN raw_send s CROSS JOIN raw_call c CROSS JOIN raw_record r CROSS JOIN side_time x CROSS JOIN side_time z
-WHERE p.longest > :LONG AND a.uid % 100000 BETWEEN :FIRST_APP AND :LAST_APP AND s.generation = p.generation
-  AND c.place = s.place AND c.utid = t.utid AND r.place = s.place AND r.code = p.code AND x.seq = c.seq
-  AND z.seq = c.seq + c.dur_seq AND z.ts - x.ts > :LONG
+WHERE p.longest > :LONG AND NOT p.oneway AND a.uid % 100000 BETWEEN :FIRST_APP AND :LAST_APP
+  AND s.generation = p.generation AND c.place = s.place AND c.utid = t.utid AND r.place = s.place AND r.code = p.code
+  AND x.seq = c.seq AND z.seq = c.seq + c.dur_seq AND z.ts - x.ts > :LONG
 WINDOW path AS (PARTITION BY p.upid, p.server, p.ptr, p.code);
 -- Whose the time was of the longest one: by process, and by what it was. A query for each call finds it by its place.
 CREATE TEMP TABLE slow_part AS
@@ -67,30 +75,32 @@ SELECT 'slow', 'main thread', m.place, m.seq, m.upid, m.utid, m.code, m.ptr, m.s
   (SELECT server FROM slow_part p WHERE p.place = m.place AND p.nth = 1 AND p.what <> 'unknown')
 FROM slow_main m WHERE m.nth = 1;
 
--- What a process told listeners of one interface by one code, each process that has some with its longest call.
+-- What a process told listeners of one interface by one code, each process that has some with its longest call, or
+-- handler.
 CREATE TEMP TABLE listener AS
 SELECT *, count(*) OVER told AS n, row_number() OVER (told ORDER BY longest) AS nth
-FROM (SELECT p.upid, p.code, o.interface, p.server, p.ptr, max(p.longest) AS longest
-  FROM timed_path p JOIN object_interface o ON (o.upid, o.ptr) = (p.server, p.ptr) GROUP BY 1, 2, 3, 4)
-WINDOW told AS (PARTITION BY upid, code, interface);
+FROM (SELECT p.upid, p.code, p.oneway, o.interface, p.server, p.ptr, max(p.longest) AS longest
+  FROM timed_path p JOIN object_interface o ON (o.upid, o.ptr) = (p.server, p.ptr)
+  WHERE p.longest NOTNULL GROUP BY 1, 2, 3, 4, 5)
+WINDOW told AS (PARTITION BY upid, code, oneway, interface);
 -- Those whose longest call is far longer than that of half of them, and then all their calls: it is the median that counts.
 CREATE TEMP TABLE late_listener AS
-SELECT l.*, m.longest AS usual FROM listener m JOIN listener l USING (upid, code, interface)
+SELECT l.*, m.longest AS usual FROM listener m JOIN listener l USING (upid, code, oneway, interface)
 WHERE m.nth = (m.n + 1) / 2 AND m.n >= :TOO_MANY AND l.longest > max(:LONG, :OLD * m.longest);
 CREATE TEMP TABLE slow_listener AS
 SELECT *
-FROM (SELECT l.server, l.ptr, l.code, l.n, l.usual, c.place, c.seq, d.utid, z.ts - x.ts AS dur,
-    row_number() OVER (PARTITION BY l.upid, l.code, l.server, l.ptr ORDER BY z.ts - x.ts) AS at,
-    count(*) OVER (PARTITION BY l.upid, l.code, l.server, l.ptr) AS calls
-  FROM late_listener l JOIN timed_path p USING (upid, code, server, ptr) CROSS JOIN raw_send s
-    CROSS JOIN raw_record r CROSS JOIN raw_call c CROSS JOIN side_time x CROSS JOIN side_time z
-    LEFT JOIN raw_delivery d ON d.place = s.delivery
-  WHERE s.generation = p.generation AND r.place = s.place AND r.code = p.code AND c.place = s.place AND x.seq = c.seq
-    AND z.seq = c.seq + c.dur_seq)
+FROM (SELECT l.server, l.ptr, l.code, l.oneway, l.n, l.usual, s.place, s.seq, d.utid, z.ts - x.ts AS dur,
+    row_number() OVER (PARTITION BY l.upid, l.code, l.oneway, l.server, l.ptr ORDER BY z.ts - x.ts) AS at,
+    count(*) OVER (PARTITION BY l.upid, l.code, l.oneway, l.server, l.ptr) AS calls
+  FROM late_listener l JOIN timed_path p USING (upid, code, oneway, server, ptr) CROSS JOIN raw_send s
+    CROSS JOIN raw_record r LEFT JOIN raw_call c ON c.place = s.place LEFT JOIN raw_delivery d ON d.place = s.delivery
+    JOIN side_time x ON x.seq = iif(l.oneway, d.seq, s.seq)
+    JOIN side_time z ON z.seq = iif(l.oneway, d.seq + d.dur_seq, c.seq + c.dur_seq)
+  WHERE s.generation = p.generation AND r.place = s.place AND r.code = p.code)
 WHERE at = (calls + 1) / 2 AND dur > max(:LONG, :OLD * usual);
 INSERT INTO finding(section, what, place, seq, upid, utid, code, ptr, relation, about, node, rule, said, how_long, usually,
   how_many)
-SELECT 'slow', 'listener', place, seq, server, utid, code, ptr, 'at', server, ptr, 'V2',
+SELECT 'slow', 'listener', place, seq, server, utid, code, ptr, iif(oneway, 'oneway at', 'at'), server, ptr, 'V2',
   'it takes {how_long}, half of {how_many:listener} {usually} at most', dur, usual, n
 FROM slow_listener;
 

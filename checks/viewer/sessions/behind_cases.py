@@ -74,7 +74,11 @@ def was_late_once(s):
 @case("W12:1", "(client 200 sent 160, and one waited 1.59 s; each takes 15 ms)", "W12 by client 200: 1",
       "maybe bursts of oneway sends: 1 of - code 7 at service 100 node 0x0 W12", every=5, takes=15, count=160)
 @case("W4:1", every=5, takes=15, count=160, senders=2)
-@case("", every=5, takes=15, count=120)
+@case("W13:1", "(client 200 sent 120, and one waited 1.19 s; each takes 15 ms)", "W13 by client 200: 1",
+      "explained short bursts of oneway sends: 1 of - code 7 at service 100 node 0x0 W13", every=5, takes=15, count=120)
+@case("W13:1", "one waited 180 ms", every=5, takes=8, count=60)
+@case("", every=5, takes=8, count=60, senders=2)
+@case("", every=5, takes=7, count=50)
 @case("W12:1", every=60, takes=98, count=60)
 def bursts(s, every, takes, count, senders=1):
     """The service is idle, and then is sent one each so many milliseconds, evenly, while it takes longer for each."""

@@ -28,7 +28,7 @@ def is_served(service, victim, waiting):
       "2 of victim 301, 1 of victim 300", "Q1 by service 100: 1", ": code 10 in thread 100")
 @case("Q2:1", "Q2 at 3160: code 10", "2 calls waited up to 1.21 s", victims=2, longer=100)
 @case("Q2:1", "2 calls waited up to 1.1 s (the median is 1 ms)", "1 of victim 300, 1 of victim 301", victims=2)
-@case("", took=900)
+@case("Q4:1", took=900)
 @case("", victims=1, free=True)
 @case("Q2:1", "for its 1 looper", victims=1, free="later")
 @case("Q2:1", "for its 1 looper", victims=1, free="exits")
@@ -167,6 +167,51 @@ def starves(s, good=30, each=1, own=False):
         client.main.answered(service.main.replies(address))
         for caller, sent in late:
             caller.answered(service.main.replies(service.main.gets(sent)))
+
+
+@case("Q3:1", "code 10 at service 100 node 0x0 (3 calls waited up to 161 ms (the median is 1 ms) for its 2 loopers: 3"
+      " of victim 300; 6 of client 200 kept them busy)", "Q3 by client 200: 1",
+      "maybe a queue behind the calls of one process: 1", "defect: a queue behind the calls of one process | client")
+@case("", took=85)
+@case("", by=(0, 0))
+@case("Q3:1", "code 10, code 11, code 12 at service 100", codes=(10, 11, 12))
+@case("", own=True)
+@case("Q3:1", by=(0, 0, 0, 0, 0, 1), codes=(10, 11))
+@case("Q4:1", "3 calls waited up to 161 ms", "3 of victim 300)", "Q4 by service 100: 1",
+      "explained a queue behind one method: 1", by=(0, 1, 2))
+@case("Q4:1", by=(0, 0, 0, 1))
+@case("", by=(0, 0, 0, 1), codes=(10, 11))
+@case("", by=(0, 1, 2), codes=(10, 11))
+@case("Q4:1", by=(0, 1, 2, 3, 4, 5), codes=(10, 10, 10, 10, 10, 11))
+@case("", by=(0, 1))
+@case("Q4:1", loopers=1)
+@case("Q3:1", "9 of client 200 kept them busy", loopers=1, at_once=3)
+@case("Q4:1", loopers=1, victims=3, by=(0,))
+@case("Q4:1", loopers=1, victims=3, by=(0,), at_once=2)
+@case("Q3:1", loopers=1, victims=3, by=(0,), at_once=3)
+@case("Q2:1", "1 call waited up to 1.0", last=1000)
+@case("Q3:1", "3 calls waited up to 9", last=900)
+def queue(s, took=150, by=(0, 0, 0), codes=(10,), loopers=2, victims=1, at_once=1, own=False, last=None):
+    """Clients keep the loopers of a service busy for a while, by turns, each looper with so many calls of one code, and
+    calls of a victim wait meanwhile."""
+    service, client = s.two()
+    pool = [service.main, *(service.looper(at) for at in range(1, loopers))]
+    clients = [client, *(s.process(201 + at, "client") for at in range(max(by)))]
+    callers = [[one.thread(5 + at) for at in range(loopers * at_once)] for one in clients]
+    victim = client if own else s.process(300, "victim")
+    waiting = [victim.main, *(victim.thread(at) for at in range(1, victims))]
+    for _ in range(4 * len(by)):
+        victim.main.asks(service.main)
+    for at, which in enumerate(by):
+        sent = [(one, one.sends(0, codes[at % len(codes)])) for one in callers[which]]
+        late = [one.sends(0, 1) for one in waiting]
+        for begin in range(0, len(sent), loopers):
+            kept = [(one, looper, looper.gets(call)) for (one, call), looper in zip(sent[begin:begin + loopers], pool)]
+            s.wait((last if last and at == len(by) - 1 else took) / at_once)
+            for one, looper, address in kept:
+                one.answered(looper.replies(address))
+        for one, call in zip(waiting, late):
+            one.answered(service.main.replies(service.main.gets(call)))
 
 
 @case("Q1:2", "3 of other 300", "3 of client 200")
@@ -336,13 +381,15 @@ def kept_by_a_oneway_transaction(s, by):
 @case("C7:1 A1:2 Q2:1", "it waited 1.1 s for a looper", since=50)
 @case("U2:1 A1:2 Q2:1", since=150)
 @case("C7:1 A1:2 Q2:1", since=150, usual=20)
-def still_served(s, since, usual=0):
+@case("C7:1 A1:2", "it waited 305 ms for a looper", since=50, took=300)
+@case("U2:1 A1:2", since=50, took=90)
+def still_served(s, since, usual=0, took=1100):
     """A call that waited for a looper has one for so long, at the end."""
     service, client = s.two()
     victim = s.process(300, "victim")
     for _ in range(4):
         victim.main.asks(service.main, 1, took=usual)
-    service.main.gets(waits_for_one(s, service, client, victim))
+    service.main.gets(waits_for_one(s, service, client, victim, took))
     s.wait(since)
 
 

@@ -2,6 +2,7 @@
 
 from checks.kit.tokens import marked
 from checks.viewer.sessions.cases import case
+from checks.viewer.sessions.session import ONE_WAY
 
 LISTENER, PACKAGES = marked("example.IListener"), marked("example.IPackages")
 
@@ -55,9 +56,17 @@ def app_waits_for_another(s):
 @case("V2:1", "it takes 124 ms", calls=3, slow_ones=2)
 @case("", differ=True)
 @case("", processes=9)
-def listeners(s, slow=120, count=11, usual=0, calls=1, slow_ones=1, differ=False, processes=100):
+@case("V2:1", "it takes 121 ms, half of 11 listeners 1 ms at most", "V2 by listener 310: 1",
+      "oneway IListener code 1 at listener 310", oneway=11)
+@case("", slow=95, oneway=11)
+@case("", oneway=9)
+@case("V2:1", "half of 10 listeners", count=20, oneway=10)
+@case("", usual=12, oneway=11)
+@case("V2:1", calls=3, slow_ones=2, oneway=11)
+@case("", calls=3, slow_ones=1, oneway=11)
+def listeners(s, slow=120, count=11, usual=0, calls=1, slow_ones=1, differ=False, processes=100, oneway=0):
     """A service tells listeners, of which one is slow, or slow now and then. Each is of a process of its own, or some
-    processes have several; and they may be of two interfaces."""
+    processes have several; and they may be of two interfaces. The last of them are told by oneway sends."""
     service, _ = s.two()
     threads = [s.process(300 + at, "listener").main for at in range(min(count, processes))]
     threads += threads[:count - len(threads)]
@@ -67,7 +76,12 @@ def listeners(s, slow=120, count=11, usual=0, calls=1, slow_ones=1, differ=False
         for at, thread in enumerate(threads):
             body = marked("example.IOther") if differ and at % 2 else LISTENER
             took = slow if at == count - 1 and call < slow_ones else usual
-            service.main.asks(thread, 1, 10 + at, 0x9000 + at // processes, took=took, body=body)
+            if at < count - oneway:
+                service.main.asks(thread, 1, 10 + at, 0x9000 + at // processes, took=took, body=body)
+                continue
+            address = thread.gets(service.main.sends(10 + at, 1, ONE_WAY, body=body), 0x9000 + at // processes)
+            s.wait(took)
+            thread.frees(address)
 
 
 @case("V3:1", "(20 times with the same data, once in 65 ms)", "V3 by client 200: 1", "IPackages code 7 to service 100",
