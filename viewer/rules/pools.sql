@@ -45,12 +45,12 @@ CREATE INDEX temp.pool_looper_of ON pool_looper(upid);
 
 -- What a looper is in: a call that it serves or makes, and a oneway transaction until it frees it, or to the end if it
 -- did nothing since. Where these overlap, the later one begins when the one before it ends. `before` is how long it was
--- busy before.
+-- busy before. `since` is an INTEGER, or the index would not find it.
 CREATE TEMP TABLE busy AS
 SELECT utid, place, since, until,
   sum(until - since) OVER (PARTITION BY utid ORDER BY since, place) - (until - since) AS before
-FROM (SELECT utid, place, until, max(since, coalesce(max(until) OVER (PARTITION BY utid ORDER BY since, place
-      ROWS BETWEEN UNBOUNDED PRECEDING AND 1 PRECEDING), since)) AS since
+FROM (SELECT utid, place, until, CAST(max(since, coalesce(max(until) OVER (PARTITION BY utid ORDER BY since, place
+      ROWS BETWEEN UNBOUNDED PRECEDING AND 1 PRECEDING), since)) AS INTEGER) AS since
   FROM (SELECT k.utid, c.place, x.ts AS since, coalesce(z.ts, k.until) AS until
     FROM pool_looper k CROSS JOIN raw_call c ON c.utid = k.utid AND c.depth = 1 JOIN side_time x ON x.seq = c.seq
       LEFT JOIN side_time z ON z.seq = c.seq + c.dur_seq

@@ -93,7 +93,7 @@ FROM (SELECT l.server, l.ptr, l.code, l.oneway, l.n, l.usual, s.place, s.seq, d.
     row_number() OVER (PARTITION BY l.upid, l.code, l.oneway, l.server, l.ptr ORDER BY z.ts - x.ts) AS at,
     count(*) OVER (PARTITION BY l.upid, l.code, l.oneway, l.server, l.ptr) AS calls
   FROM late_listener l JOIN timed_path p USING (upid, code, oneway, server, ptr) CROSS JOIN raw_send s
-    CROSS JOIN raw_record r LEFT JOIN raw_call c ON c.place = s.place LEFT JOIN raw_delivery d ON d.place = s.delivery
+    CROSS JOIN raw_record r LEFT JOIN raw_call c ON c.place = s.place JOIN raw_delivery d ON d.place = s.delivery
     JOIN side_time x ON x.seq = iif(l.oneway, d.seq, s.seq)
     JOIN side_time z ON z.seq = iif(l.oneway, d.seq + d.dur_seq, c.seq + c.dur_seq)
   WHERE s.generation = p.generation AND r.place = s.place AND r.code = p.code)
@@ -109,6 +109,8 @@ FROM slow_listener;
 -- beside: loading
 CREATE TEMP TABLE periodic AS
 SELECT * FROM again_sum WHERE n >= :AGAIN AND last - first > :VERY_LONG AND most <= :USUAL * least;
+DELETE FROM periodic WHERE generation NOT IN (SELECT generation FROM node_of)
+  OR EXISTS (SELECT 1 FROM raw_call c JOIN raw_object o ON o.place = c.closer WHERE c.place = periodic.place);
 INSERT INTO data_hash
 SELECT s.place, hash_of(r.attachment, r.data_size)
 FROM periodic p CROSS JOIN raw_send s ON s.generation = p.generation JOIN raw_record r ON r.place = s.place
@@ -121,5 +123,4 @@ SELECT 'slow', 'again', p.place, s.seq, g.upid, s.utid, p.code, n.ptr, n.upid, '
 FROM periodic p JOIN raw_generation g ON g.id = p.generation JOIN node_of n ON n.generation = p.generation
   JOIN raw_send s USING (place) JOIN data_hash f USING (place)
 WHERE p.n = (SELECT count(*) FROM raw_send x JOIN raw_record r USING (place) JOIN data_hash h USING (place)
-    WHERE x.generation = p.generation AND r.code = p.code AND h.hash = f.hash)
-  AND NOT EXISTS (SELECT 1 FROM raw_call c JOIN raw_object o ON o.place = c.closer WHERE c.place = p.place);
+    WHERE x.generation = p.generation AND r.code = p.code AND h.hash = f.hash);

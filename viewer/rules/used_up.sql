@@ -35,16 +35,17 @@
 
 -- ---- what they say of which finding
 
--- The median of the waits of all calls to these servers.
+-- The median of the waits of all calls to those servers where one waited over :VERY_LONG.
 CREATE TEMP TABLE usual_wait AS
 SELECT server, dur
 FROM (SELECT server, dur, row_number() OVER (PARTITION BY server ORDER BY dur) AS nth,
     count(*) OVER (PARTITION BY server) AS n
   FROM (SELECT t.upid AS server, max(y.ts - x.ts, 0) AS dur
-    FROM (SELECT 1 FROM pool_wait LIMIT 1) CROSS JOIN raw_call v JOIN raw_delivery d USING (place)
+    FROM (SELECT 1 FROM pool_wait WHERE until - since > :VERY_LONG LIMIT 1) CROSS JOIN raw_call v JOIN raw_delivery d USING (place)
       JOIN raw_send s ON s.place = d.send JOIN raw_thread t ON t.utid = v.utid JOIN side_time x ON x.seq = s.seq
       JOIN side_time y ON y.seq = v.seq
-    WHERE v.served AND v.depth = 1 AND s.certain AND t.upid IN (SELECT server FROM pool_wait)))
+    WHERE v.served AND v.depth = 1 AND s.certain
+      AND t.upid IN (SELECT server FROM pool_wait WHERE until - since > :VERY_LONG)))
 WHERE nth = (n + 1) / 2;
 -- If a call keeps the pool busy to the end, or is in a ring, that call is the finding, also where the loopers wait for
 -- it by other calls.
@@ -92,7 +93,7 @@ SELECT 'pools', 'used up', m.place, r.seq, u.server, m.utid, m.code, m.ptr, 'at'
   u.n,
   CASE WHEN u.caller NOTNULL THEN 'Q3' WHEN u.longest <= :VERY_LONG THEN 'Q4' WHEN u.is_real THEN 'Q1' ELSE 'Q2' END,
   counted(u.n, 'call') || ' waited up to ' || duration(u.longest)
-    || coalesce(' (the median is ' || duration(u.usual) || ')', '') || ' for '
+    || coalesce(' (the median is ' || nullif(duration(u.usual), '') || ')', '') || ' for '
     || (SELECT iif(p.known, 'its ', '') || counted(count(DISTINCT b.utid), 'looper') FROM kept_by b
       JOIN process_life p ON p.upid = b.server WHERE b.server = u.server)
     || ': ' || (SELECT group_concat(n || ' of ' || who, ', ') FROM (SELECT c.who, count(*) AS n

@@ -169,7 +169,7 @@ def starves(s, good=30, each=1, own=False):
             caller.answered(service.main.replies(service.main.gets(sent)))
 
 
-@case("Q3:1", "code 10 at service 100 node 0x0 (3 calls waited up to 161 ms (the median is 1 ms) for its 2 loopers: 3"
+@case("Q3:1", "code 10 at service 100 node 0x0 (3 calls waited up to 161 ms for its 2 loopers: 3"
       " of victim 300; 6 of client 200 kept them busy)", "Q3 by client 200: 1",
       "maybe a queue behind the calls of one process: 1", "defect: a queue behind the calls of one process | client")
 @case("", took=85)
