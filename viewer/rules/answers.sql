@@ -12,12 +12,14 @@
 -- R1 maybe: Nearly all calls of its path are answered with this status.
 --   next: what the status means, and what the callers ask for
 --   rests on: OFTEN, NEARLY_ALL
+--   of a part: what others are answered is not recorded
 --   met by: `answered_with_a_status()`: four calls of five
 -- R2 normal: Answered with a status.
 --   met by: `answered_with_a_status()`: two calls
 -- R3 maybe: All calls of its path are answered with this status from some call on, {TOO_MANY} or more, and none before.
 --   next: what happened to the process that answers at the time in the note
 --   rests on: TOO_MANY, ENOUGH
+--   of a part: what others are answered is not recorded
 --   met by: `begins_to_answer_with_a_status()`: ten calls after five good ones
 
 -- ---- what they say of which finding
