@@ -69,8 +69,8 @@ TEXTS = (
     "SELECT rule || ' at ' || place || ': code ' || code || ' in thread ' || thread"
     " FROM finding JOIN raw_thread USING (utid) WHERE section = 'pools'",
     "SELECT rule || ' of ' || w.who || ', ' || f.section || ' ' || f.what || ': frame ' || f.seq || ' at ' || f.place"
-    " || ', thread ' || coalesce(t.thread, '-') FROM finding f JOIN who w USING (upid) LEFT JOIN raw_thread t USING (utid)"
-    " WHERE f.section IN ('pools', 'queues', 'slow')",
+    " || ', thread ' || coalesce(t.thread, '-') FROM finding f JOIN who w USING (upid)"
+    " LEFT JOIN raw_thread t USING (utid) WHERE f.section IN ('pools', 'queues', 'slow')",
     "SELECT rule || ' by ' || who || ': ' || count(*) FROM finding f"
     " JOIN who w ON w.upid = coalesce(f.culprit, f.upid) GROUP BY rule, w.upid",
     "SELECT rule || ' at ' || coalesce(place, '-') || ': ' || coalesce(n_good, '-') || ' of ' || coalesce(n_all, '-')"

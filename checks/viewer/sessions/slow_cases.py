@@ -39,9 +39,9 @@ def app_waits(s, took, is_app=True, is_main=True, then=0, code=1, queue=0, by_ot
         (client.thread(1) if by_others else thread).asks(service.main, code, took=then)
 
 
-@case("V1:1", "(136 ms: 122 ms at work in power 300, 8 ms at work in service 100, 2 ms on the way back from service 100,"
-      " 2 ms on the way back from power 300)", "V1 by power 300: 1")
-@case("V1:1", "(142 ms: 123 ms at work in power 300, 10 ms at work in service 100, 4 ms on the way back from power 300,",
+@case("V1:1", "(136 ms: 122 ms at work in power 300, 8 ms at work in service 100, 2 ms on the way back from service"
+      " 100, 2 ms on the way back from power 300)", "V1 by power 300: 1")
+@case("V1:1", "(142 ms: 123 ms at work in power 300, 10 ms at work in service 100, 4 ms on the way back from power",
       "V1 by power 300: 1", times=2)
 def app_waits_for_another(s, times=1):
     """The service itself waits for another one, once or twice."""
@@ -156,9 +156,9 @@ def app_waits_for_the_unknown(s, seen=True):
 @case("", calls=3, slow_ones=1, oneway=11)
 def listeners(s, slow=120, count=11, usual=0, calls=1, slow_ones=1, differ=False, processes=100, oneway=0, quick=0,
               often=None, unfreed=0):
-    """A service tells listeners, of which one is slow, or slow now and then, and else takes longer than usual. Each is of
-    a process of its own, or some processes have several; and they may be of two interfaces. The last of them are told
-    by oneway sends; the first of them are quick, or do not return."""
+    """A service tells listeners, of which one is slow, or slow now and then, and else takes longer than usual. Each is
+    of a process of its own, or some processes have several; and they may be of two interfaces. The last of them are
+    told by oneway sends; the first of them are quick, or do not return."""
     service, _ = s.two()
     threads = [s.process(300 + at, "listener").main for at in range(min(count, processes))]
     threads += threads[:count - len(threads)]
