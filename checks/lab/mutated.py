@@ -143,7 +143,7 @@ def wrong_results(good: dict) -> Iterator[tuple[bytes, str]]:
     for wrong, file in (WRONG_FILES, json.loads(result.text_of(good))), (WRONG_BEFORE, of_form_2(good)):
         for path, value, says in wrong:
             made = json.loads(json.dumps(file))
-            parent_of(made, path)[path[-1]] = value
+            parent_of(made, path)[path[-1]] = value  # type: ignore[index]
             yield json.dumps(made).encode(), says
 
 
