@@ -36,6 +36,7 @@
 -- D11 maybe: {OFTEN} or more of its process are not acknowledged; it let go of each handle after it was told.
 --   next: the thread that reads deaths: it has to acknowledge each
 --   rests on: OFTEN
+--   of a part: whether it is the context manager is not recorded
 --   met by: `deaths_not_acknowledged()`: a service lets go of the handles of three dead, and acknowledges no death
 
 -- ---- what they say of which finding
