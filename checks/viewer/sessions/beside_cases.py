@@ -449,7 +449,8 @@ def taken_of_many(s, count):
 
 @case("H4:1 H5:4", twice=1)
 @case("C4:1 H5:4 A1:2", called=True)
-@case("C4:1 H9:8 A1:2", "(4 held at half of its time, 8 at the end)", called=True, grows=True)
+@case("C4:1 H9:8 A1:2", "(4 held at half of its time, 8 at the end; 8 of 8 that are kept are in use)", called=True,
+      grows=True)
 def kept_beside(s, twice=0, called=False, grows=False):
     """A client keeps what replies gave it. Another one of these it took twice, or a call to one is never answered."""
     manager, client, server = with_server(s)
