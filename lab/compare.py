@@ -13,7 +13,7 @@ from lab.known_until import Known
 from lab.power import Power
 from lab.renamed import Renamed, Text
 from lab.sides import Found, Seen, Sides, build_of, refuse_mix
-from lab.slower import Row as Timed, Times
+from lab.slower import COUNTS, Row as Timed, Times
 from viewer.defects.changes import GONE, GROWN, NEW, NOT_MET, SAME, WORSE
 from viewer.defects.known_keys import unseen_lines
 from viewer.defects.times import FASTER, SLOWER
@@ -123,18 +123,20 @@ class Comparison:
     def tested(self, found: dict[tuple[str, Text], list[Found]]) -> tuple[list[Row], list[Timed]]:
         """The defects and the methods, with the p of each test: of most a short look says that they can't be told."""
         tests = sum(self.may_tell(len(some)) + self.rate_may_tell(some) for some in found.values())
-        orders, looked = chance.orders_for(tests + len(self.times.tested), self.rate), chance.FEW_ORDERS
+        timed_tests = len(self.times.tested)
+        orders = chance.orders_for((tests + timed_tests) * (COUNTS if timed_tests else 1), self.rate)
+        looked = chance.FEW_ORDERS
         rows = [self.row(key, text, some) for (key, text), some in found.items()]
         timed = [self.times.row(method, self.times.p(method, looked, chance.FEW_MET))
                  for method in sorted(self.times.tested)]
         for enough in chance.FEW_MET, chance.MET:
             # No limit is larger than the one by the least that each p may be.
             limit = chance.limit([*(least for row in rows for least in row.least(looked)),
-                                  *(chance.least_after(row.p, looked) for row in timed)], self.rate)
+                                  *(row.least(looked) for row in timed)], self.rate)
             rows = [row if row.p_rate is None or chance.least_after(row.p_rate, looked) > limit
                     else row._replace(p_rate=self.rate_p(some, orders, enough))
                     for row, some in zip(rows, found.values())]
-            timed = [row if chance.least_after(row.p, looked) > limit
+            timed = [row if row.least(looked) > limit
                      else row._replace(p=self.times.p(row.method, orders, enough)) for row in timed]
             looked = orders
         return rows, timed

@@ -10,6 +10,11 @@ from lab.sides import Sides
 from viewer.defects.times import FACTOR, LEAST, PARTS, change_of, key_of, load_of
 
 
+# A p of a method counts so many times. There are many methods, and where devices differ in single ones, few samples: of
+# 700 comparisons of equal builds 11 had a line of a method without this, and 5 have one with it. A call that takes twice
+# as long is told all the same.
+COUNTS = 2
+
 # Devices differ if the mean squares between them are more than so many times as large as within them.
 DIFFERS = 1.5
 
@@ -41,6 +46,10 @@ class Row(NamedTuple):
     now: Side
     load: float
     p: float
+
+    def least(self, looked: int) -> float:
+        """How small p may be after a look at so many orders."""
+        return COUNTS * chance.least_after(self.p / COUNTS, looked)
 
     @property
     def what(self) -> str | None:
@@ -113,7 +122,7 @@ class Times:
         self.differ = {part: self.devices_differ(part) for part in PARTS}
         # Tests that could tell nothing do not count.
         self.tested = {method: samples for method, samples in self.tested.items()
-                       if self.orders(method, samples)[1].least_p <= rate}
+                       if COUNTS * self.orders(method, samples)[1].least_p <= rate}
 
     def read(self) -> None:
         sides = self.sides
@@ -181,7 +190,7 @@ class Times:
 
     def p(self, method: Method, most: int, enough: int) -> float:
         """The p of a permutation test of the ranks of the times beside the load, each less what is usual in its
-        group."""
+        group, as it counts."""
         samples = self.tested[method]
         design, orders = self.orders(method, samples)
         logs = [math.log(max(1, median(samples.beside[at] for at in sample))) for sample in design.samples]
@@ -191,7 +200,7 @@ class Times:
             for at in group:
                 aligned[at] = round(logs[at] - usual, 9)
         # Of few orders some may never be drawn.
-        return max(orders.p(enumerate(chance.ranks(aligned)), most, enough), orders.least_p)
+        return min(1.0, COUNTS * max(orders.p(enumerate(chance.ranks(aligned)), most, enough), orders.least_p))
 
     def row(self, method: Method, p: float) -> Row:
         samples = self.tested[method]
