@@ -347,6 +347,27 @@ def detached(stage: Stage) -> None:
     stage.nothing_left()
 
 
+def kept(stage: Stage) -> None:
+    """A flight recording keeps a set when a call hangs, while adb is away. --keep fetches it and one of now, and the
+    recording goes on. The page of the set begins with the call."""
+    stage.line(stage.record(stage.serials[0], "--detach", "--size", "1048576", "--keep-on", "hang:5s", "-o", "day"), 0,
+               *PREPARED, READY, r"record: 127\.\S+ records, also without the connection; .*")
+    stage.shell("(sleep 2; exec /system-programs/system hang) </dev/null >/dev/null 2>&1 &")
+    end_adbd(stage)
+    stage.connect(stage.serials[0])
+    stage.wait_for("a set", lambda: stage.shell(f"ls -d {FOLDER}/capture.kept-*").status == 0)
+    came = stage.record(stage.serials[0], "--keep", "-o", "day")
+    fetched = r"record: a set that was kept on 127\.\S+, \d+ files, .*; next: \S+view day\.kept-\S+/day-.*"
+    stage.line(came, 0, fetched, fetched, r"record: 127\.\S+ still records; .*")
+    command = came.said.partition("next: ")[2].split("\n")[0].split()
+    said = subprocess.run([*command, "--groups"], cwd=stage.given.out, capture_output=True, encoding="utf-8")
+    stage.must(f"the page of the set begins with {said.stdout[:300]} {said.stderr}",
+               re.match(r"kept\thang\t.*IClock code 3 .* has been open for 5\.\d s\tsystem\t", said.stdout) is not None)
+    came = stage.record(stage.serials[0], "--fetch", "-o", "day")
+    stage.must("frames are lost, or it was not fetched", came.status == 0 and " frames, 0 lost; " in came.said)
+    stage.nothing_left()
+
+
 def full_device(stage: Stage, name: str, *program: str) -> None:
     """The recording ends with the last whole frame, and is fetched, and so is what is said of that."""
     said = (r"record: capture\S*: No space left on device; the recording ends after number \d+",
@@ -399,7 +420,7 @@ def fetched_wrong(stage: Stage) -> None:
 
 # The order in which they are played; those of OTHERS only if they are named.
 SCENES = [no_device, two_devices, other_version, no_root, by_su, other_machine, no_btf, session, no_names, cable,
-          detached, full, no_byte, no_room, fetched_wrong, older_adb]
+          detached, kept, full, no_byte, no_room, fetched_wrong, older_adb]
 OTHERS = [no_bpf]
 # These need commands of a folder of their own, in place of which the shell of busybox takes those that it has itself.
 NOT_OF_BUSYBOX = [by_su, other_machine]

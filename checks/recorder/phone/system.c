@@ -1,6 +1,7 @@
 /* system: a small Android for a guest: a manager of names, services that register with it, and an app that calls them.
  * All are there long before a recording. The service `notes` never frees what comes with code 2. `system fill FOLDER`
- * calls one with much data, until the file system of a folder is full, and somewhat longer. */
+ * calls one with much data, until the file system of a folder is full, and somewhat longer. `system hang` makes a call
+ * that is answered after 20 s. */
 #define _GNU_SOURCE
 #include <stdio.h>
 #include <string.h>
@@ -8,7 +9,7 @@
 #include <unistd.h>
 #include "names.h"
 
-enum { KEEP = 2 };
+enum { KEEP = 2, HANG, HANG_SECONDS = 20 };
 
 static const struct service {
 	const char *process, *name, *interface;
@@ -62,6 +63,7 @@ static const struct service *own;
 static void serve_one(struct exchange *exchange, transaction *delivered)
 {
 	struct parcel parcel = {0};
+	if (delivered->code == HANG) sleep(HANG_SECONDS);
 	if (delivered->code == INTERFACE_TRANSACTION) put_string(&parcel, own->interface);
 	answer(exchange, delivered, &parcel);
 	if (delivered->code != KEEP || own != &services[NOTES]) free_buffer(exchange, delivered);
@@ -142,9 +144,16 @@ static void fill(const char *folder)
 	for (int i = 0; i < LONGER; i++) ask(exchange, handle, services, ECHO, 512);
 }
 
+static void hang(void)
+{
+	struct exchange *exchange = opened("binder");
+	ask(exchange, look_up_named(exchange, services[0].name), services, HANG, 4);
+}
+
 int main(int words, char **word)
 {
 	share_memory();
 	if (words > 2 && !strcmp(word[1], "fill")) fill(word[2]);
+	else if (words > 1 && !strcmp(word[1], "hang")) hang();
 	else begin_system();
 }
