@@ -10,9 +10,9 @@ from lab.sides import Sides
 from viewer.defects.times import FACTOR, LEAST, PARTS, change_of, key_of, load_of
 
 
-# A p of a method counts so many times. There are many methods, and where devices differ in single ones, few samples: of
-# 700 comparisons of equal builds 11 had a line of a method without this, and 5 have one with it. A call that takes twice
-# as long is told all the same.
+# A p of a method counts so many times. There are many methods, and where devices differ in single ones, few samples:
+# of 700 comparisons of equal builds 11 had a line of a method without this, and 5 have one with it. A call that takes
+# twice as long is told all the same.
 COUNTS = 2
 
 # Devices differ if the mean squares between them are more than so many times as large as within them.
