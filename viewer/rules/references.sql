@@ -364,11 +364,14 @@ GROUP BY 1 HAVING sum(k.in_use) > 0;
 UPDATE finding SET note = coalesce(note || '; ', '') || u.n || ' of ' || u.kept || ' that are kept are in use'
 FROM kept_handle k JOIN used_of_way u USING (way)
 WHERE rule IN ('H5', 'H9') AND k.generation = finding.generation;
--- A death recipient of libbinder keeps its object weakly, until it is unlinked. H4 and H11 say so themselves.
+-- A death recipient of libbinder keeps its object weakly, until it is unlinked. H4 and H11 say `weakly` themselves.
 CREATE TEMP TABLE weakly_kept AS
-SELECT f.id, EXISTS (SELECT 1 FROM finding q WHERE q.section = 'requests' AND q.generation = g.id) AS is_watched
-FROM finding f JOIN raw_generation g ON g.id = f.generation
-WHERE f.section = 'handles' AND f.what = 'held' AND f.rule NOT IN ('H4', 'H11') AND g.strong = 0 AND g.weak > 0;
+SELECT id, is_watched
+FROM (SELECT f.id, f.rule,
+    EXISTS (SELECT 1 FROM finding q WHERE q.section = 'requests' AND q.generation = g.id) AS is_watched
+  FROM finding f JOIN raw_generation g ON g.id = f.generation
+  WHERE f.section = 'handles' AND f.what = 'held' AND f.rule NOTNULL AND g.strong = 0 AND g.weak > 0)
+WHERE is_watched OR rule NOT IN ('H4', 'H11');
 UPDATE finding SET
   note = coalesce(note || '; ', '') || 'held weakly' || iif(k.is_watched, ', with a request for its death', '')
 FROM weakly_kept k WHERE k.id = finding.id;
