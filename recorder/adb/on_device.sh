@@ -4,9 +4,10 @@
 #         records, and passes on what the recorder says, first what the device lacks or that it is ready, until PROGRAM
 #         ends. Without PROGRAM it says when the recording has begun. Each line of standard input, and its end, is
 #         passed on as SIGINT, but for `keep`, which is SIGUSR1. With --live the recorder writes its lines of each second
-#         to the connection; a thread of its own does that. If NAMES is `services` or `all`, the managers are asked for the names of all services; if
-#         it is `all`, the packages and their user ids are asked for too, and are in capture.packages. COLLECT is who
-#         collects garbage before the recording ends: `nobody`, `apps`, or the names of processes, with commas between.
+#         to the connection; a thread of its own does that. If NAMES is `services` or `all`, the managers are asked for
+#         the names of all services; if it is `all`, the packages and their user ids are asked for too, and are in
+#         capture.packages. COLLECT is who collects garbage before the recording ends: `nobody`, `apps`, or the names of
+#         processes, with commas between.
 #     sh on_device.sh detach NAMES COLLECT [OPTION..] [-- PROGRAM ARGUMENT..]
 #         begins the same, and returns when the recording has begun, or has failed.
 #     sh on_device.sh end
@@ -15,9 +16,9 @@
 #         runs the program that is recorded, and then has the garbage collected.
 #
 # The folder has `state`: `recording`, and then the status of the recorder, or nothing if the device is full; `pid`;
-# `collect`, who collects garbage, until that is done; and `messages`, what the recorder says, of which so many bytes as `told` has were passed on when it began. The recorder
-# does not write to the connection itself, which may stall, but for these lines and the one that it is ready, before
-# PROGRAM begins.
+# `collect`, who collects garbage, until that is done; and `messages`, what the recorder says, of which so many bytes as
+# `told` has were passed on when it began. The recorder does not write to the connection itself, which may stall, but for
+# these lines and the one that it is ready, before PROGRAM begins.
 # It uses what toybox, mksh and busybox have.
 # shellcheck shell=dash
 umask 077
@@ -143,8 +144,12 @@ run() { # NAMES COLLECT [OPTION..] [-- PROGRAM ARGUMENT..]
 		if [ "$word" = -- ]; then set -- "$@" $program && program=; fi
 	done
 	if [ "$names" = all ]; then ask_packages & asker=$!; fi
-	if [ $live = none ]; then live=-; fi
-	RECORD_READY=3 RECORD_LIVE=5 setsid ./record -o capture "$@" </dev/null 3>&4 5>&$live 2>>messages 4>&- & recorder=$!
+	# The shell of busybox takes no `-` of a variable for a descriptor.
+	if [ $live = 4 ]; then
+		RECORD_READY=3 RECORD_LIVE=5 setsid ./record -o capture "$@" </dev/null 3>&4 5>&4 2>>messages 4>&- & recorder=$!
+	else
+		RECORD_READY=3 setsid ./record -o capture "$@" </dev/null 3>&4 2>>messages 4>&- & recorder=$!
+	fi
 	# Until setsid has become the recorder, or that has ended.
 	while [ -e /proc/$recorder/exe ] && ! [ /proc/$recorder/exe -ef record ]; do sleep 0.1; done
 	echo $recorder >pid
