@@ -21,6 +21,7 @@ prints nothing. Otherwise it prints what was expected and what came, and ends wi
 """
 
 import argparse
+import itertools
 import os
 import pathlib
 import re
@@ -40,10 +41,16 @@ STRANGE = re.compile("[^ -~\n…]")
 
 
 class Terminal:
-    """A terminal of tmux, in which a command runs until it ends."""
+    """A terminal of tmux, in which a command runs until it ends.
+
+    Each has a server of its own, because a server that was told to end still takes a session, and it ends with it.
+    """
+
+    numbers = itertools.count()
 
     def __init__(self, room: pathlib.Path, width: int, height: int, words: list[str], environment: dict[str, str]):
         self.room, self.environment = room, {**os.environ, "TMUX_TMPDIR": str(room), "LC_ALL": "C.UTF-8"}
+        self.server = f"checks{next(self.numbers)}"
         self.environment.pop("TMUX", None)
         line = shlex.join(["env", *(f"{name}={value}" for name, value in environment.items()), *words])
         (room / "run").write_text(f"trap : INT\n{line}\nstatus=$?\necho\necho ended with $status\nsleep 600\n", "utf-8")
@@ -51,8 +58,11 @@ class Terminal:
                   shlex.join(["bash", str(room / "run")]))
 
     def tmux(self, *words: str) -> str:
-        return subprocess.run(["tmux", "-L", "checks", *words], env=self.environment, capture_output=True,
-                              encoding="utf-8", errors="replace").stdout
+        done = subprocess.run(["tmux", "-L", self.server, *words], env=self.environment, capture_output=True,
+                              encoding="utf-8", errors="replace", check=False)
+        if done.returncode:
+            raise RuntimeError(f"tmux {words}: status {done.returncode}, said {done.stderr!r}")
+        return done.stdout
 
     def shown(self) -> str:
         return self.tmux("capture-pane", "-p")
@@ -195,7 +205,7 @@ def check_hostile(stage: Stage) -> None:
                             r"^ +\d+ +\d+  \\x1b\[31\S*…\S* 4000 +\\x1b\[31\S*…\S* 4000 +IHostile code 1$",
                             "cameraserver 3000$")
             title = terminal.tmux("display-message", "-p", "#{pane_title}")
-            if "no" in title:
+            if title.rstrip("\n") == "no":
                 stage.fail(f"a name has set the title: {title!r}")
             terminal.press("q")
             terminal.wait_for("^ended with")
