@@ -2,7 +2,7 @@
 
     proved/KEY/     a library NAME.rlib, or NAME.o of a program; NAME.log, all that the prover said; and `sum`. KEY is a
                     sum of all that the crate is made from: its sources, the libraries below it as they are kept, and
-                    the toolchain. While the crate is proved the folder is KEY.new, and locked
+                    the toolchain. While the crate is proved the folder is KEY.new, and locked. What is kept first stays
     programs/SUM/   a linked program, by the sum of all sources that it is made from; and `noted`
 
 The cache is outside of the repository: a kept library holds sources of its crate, and `rt` refuses a repository with
@@ -122,16 +122,30 @@ class Kept:
         return Unfinished(folder, held)
 
     def keep(self, crate: Crate, key: str, unfinished: "Unfinished") -> bool:
-        """Keeps a crate that was made and proved, if no source was changed while it was. Returns whether none was."""
-        found = self.sum_in(crate, unfinished.folder)
+        """Keeps a crate that was made and proved, if no source was changed while it was. Returns whether none was. What
+        another clone has kept of the crate meanwhile stays, as crates above it may have been made from that."""
         is_same = self.key(crate) == key
-        if is_same:
-            (unfinished.folder / "sum").write_text(f"{key} {found}\n", "utf-8")
-            remove(crate.entry)
-            unfinished.folder.rename(crate.entry)
-            self.sums[crate.name] = found
-        unfinished.end()
+        if is_same and not self.has(crate, key):
+            self.put(crate, key, unfinished.folder)
+            unfinished.end()
+        else:
+            unfinished.drop()
         return is_same
+
+    def keep_made(self, crate: Crate, key: str, made: pathlib.Path, said: str) -> None:
+        """Keeps a library that was proved elsewhere, even while a build in another clone proves it."""
+        folder = crate.entry.with_suffix(f".{os.getpid()}")
+        folder.mkdir()
+        shutil.move(made, folder / crate.made_name)
+        (folder / f"{crate.name}.log").write_text(said, "utf-8")
+        self.put(crate, key, folder)
+
+    def put(self, crate: Crate, key: str, folder: pathlib.Path) -> None:
+        found = self.sum_in(crate, folder)
+        (folder / "sum").write_text(f"{key} {found}\n", "utf-8")
+        remove(crate.entry)
+        folder.rename(crate.entry)
+        self.sums[crate.name] = found
 
     @staticmethod
     def verdict(crate: Crate) -> str:

@@ -1,4 +1,4 @@
-# What the scripts `audit` and `listing` say on standard error before the program does: which word the program won't
+# What the script `audit` says on standard error before the program does: which word the program won't
 # take, or which file it can't open. The program's own line, which comes then, names neither. These functions only look:
 # no file is opened that can be opened, so nothing is taken from a pipe. Of what is not sure they say nothing.
 #

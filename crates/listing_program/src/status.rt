@@ -2,7 +2,7 @@
 
 use audit_streams::write_text;
 use listing_fields::ListingError;
-use listing_words::{HELP, Request, WordsError, request_of};
+use listing_words::{Request, WordsError, request_of};
 use std::alloc::{AllocError, Global};
 use std::env::Args;
 use std::fs::Files;
@@ -55,10 +55,6 @@ fn answer_words<A: Answer, T: Files, W: Write, E: Write>(
             let answered = A::answer(rt, alloc, &request, out, err);
             request.discard();
             answered
-        }
-        Err(WordsError::Help) => {
-            write_text(out, HELP.as_bytes())?;
-            Ok(0)
         }
         Err(WordsError::Memory) => Err(ListingError::Memory),
         Err(WordsError::Usage) => Err(ListingError::Usage),

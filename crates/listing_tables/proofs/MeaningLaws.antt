@@ -58,6 +58,12 @@ take_next [] i x h = absurd (none_some x h)
 take_next {X} (y ∷ xs) zero x h = ap (λ (z : X). z ∷ []) (same_some y x h)
 take_next {X} (y ∷ xs) (suc i) x h = ap (λ (l : List X). y ∷ l) (take_next xs i x h)
 
+-- an element that is put where it is changes nothing
+pub set_itself : {X : Type 0} (xs : List X) (i : ℕ) (x : X) → slice_get xs i ≡ Some x → set xs i x ≡ xs
+set_itself [] i x h = absurd (none_some x h)
+set_itself {X} (y ∷ xs) zero x h = ap (λ (z : X). z ∷ xs) (sym (same_some y x h))
+set_itself {X} (y ∷ xs) (suc i) x h = ap (λ (l : List X). y ∷ l) (set_itself xs i x h)
+
 -- all pairs are spread
 pub spread_all : (old new : List Meaning) (pairs same : List (ℕ × ℕ)) (at : ℕ) → pairs ≡ same → length same ≤ at
     → SpreadsEach old new (take at pairs) → SpreadsEach old new same

@@ -1,5 +1,5 @@
 -- The steps of pairing, by what each part of them does.
-use Rattle.std.proofs.Common.{◌≡◌, ◌≢◌, ⊎_elim, inl, inr, ℕ, ◌-◌, zero, suc, Bool, true, false, List, [], ◌∷◌, ◌++◌, take, Option, Some, None, slice_get, refl, sym, ap, subst, ◌∙◌, arith}
+use Rattle.std.proofs.Common.{◌≡◌, ◌≢◌, ⊎_elim, inl, inr, ℕ, ◌-◌, zero, suc, Bool, true, false, cond, List, [], ◌∷◌, ◌++◌, take, Option, Some, None, slice_get, refl, sym, ap, subst, ◌∙◌, arith}
 use Rattle.std.specs.Bool.{OnTrue}
 use Rattle.std.specs.Prelude.{Result, Ok, Err, OnOk, replicate}
 use Rattle.listing_tables.specs.Certainty.{AreOfOneGeneration, HasAll, IsIn, IsOnlyOne, LooksAtAll}
@@ -43,6 +43,10 @@ on_true_weaker false f p = tt
 pub on_true_from : {P : Type 0} (b : Bool) → (b ≡ true → P) → OnTrue b P
 on_true_from true f = f refl
 on_true_from false f = tt
+
+pub still_true : (b a : Bool) → a ≡ true → cond b true a ≡ true
+still_true true a h = refl
+still_true false a h = h
 
 -- two facts at Ok
 pub on_ok_both : {T E : Type 0} (P Q : Type 0) (r : Result T E) → OnOk r P → OnOk r Q → OnOk r (P × Q)

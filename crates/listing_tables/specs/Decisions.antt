@@ -1,7 +1,7 @@
 -- What is noted of a delivery whose send is looked for, what is decided of it, and what is learnt of a certain pair
 -- (docs/DATABASE.md#send).
-use Rattle.std.specs.Prelude.{◌≡◌, ◌⊎◌, ◌==◌, ◌&&◌, ℕ, Bool, true, false, List, [], ◌∷◌, Option, None, Some, slice_get}
-use Rattle.indexmap.specs.IndexSet.{insert_index}
+use Rattle.std.specs.Prelude.{◌≡◌, ◌⊎◌, ◌==◌, ◌&&◌, ◌||◌, ℕ, nat_eq, Bool, not, true, false, List, [], ◌∷◌, Option, None, Some, slice_get}
+use Rattle.indexmap.specs.IndexSet.{contains, insert_index}
 use Rattle.listing_tables.specs.declared.buffers.Buffer.{Buffer}
 use Rattle.listing_tables.specs.declared.certainty.Evidence.{Evidence}
 use Rattle.listing_tables.specs.declared.certainty.Sought.{Sought}
@@ -38,7 +38,8 @@ node_of_path path = record { upid = path.upid; ptr = path.target; cookie = path.
 
 -- the path at an index among the paths of all messages leads to this node
 abbrev pub LeadsTo : Messages → ℕ → Node → Type 0
-LeadsTo messages index node = (path : Path) × (slice_get messages.paths.keys index ≡ Some path) × (node ≡ node_of_path path)
+LeadsTo messages index node =
+    (path : Path) × (slice_get messages.paths.keys index ≡ Some path) × (node ≡ node_of_path path)
 
 -- What is noted of a delivery that brings the buffer at an index: the sender_pid of the buffer, the node that its path
 -- leads to, by the index of that, and the process of the node.
@@ -50,6 +51,11 @@ pub record NotesDelivery (pairing : Pairing) (index : ℕ) (sought : Sought) : T
   pub leads : LeadsTo pairing.messages buffer.path node
   pub at : sought.node ≡ index_of_node pairing.handed node
   pub process : sought.upid ≡ node.upid
+
+-- if more sends of the delivery's key waited than were looked at, that is noted of the key; what was noted of keys stays
+pub record NotesCrowded (old : Pairing) (sought : Sought) (new : Pairing) : Type 0 where
+  pub crowded : new.fitting.is_whole ≡ false → contains nat_eq new.crowded sought.message.key ≡ true
+  pub stays : (key : ℕ) → contains nat_eq old.crowded key ≡ true → contains nat_eq new.crowded key ≡ true
 
 -- ---- what waits after a delivery
 
@@ -75,7 +81,7 @@ pub record ComesInDoubt (old : Waiting) (fits : List Fit) (key : ℕ) (new : Wai
 -- ---- what is decided of a delivery
 
 -- A delivery is sure to come from one send. They are a pair, which is certain, nothing is marked, and the send does not
--- wait any more.
+-- wait any more. Another walk may find more, unless the send had certainly not come before.
 pub record IsSure (old : Pairing) (sought : Sought) (new : Pairing) : Type 0 where
   pub evidence : Evidence
   pub known : IsEvidenceOf old evidence
@@ -86,6 +92,7 @@ pub record IsSure (old : Pairing) (sought : Sought) (new : Pairing) : Type 0 whe
   pub gone : waits new.waiting (entry_of fit.listed) ≡ false
   pub others : OthersWaitBut (entry_of fit.listed) old.waiting new.waiting
   pub counts : CountsLeaving old.waiting fit.listed 0 new.waiting
+  pub news : new.news ≡ (old.news || not fit.fresh)
 
 -- the delivery may have come from none of the sends that fit, as far as is known: none of them comes into doubt
 pub record MayBeNone (evidence : Evidence) (sought : Sought) (old new : Pairing) : Type 0 where
@@ -100,12 +107,14 @@ pub record IsOneOf (evidence : Evidence) (sought : Sought) (old new : Pairing) :
   pub doubts : ComesInDoubt guessed new.fitting.list.items sought.message.key new.waiting
 
 -- It is left open from which send a delivery came. The sends that fit are marked by it, if nothing speaks against them,
--- and of the one that is guessed it is noted that the delivery took it.
+-- and of the one that is guessed it is noted that the delivery took it. Whether another walk may find
+-- more stays as it was.
 pub record LeavesOpen (old : Pairing) (sought : Sought) (new : Pairing) : Type 0 where
   pub evidence : Evidence
   pub known : IsEvidenceOf old evidence
   pub marks : MarksFits sought.message.oneway new.fitting sought.index old.marks.all.items new.marks.all.items
   pub how : MayBeNone evidence sought old new ⊎ IsOneOf evidence sought old new
+  pub news : new.news ≡ old.news
 
 -- a delivery is sure to come from one send, or it is left open
 abbrev pub Decides : Pairing → Sought → Pairing → Type 0

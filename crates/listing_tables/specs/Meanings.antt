@@ -1,5 +1,5 @@
 -- What is noted and made known of the nodes that generations mean (docs/DATABASE.md#send).
-use Rattle.std.specs.Prelude.{◌≡◌, ◌⊎◌, ℕ, List, [], ◌∷◌, ◌++◌, Some, map, slice_get, slice_set}
+use Rattle.std.specs.Prelude.{◌≡◌, ◌⊎◌, ℕ, Bool, false, List, [], ◌∷◌, ◌++◌, Some, map, slice_get, slice_set}
 use Rattle.listing_tables.specs.declared.generations.Generation.{Generation}
 use Rattle.listing_tables.specs.declared.handed.Handed.{Handed}
 use Rattle.listing_tables.specs.declared.handed.Object.{Object}
@@ -52,9 +52,13 @@ SpreadsEach old new (pair ∷ pairs) =
 abbrev pub made_known : Meaning → Meaning
 made_known meaning = record meaning { known = meaning.learnt }
 
--- what was noted of all generations, and is spread over these pairs of them, is known
-abbrev pub MakesAllKnown : List Meaning → List Meaning → List (ℕ × ℕ) → Type 0
-MakesAllKnown old new pairs = (between : List Meaning) × SpreadsEach old between pairs × (new ≡ map made_known between)
+-- What was noted of all generations, and is spread over these pairs of them, is known. If it is said that this is no more
+-- than before, all that is noted was known.
+pub record MakesAllKnown (old new : List Meaning) (pairs : List (ℕ × ℕ)) (more : Bool) : Type 0 where
+  pub between : List Meaning
+  pub spreads : SpreadsEach old between pairs
+  pub known : new ≡ map made_known between
+  pub same : more ≡ false → new ≡ between
 
 -- it is noted that a generation means a node, unless more or fewer gaps come before its begin than these
 abbrev pub LearnsNode : Meanings → Meanings → ℕ → ℕ → ℕ → Type 0

@@ -35,8 +35,9 @@ calls_of pairing = pairing.facts.calls.now.all.items
 
 -- ---- the begin of a walk
 
--- What an earlier walk made of messages is not kept: no send waits, no message is marked, and of no key it is noted that
--- more sends waited than were looked at. The pairs and the meanings that are known stay.
+-- What an earlier walk made of messages is not kept: no send waits, no message is marked, of no key it is noted that more
+-- sends waited than were looked at, and nothing was found by which another walk may find more. The pairs and the meanings
+-- that are known stay.
 pub record BeginsWalk (old new : Pairing) : Type 0 where
   pub waits : HasNone new.waiting
   pub crowded : (key : ℕ) → contains nat_eq new.crowded key ≡ false
@@ -44,6 +45,7 @@ pub record BeginsWalk (old new : Pairing) : Type 0 where
   pub messages : new.messages ≡ old.messages
   pub meanings : new.meanings ≡ old.meanings
   pub facts : new.facts ≡ old.facts
+  pub news : new.news ≡ false
 
 -- ---- the sends that wait
 
@@ -60,7 +62,8 @@ abbrev pub ClosesNothing : Pairing → Message → Type 0
 ClosesNothing pairing message =
     (call : Call) → IsAt (calls_of pairing) message.call call
     → (call.served ≡ true) ⊎ (call.place ≡ message.place)
-    ⊎ ((send : Message) × (slice_get (messages_of pairing) call.opener ≡ Some send) × (send.partner ≢ None))
+    ⊎ ((send : Message) × (slice_get (messages_of pairing) call.opener ≡ Some send)
+    × (send.partner ≢ None))
 
 -- A message closes a call of which the delivery is still looked for. The send of the call does not wait any more in the
 -- list of its node, and all others do.
@@ -81,7 +84,8 @@ pub record ClosesSend (old : Pairing) (message : Message) (new : Waiting) : Type
 
 -- the send of the call that a message closes is taken out, if its delivery is still looked for
 abbrev pub ClosesCall : Pairing → Message → Waiting → Type 0
-ClosesCall old message new = (ClosesNothing old message × (new ≡ old.waiting)) ⊎ ClosesSend old message new
+ClosesCall old message new =
+    (ClosesNothing old message × (new ≡ old.waiting)) ⊎ ClosesSend old message new
 
 -- ---- the rule for sends that wait
 
@@ -125,14 +129,15 @@ pub record Guesses (oneway : Bool) (old new : List Message) : Type 0 where
 -- what may become of the messages where the send of a delivery is looked for
 abbrev pub PairsDelivery : Pairing → Sought → List Message → Type 0
 PairsDelivery pairing sought new =
-    (new ≡ messages_of pairing) ⊎ Guesses sought.message.oneway (messages_of pairing) new ⊎ TakesOneOf pairing sought new
-    ⊎ TakesOnly pairing sought new
+    (new ≡ messages_of pairing) ⊎ Guesses sought.message.oneway (messages_of pairing) new
+    ⊎ TakesOneOf pairing sought new ⊎ TakesOnly pairing sought new
 
 -- of the fits of a delivery, which may be oneway, that one is rated so which is guessed; without one no message changes
 abbrev pub GuessesFit : Bool → List Message → List Message → Fitting → ℕ → Bool → Type 0
 GuessesFit oneway old new fitting count sure =
     ((new ≡ old) × IsGuess oneway fitting.list.items None)
-    ⊎ ((fit : Fit) × IsGuess oneway fitting.list.items (Some fit) × Rates old new fit.listed.index count sure)
+    ⊎ ((fit : Fit) × IsGuess oneway fitting.list.items (Some fit)
+    × Rates old new fit.listed.index count sure)
 
 -- ---- the rule for calls that must have come
 
@@ -197,16 +202,19 @@ pub record MarksFits (oneway : Bool) (fitting : Fitting) (delivery : ℕ) (old n
   pub marked : fitting.rank ≡ 0 → MarksEach old between fitting.list.items delivery
   pub unmarked : fitting.rank ≢ 0 → between ≡ old
   pub noted : (IsGuess oneway fitting.list.items None × (new ≡ between))
-      ⊎ ((fit : Fit) × IsGuess oneway fitting.list.items (Some fit) × NotesGuess between new fit.listed.index delivery)
+      ⊎ ((fit : Fit) × IsGuess oneway fitting.list.items (Some fit)
+      × NotesGuess between new fit.listed.index delivery)
 
 -- what is marked where the send of a delivery is looked for, which may be oneway
 abbrev pub MarksSome : Bool → ℕ → List Mark → List Mark → Type 0
-MarksSome oneway delivery old new = (new ≡ old) ⊎ ((fitting : Fitting) × MarksFits oneway fitting delivery old new)
+MarksSome oneway delivery old new =
+    (new ≡ old) ⊎ ((fitting : Fitting) × MarksFits oneway fitting delivery old new)
 
 -- so it is at the turn of a delivery; at that of any other message nothing is marked
 abbrev pub MarksTurn : Message → ℕ → List Mark → List Mark → Type 0
 MarksTurn message index old new =
-    (new ≡ old) ⊎ ((buffer : ℕ) × (message.detail ≡ Delivered buffer) × MarksSome message.oneway index old new)
+    (new ≡ old)
+    ⊎ ((buffer : ℕ) × (message.detail ≡ Delivered buffer) × MarksSome message.oneway index old new)
 
 -- a send and the delivery that took it by guess are a pair, if neither is one of another pair
 pub record KeepsGuess (pairing : Pairing) (index : ℕ) (new : List Message) : Type 0 where

@@ -77,13 +77,14 @@ AddsMarked old new more = (marked : List Marked) → KeepsAll old marked → Kee
 abbrev pub rows_of_lists : List StepList → List CallRow
 rows_of_lists lists = flat_map (λ list. rows_of list.list.items) lists
 
--- a writer has grown by a row for each call of the threads in which these records leave a mark, in rising place, and by
--- nothing else
-pub record WritesCalls (old new : Option (List ℕ)) (marked : List Marked) : Type 0 where
+-- these are the calls of the threads in which these records leave a mark, in rising place, and no others
+pub record AreCallsOf (marked : List Marked) (calls : List Call) : Type 0 where
   pub threads : List (Thread × StepList)
   pub kept : KeepsAll threads marked
-  pub calls : List Call
   pub are : IsPermutation (rows_of_lists (values_of threads)) (map row_of_call calls)
   pub sorted : IsNonDecreasingBy call_place calls
+
+-- a writer has grown by a row for each of these calls, in order, and by nothing else
+pub record WritesCalls (old new : Option (List ℕ)) (calls : List Call) : Type 0 where
   pub messages : List Message
   pub written : AddsRows (IsCallRow messages) old new calls

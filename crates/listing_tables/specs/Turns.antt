@@ -1,5 +1,5 @@
 -- What a walk does at the turn of each message, and what is done of all messages in order (docs/DATABASE.md#send).
-use Rattle.std.specs.Prelude.{◌≡◌, ◌≤◌, ◌⊎◌, ◌==◌, ℕ, zero, suc, Bool, true, [], None, Some, length, slice_get}
+use Rattle.std.specs.Prelude.{◌≡◌, ◌≤◌, ◌⊎◌, ◌==◌, ◌||◌, ℕ, zero, suc, Bool, true, false, [], None, Some, length, slice_get}
 use Rattle.listing_tables.specs.declared.calls.Call.{Call}
 use Rattle.listing_tables.specs.declared.certainty.Sought.{Sought}
 use Rattle.listing_tables.specs.declared.messages.Detail.TheVariants.{Delivered}
@@ -8,7 +8,7 @@ use Rattle.listing_tables.specs.declared.numbered.Numbered.{Numbered}
 use Rattle.listing_tables.specs.declared.pairs.Pairing.{Pairing}
 use Rattle.listing_tables.specs.declared.traffic.Traffic.{Traffic}
 use Rattle.listing_tables.specs.declared.waiting.Waiting.{Waiting}
-use Rattle.listing_tables.specs.Decisions.{Decides, KeepsWaiting, NotesDelivery}
+use Rattle.listing_tables.specs.Decisions.{Decides, KeepsWaiting, NotesCrowded, NotesDelivery}
 use Rattle.listing_tables.specs.Meanings.{BeginsEach, MakesAllKnown}
 use Rattle.listing_tables.specs.Pairing.{BeginsWalk, Claims, ClosesCall, KeepsGuess, MarksClaimed, MarksTurn, PairsDelivery, PairsReply, messages_of}
 
@@ -27,14 +27,18 @@ pub record LooksForSend (old : Pairing) (index : ℕ) (message : Message) (new :
   pub noted : NotesDelivery old buffer sought
   pub pairs : PairsDelivery between sought (messages_of new)
   pub decides : Decides between sought new
+  pub crowded : NotesCrowded between sought new
 
 -- At the turn of any other message no message changes. The send of the call that it closes may be taken out. All others
--- still wait, and of the sends in doubt nothing changes.
+-- still wait, and of the sends in doubt nothing changes. What is noted of keys, and whether another walk may find more, stays
+-- as it was.
 pub record PassesOn (old : Pairing) (message : Message) (new : Pairing) : Type 0 where
   pub messages : messages_of new ≡ messages_of old
   pub between : Waiting
   pub closes : ClosesCall old message between
   pub kept : KeepsWaiting between new.waiting
+  pub crowded : new.crowded ≡ old.crowded
+  pub news : new.news ≡ old.news
 
 -- the send of a delivery is looked for, or it is the turn of another message
 abbrev pub TakesTurn : Pairing → ℕ → Message → Pairing → Type 0
@@ -52,13 +56,21 @@ pub record HasTurn (calls : Bool) (old : Pairing) (index : ℕ) (new : Pairing) 
 -- a delivery is marked by the call at an index, if that must have come by it
 abbrev pub MarksIfClaimed : Pairing → ℕ → Pairing → Type 0
 MarksIfClaimed old index new =
-    (new ≡ record old { marks = new.marks }) × ((new.marks ≡ old.marks) ⊎ MarksClaimed old index new.marks.all.items)
+    (new ≡ record old { marks = new.marks })
+    × ((new.marks ≡ old.marks) ⊎ MarksClaimed old index new.marks.all.items)
 
--- the delivery at an index and the one call that marks it become a pair, if there is one; of that something may be learnt
+-- The delivery at an index and the one call that marks it become a pair, if there is one. Of that something may be learnt,
+-- and another walk may find more.
 abbrev pub ClaimsIfMarked : Pairing → ℕ → Pairing → Type 0
 ClaimsIfMarked old index new =
-    (new ≡ record old { messages = new.messages; handed = new.handed; meanings = new.meanings; news = new.news })
-    × ((messages_of new ≡ messages_of old) ⊎ Claims old index (messages_of new))
+    (new ≡ record old {
+      messages = new.messages;
+      handed = new.handed;
+      meanings = new.meanings;
+      news = new.news;
+    })
+    × (((messages_of new ≡ messages_of old) × (new.news ≡ old.news))
+    ⊎ (Claims old index (messages_of new) × (new.news ≡ true)))
 
 -- the send at an index and the delivery that took it by guess become a pair, if there is one
 abbrev pub KeepsIfGuessed : Pairing → ℕ → Pairing → Type 0
@@ -88,7 +100,8 @@ pub record ClaimsAll (old new : Pairing) : Type 0 where
   pub marks : MakesEach MarksIfClaimed old marked (count_of old)
   pub claims : MakesEach ClaimsIfMarked marked new (count_of marked)
 
--- a walk begins anew, each message has its turn, then calls are claimed, and what was noted of nodes is made known
+-- A walk begins anew, each message has its turn, then calls are claimed, and what was noted of nodes is made known. Another
+-- walk may find more, if by one of these it may.
 pub record Walks (calls : Bool) (old new : Pairing) : Type 0 where
   pub begun : Pairing
   pub begins : BeginsWalk old begun
@@ -96,16 +109,22 @@ pub record Walks (calls : Bool) (old new : Pairing) : Type 0 where
   pub turns : MakesEach (HasTurn calls) begun turned (count_of begun)
   pub claimed : Pairing
   pub claims : ClaimsAll turned claimed
-  pub settles : MakesAllKnown claimed.meanings.list.all.items new.meanings.list.all.items claimed.meanings.same.all.items
+  pub more : Bool
+  pub settles : MakesAllKnown claimed.meanings.list.all.items new.meanings.list.all.items
+      claimed.meanings.same.all.items more
+  pub news : new.news ≡ (claimed.news || more)
   pub same : new ≡ record claimed { meanings = new.meanings; news = new.news }
 
 -- the first walk is through the messages of calls
 abbrev pub WalksAt : Pairing → ℕ → Pairing → Type 0
 WalksAt old walk new = Walks (walk == 0) old new
 
--- so many walks are made, at least two and at most five: the first one is not through oneway messages
+-- So many walks are made, at least two and at most five: the first one is not through oneway messages. Fewer than five are
+-- made only if the last one has found that another one finds no more.
 abbrev pub WalksOn : Pairing → Pairing → Type 0
-WalksOn old new = (walks : ℕ) × (2 ≤ walks) × (walks ≤ 5) × MakesEach WalksAt old new walks
+WalksOn old new =
+    (walks : ℕ) × (2 ≤ walks) × (walks ≤ 5) × MakesEach WalksAt old new walks
+    × ((walks ≡ 5) ⊎ (new.news ≡ false))
 
 -- Messages are paired by some walks. After that what the last one guessed is kept, and replies are paired.
 pub record PairsAll (old new : Pairing) : Type 0 where

@@ -1,7 +1,7 @@
 //! Which node each generation means.
 
 ghost use Rattle.std.specs.Prelude.{◌≡◌, [], IfOk, IfSome, OnOk};
-ghost use Rattle.std.specs.Bool.{OnTrue};
+ghost use Rattle.std.specs.Bool.{OnFalse, OnTrue};
 ghost use Rattle.std.specs.BTreeSet.{IsEmpty};
 ghost use Rattle.listing_tables.specs.Certainty.{BeginsBefore, HasOtherHandle, MeansNode};
 ghost use Rattle.listing_tables.specs.Learning.{IsPastGap, MeansFirst, known_of_two};
@@ -135,15 +135,13 @@ impl Meanings {
 
     /// Makes known what was learnt. Returns whether that is more than before.
     pub(crate) fn settle(&mut self, generations: &Generations) -> Result<bool, ListingError>
-        ensures { OnOk result (MakesAllKnown self.old.list.all.items self.new.list.all.items
+        ensures { IfOk result (MakesAllKnown self.old.list.all.items self.new.list.all.items
             self.old.same.all.items) }
     {
         self.spread()?;
         let mut is_more = false;
         for index in 0..self.list.next()? {
-            if self.settle_one(index, generations)? {
-                is_more = true;
-            }
+            is_more |= self.settle_one(index, generations)?;
         }
         Ok(is_more)
     }
@@ -175,7 +173,10 @@ impl Meanings {
 
     /// Makes known what was learnt of a generation. Returns whether that is something else.
     fn settle_one(&mut self, index: u32, generations: &Generations) -> Result<bool, ListingError>
-        ensures { OnOk result (MakesKnown self.old.list.all.items self.new.list.all.items index) }
+        ensures known { OnOk result (MakesKnown self.old.list.all.items self.new.list.all.items
+            index) }
+        ensures more { IfOk result (λ more. OnFalse more (
+            self.new.list.all.items ≡ self.old.list.all.items)) }
     {
         let meaning = self.list.at(index)?;
         let known = meaning.learnt;

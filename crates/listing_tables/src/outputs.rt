@@ -3,7 +3,7 @@
 ghost use Rattle.std.specs.Prelude.{◌≡◌, ◌<◌, ◌^◌, length, map, IfOk, OnOk};
 ghost use Rattle.std.specs.List.{sum_by};
 ghost use Rattle.listing_fields.specs.declared.table.Table.TheVariants.{Call, Frame, Object, Record};
-ghost use Rattle.listing_tables.specs.Tables.{ArePaired, WritesTable};
+ghost use Rattle.listing_tables.specs.Tables.{ArePaired, AreTablesOf, KeepsLists, WritesTable};
 ghost use Rattle.listing_tables.specs.Walk.{HasNoSteps};
 
 use crate::before_fault::write_before_fault;
@@ -61,6 +61,7 @@ fn walk_for_one<W: Write>(
     requires few { length parts.now < 2 ^ 32 }
     requires fits { sum_by length (map (λ part. part.now) parts.now) < 2 ^ 64 }
     requires nothing { HasNoSteps tables.old }
+    ensures { OnOk result (AreTablesOf (map (λ part. part.now) parts.now) tables.new) }
 {
     let writers = match table {
         Table::Frame => Writers {
@@ -103,6 +104,7 @@ fn write_after_walk<W: Write>(
     requires few { length parts.now < 2 ^ 32 }
     requires fits { sum_by length (map (λ part. part.now) parts.now) < 2 ^ 64 }
     requires nothing { HasNoSteps tables.old }
+    ensures { OnOk result (AreTablesOf (map (λ part. part.now) parts.now) tables.new) }
 {
     let ending = walk_nowhere::<W>(alloc, parts, tables)?;
     let writer = TableWriter { table, writer: out };
@@ -119,7 +121,7 @@ fn walk_nowhere<W: Write>(
     requires few { length parts.now < 2 ^ 32 }
     requires fits { sum_by length (map (λ part. part.now) parts.now) < 2 ^ 64 }
     requires nothing { HasNoSteps tables.old }
-    ensures { OnOk result (ArePaired tables.new) }
+    ensures { OnOk result (AreTablesOf (map (λ part. part.now) parts.now) tables.new) }
 {
     let frames: Stream<'_, W> = nowhere();
     let writers = Writers {
@@ -164,6 +166,7 @@ fn walk_for_all<T: Files>(
     requires few { length parts.now < 2 ^ 32 }
     requires fits { sum_by length (map (λ part. part.now) parts.now) < 2 ^ 64 }
     requires nothing { HasNoSteps tables.old }
+    ensures { OnOk result (AreTablesOf (map (λ part. part.now) parts.now) tables.new) }
 {
     let writers = writers_of(
         create_table(rt, alloc, folder, ("frame", Table::Frame))?,
@@ -218,7 +221,7 @@ fn walk_with<W: Write + Drop>(
     requires few { length parts.now < 2 ^ 32 }
     requires fits { sum_by length (map (λ part. part.now) parts.now) < 2 ^ 64 }
     requires nothing { HasNoSteps tables.old }
-    ensures { OnOk result (ArePaired tables.new) }
+    ensures { OnOk result (AreTablesOf (map (λ part. part.now) parts.now) tables.new) }
 {
     let (ending, _) = walk_to(alloc, parts, tables, writers)?;
     Ok(ending)
@@ -234,7 +237,7 @@ fn write_table<W: Write + Drop>(
     requires { ArePaired tables.old }
     ensures written { IfOk result (λ writer. WritesTable tables.old to.table
         (W.contents to.writer) (W.contents writer)) }
-    ensures paired { ArePaired tables.new }
+    ensures kept { KeepsLists tables.old tables.new }
 {
     let TableWriter { table, writer } = to;
     let mut rows = RowWriter::new(alloc, writer);

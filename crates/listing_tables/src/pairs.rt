@@ -1,6 +1,6 @@
 //! Pairs each delivery with the send that it came from. viewer/database/schema.sql says how.
 
-ghost use Rattle.std.specs.Prelude.{◌≡◌, ◌≢◌, ◌⊎◌, ℕ, true, false, nat_eq, IfOk, OnOk};
+ghost use Rattle.std.specs.Prelude.{◌≡◌, ◌≢◌, ◌⊎◌, ◌||◌, ℕ, not, true, false, nat_eq, IfOk, OnOk};
 ghost use Rattle.std.specs.Bool.{OnTrue};
 ghost use Rattle.listing_tables.specs.Decisions.{DoubtsEach};
 ghost use Rattle.listing_tables.specs.Pairing.{MarksEach};
@@ -110,14 +110,16 @@ impl Pairing<'_> {
     ghost use Rattle.indexmap.specs.IndexSet.{contains};
     ghost use Rattle.listing_tables.specs.Changes.{RatesPair};
     ghost use Rattle.listing_tables.specs.Decisions.{ComesInDoubt, Decides, KeepsWaiting};
-    ghost use Rattle.listing_tables.specs.Decisions.{LearnsOfSend, LearnsTarget, NotesDelivery};
+    ghost use Rattle.listing_tables.specs.Decisions.{LearnsOfSend, LearnsTarget};
+    ghost use Rattle.listing_tables.specs.Decisions.{NotesCrowded, NotesDelivery};
     ghost use Rattle.listing_tables.specs.Doubts.{CountsLeaving};
     ghost use Rattle.listing_tables.specs.Pairing.{AddsSend, BeginsWalk, Claims, ClosesCall};
     ghost use Rattle.listing_tables.specs.Pairing.{GuessesFit, KeepsGuess};
-    ghost use Rattle.listing_tables.specs.Pairing.{MarksClaimed, MarksFits, MarksSome, MarksTurn, MustHaveCome};
+    ghost use Rattle.listing_tables.specs.Pairing.{MarksClaimed, MarksFits};
+    ghost use Rattle.listing_tables.specs.Pairing.{MarksTurn, MustHaveCome};
     ghost use Rattle.listing_tables.specs.Pairing.{PairsDelivery, messages_of};
-    ghost use Rattle.listing_tables.specs.Turns.{ClaimsAll, ClaimsIfMarked, HasTurn, KeepsIfGuessed};
-    ghost use Rattle.listing_tables.specs.Turns.{MakesEach, MarksIfClaimed};
+    ghost use Rattle.listing_tables.specs.Turns.{ClaimsAll, ClaimsIfMarked, HasTurn};
+    ghost use Rattle.listing_tables.specs.Turns.{KeepsIfGuessed, MakesEach, MarksIfClaimed};
     ghost use Rattle.listing_tables.specs.Turns.{PairsAll, TakesTurn, Walks, WalksOn};
     ghost use Rattle.listing_tables.specs.Turns.{count_of};
     ghost use Rattle.listing_tables.specs.Waiting.{OthersWaitBut, entry_of, waits};
@@ -267,9 +269,8 @@ impl Pairing<'_> {
 
     fn pair_delivery(&mut self, sought: &Sought) -> Outcome
         ensures pairs { OnOk result (PairsDelivery self.old sought.now (messages_of self.new)) }
-        ensures marks { OnOk result (MarksSome sought.now.message.oneway sought.now.index
-            self.old.marks.all.items self.new.marks.all.items) }
         ensures decided { OnOk result (Decides self.old sought.now self.new) }
+        ensures crowded { OnOk result (NotesCrowded self.old sought.now self.new) }
         ensures facts { OnOk result (self.new.facts ≡ self.old.facts) }
     {
         let evidence = Evidence {
@@ -299,6 +300,8 @@ impl Pairing<'_> {
     fn note_crowded(&mut self, key: u64) -> Outcome
         ensures noted { OnOk result (self.old.fitting.is_whole ≡ false →
             contains nat_eq self.new.crowded key ≡ true) }
+        ensures stays { OnOk result ((other : ℕ) → contains nat_eq self.old.crowded other ≡ true →
+            contains nat_eq self.new.crowded other ≡ true) }
         ensures same { self.new ≡ record self.old { crowded = self.new.crowded } }
     {
         if self.fitting.is_whole {
@@ -317,8 +320,13 @@ impl Pairing<'_> {
             self.new.waiting) }
         ensures counts { OnOk result (CountsLeaving self.old.waiting fit.now.listed 0
             self.new.waiting) }
-        ensures marks { OnOk result (self.new.marks ≡ self.old.marks) }
-        ensures facts { OnOk result (self.new.facts ≡ self.old.facts) }
+        ensures news { OnOk result (self.new.news ≡ (self.old.news || not fit.now.fresh)) }
+        ensures same { OnOk result (self.new ≡ record self.old {
+          messages = self.new.messages;
+          meanings = self.new.meanings;
+          waiting = self.new.waiting;
+          news = self.new.news;
+        }) }
     {
         self.news |= !fit.fresh;
         self.waiting.take(fit.listed)?;
@@ -334,8 +342,12 @@ impl Pairing<'_> {
         ensures doubts { OnOk result ((guessed : Waiting) × KeepsWaiting self.old.waiting guessed
             × ComesInDoubt guessed self.old.fitting.list.items sought.now.message.key
             self.new.waiting) }
-        ensures fitting { OnOk result (self.new.fitting ≡ self.old.fitting) }
-        ensures facts { OnOk result (self.new.facts ≡ self.old.facts) }
+        ensures same { OnOk result (self.new ≡ record self.old {
+          messages = self.new.messages;
+          meanings = self.new.meanings;
+          waiting = self.new.waiting;
+          marks = self.new.marks;
+        }) }
     {
         let Some(fit) = self.fitting.first() else {
             return Err(ListingError::TooLarge);
@@ -354,8 +366,11 @@ impl Pairing<'_> {
         ensures marks { OnOk result (MarksFits sought.now.message.oneway self.old.fitting
             sought.now.index self.old.marks.all.items self.new.marks.all.items) }
         ensures kept { OnOk result (KeepsWaiting self.old.waiting self.new.waiting) }
-        ensures fitting { OnOk result (self.new.fitting ≡ self.old.fitting) }
-        ensures facts { OnOk result (self.new.facts ≡ self.old.facts) }
+        ensures same { OnOk result (self.new ≡ record self.old {
+          messages = self.new.messages;
+          waiting = self.new.waiting;
+          marks = self.new.marks;
+        }) }
     {
         self.mark_all(sought.index)?;
         let Some(fit) = self.fitting.best(sought.message.oneway) else {
@@ -523,8 +538,9 @@ impl Pairing<'_> {
 
     /// Takes the one call that must have come by a delivery, if there is one.
     fn claim(&mut self, index: u32) -> Outcome
-        ensures claims { OnOk result ((messages_of self.new ≡ messages_of self.old)
-            ⊎ Claims self.old index (messages_of self.new)) }
+        ensures claims { OnOk result (((messages_of self.new ≡ messages_of self.old)
+            × (self.new.news ≡ self.old.news))
+            ⊎ (Claims self.old index (messages_of self.new) × (self.new.news ≡ true))) }
         ensures same { OnOk result (self.new ≡ record self.old {
           messages = self.new.messages;
           handed = self.new.handed;

@@ -3,8 +3,8 @@
 ghost use Rattle.std.specs.Prelude.{◌≡◌, List, OnOk};
 ghost use Rattle.capture_frame.specs.Envelope.{placed_frame};
 ghost use Rattle.record_view.specs.State.{placed_record};
-ghost use Rattle.listing_tables.specs.Steps.{AddsMarked, IsKept, KeepsAll, Marked, WritesCalls};
-ghost use Rattle.listing_tables.specs.Steps.{marked_of};
+ghost use Rattle.listing_tables.specs.Steps.{AddsMarked, AreCallsOf, IsKept, KeepsAll, Marked};
+ghost use Rattle.listing_tables.specs.Steps.{WritesCalls, marked_of};
 ghost use Rattle.listing_tables.specs.Tables.{ArePaired, KeepsLists, WritesTable};
 ghost use Rattle.listing_tables.specs.Walk.{HasNoSteps};
 
@@ -98,9 +98,10 @@ impl Tables {
         alloc: Global,
         rows: &mut RowWriter<W>,
     ) -> Outcome
-        ensures calls { OnOk result ((marked : List Marked) →
+        ensures calls { OnOk result (WritesCalls rows.old rows.new self.new.calls.all.items) }
+        ensures found { OnOk result ((marked : List Marked) →
             KeepsAll self.old.steps.entries.entries marked →
-            WritesCalls rows.old rows.new marked) }
+            AreCallsOf marked self.new.calls.all.items) }
         ensures paired { OnOk result (ArePaired self.new) }
     {
         let steps = mem::replace(&mut self.steps, Steps::empty(alloc));

@@ -8,7 +8,7 @@ ghost use Rattle.record_view.specs.Records.{records_of};
 ghost use Rattle.transaction_view.specs.Grammar.{IsGood};
 ghost use Rattle.listing_fields.specs.Content.{record_of_item, records_left};
 ghost use Rattle.listing_tables.specs.Columns.{AddsRows};
-ghost use Rattle.listing_tables.specs.Tables.{ArePaired};
+ghost use Rattle.listing_tables.specs.Tables.{AreTablesOf};
 ghost use Rattle.listing_tables.specs.Walk.{BeginsWith, HasNoSteps, IsFrameRow, counted_frames, record_begin, record_begins};
 ghost use Rattle.listing_tables.specs.Steps.{AddsMarked, IsKept, WritesCalls, marked_in, marked_of};
 
@@ -137,10 +137,9 @@ pub(crate) fn walk_to<W: Write + Drop>(
     ensures records { IfOk result (λ done. AddsRows BeginsWith
         (W.contents writers.records) (W.contents done.1.records)
         (flat_map record_begins (counted_frames (map (λ part. part.now) parts.now)))) }
-    ensures calls { IfOk result (λ done. WritesCalls
-        (W.contents writers.calls) (W.contents done.1.calls)
-        (flat_map marked_in (counted_frames (map (λ part. part.now) parts.now)))) }
-    ensures paired { OnOk result (ArePaired tables.new) }
+    ensures calls { IfOk result (λ done. WritesCalls (W.contents writers.calls)
+        (W.contents done.1.calls) tables.new.calls.all.items) }
+    ensures tables { OnOk result (AreTablesOf (map (λ part. part.now) parts.now) tables.new) }
 {
     let mut streams = Streams::new(alloc, writers);
     match walk_capture(alloc, parts, tables, &mut streams) {
@@ -168,8 +167,8 @@ fn walk_capture<W: Write + Drop>(
     ensures records { OnOk result (AddsRows BeginsWith streams.old.records streams.new.records
         (flat_map record_begins (counted_frames (map (λ part. part.now) parts.now)))) }
     ensures calls { OnOk result (WritesCalls streams.old.calls streams.new.calls
-        (flat_map marked_in (counted_frames (map (λ part. part.now) parts.now)))) }
-    ensures paired { OnOk result (ArePaired tables.new) }
+        tables.new.calls.all.items) }
+    ensures tables { OnOk result (AreTablesOf (map (λ part. part.now) parts.now) tables.new) }
 {
     let (frames, ending) = frames_of(alloc, parts)?;
     tables.begin(ending);
@@ -275,7 +274,8 @@ fn walk_item<W: Write + Drop>(
         (record_begin (placed_frame frame.entry) (record_of_item item.entry) ∷ [])) }
     ensures calls { streams.new.calls ≡ streams.old.calls }
     ensures marked { OnOk result (AddsMarked tables.old.steps.entries.entries
-        tables.new.steps.entries.entries (marked_of (placed_frame frame.entry) (record_of_item item.entry))) }
+        tables.new.steps.entries.entries
+        (marked_of (placed_frame frame.entry) (record_of_item item.entry))) }
 {
     let named = named_of(item.record);
     let interface = tables.names.interface(item)?;

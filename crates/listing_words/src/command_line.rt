@@ -43,8 +43,6 @@ const OTHERS: [&str; 5] = ["interface", "form", "side", "table", "tables"];
 #[derive(Clone, Copy)]
 pub enum WordsError {
     Memory,
-    /// They ask for help.
-    Help,
     Usage,
 }
 
@@ -112,7 +110,6 @@ fn with_others<'a>(alloc: Global, command: Command<'a>) -> Result<Command<'a>, A
 fn refusal(error: &Error) -> WordsError {
     match error.kind() {
         ErrorKind::OutOfMemory => WordsError::Memory,
-        ErrorKind::DisplayHelp => WordsError::Help,
         _ => WordsError::Usage,
     }
 }

@@ -3,13 +3,11 @@
 
 mod asked;
 mod command_line;
-mod help;
 mod kinds;
 mod number;
 mod request;
 
 pub use asked::{Asked, Form, Narrowing, Sought, Word, covers};
 pub use command_line::{WordsError, request_of};
-pub use help::HELP;
 pub use number::number_of;
 pub use request::{AskedTables, Question, Request};

@@ -1,9 +1,6 @@
 use Rattle.std.proofs.lemmas.Result.{IfOk-weaker}
-use Rattle.listing_tables.proofs.TableLaws.{kept_table, paired_still}
+use Rattle.listing_tables.proofs.TableLaws.{kept_table}
 use Rattle.listing_tables.proofs.outputs.write_table.Goals as goal
-
-pub returns-clause-paired : goal.returns-clause-paired
-returns-clause-paired g c = paired_still c.args.tables.now c.write.new.self c.write.ensures.kept c.requires
 
 pub returns-clause-written : goal.returns-clause-written
 returns-clause-written g c =
@@ -13,6 +10,3 @@ returns-clause-written g c =
     (λ writer kept. kept_table c.args.tables.now to.table (at to.writer) c.new-rows.result c.write.new.rows (at writer) c.new-rows.ensures
     c.in_ok-write.ensures.written kept)
     c.finish.ensures
-
-pub returns-in_err-write-clause-paired : goal.returns-in_err-write-clause-paired
-returns-in_err-write-clause-paired g c = paired_still c.args.tables.now c.write.new.self c.write.ensures.kept c.requires

@@ -11,4 +11,5 @@ returns c = record {
   messages = refl;
   meanings = refl;
   facts = refl;
+  news = refl;
 }

@@ -1,4 +1,4 @@
-use Rattle.std.proofs.Common.{List, Some, None, inl, inr, refl, ap, subst}
+use Rattle.std.proofs.Common.{◌≡◌, List, Some, None, inl, inr, refl, sym, ap, subst}
 use Rattle.std.proofs.lemmas.Result.{on_ok_weaker}
 use Rattle.listing_tables.specs.Changes.{Rates}
 use Rattle.listing_tables.specs.Decisions.{KeepsWaiting}
@@ -78,5 +78,14 @@ returns-in_default-clause-kept c =
     subst (λ (p : Pairing). KeepsWaiting p.waiting c.mark_all.new.self.waiting) c.in_ok-mark_all.ensures.same
     (keeps_itself c.mark_all.new.self.waiting)
 
-pub returns-clause-fitting : goal.returns-clause-fitting
-returns-clause-fitting c = on_ok_always c.rate.result (ap (λ (p : Pairing). p.fitting) c.in_ok-mark_all.ensures.same)
+pub returns-clause-same : goal.returns-clause-same
+returns-clause-same c =
+    on_ok_always c.rate.result
+    (ap (λ (p : Pairing). record p { messages = c.rate.new.self; waiting = c.guess.new.self; marks = c.note_guess.new.marks })
+    c.in_ok-mark_all.ensures.same)
+
+pub returns-in_default-clause-same : goal.returns-in_default-clause-same
+returns-in_default-clause-same c =
+    subst
+    (λ (p : Pairing). p ≡ record c.args.self.now { messages = p.messages; waiting = p.waiting; marks = p.marks })
+    (sym c.in_ok-mark_all.ensures.same) refl

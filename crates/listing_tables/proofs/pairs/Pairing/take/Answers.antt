@@ -1,4 +1,4 @@
-use Rattle.std.proofs.Common.{false, ◌≡◌, ap, sym, subst}
+use Rattle.std.proofs.Common.{false, ◌≡◌, refl, ap, sym, subst}
 use Rattle.listing_tables.specs.Doubts.{CountsLeaving}
 use Rattle.listing_tables.specs.Waiting.{OthersWaitBut, entry_of, waits}
 use Rattle.listing_tables.specs.declared.pairs.Pairing.{Pairing}
@@ -24,4 +24,15 @@ returns-clause-counts c =
     on_ok_weaker c.keep_pair.result
     (λ same. subst (λ (w : Waiting). CountsLeaving c.args.self.now.waiting c.args.fit.now.listed 0 w) (sym (ap (λ (p : Pairing). p.waiting) same))
     c.in_ok-take.ensures.counted)
+    c.keep_pair.ensures.same
+
+pub returns-clause-news : goal.returns-clause-news
+returns-clause-news c = on_ok_weaker c.keep_pair.result (λ same. ap (λ (p : Pairing). p.news) same) c.keep_pair.ensures.same
+
+pub returns-clause-same : goal.returns-clause-same
+returns-clause-same c =
+    on_ok_weaker c.keep_pair.result
+    (λ same. subst
+    (λ (p : Pairing). p ≡ record c.args.self.now { messages = p.messages; meanings = p.meanings; waiting = p.waiting; news = p.news })
+    (sym same) refl)
     c.keep_pair.ensures.same

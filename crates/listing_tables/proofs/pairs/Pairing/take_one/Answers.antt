@@ -1,4 +1,4 @@
-use Rattle.std.proofs.Common.{List, true, sym, ap, subst, ◌∙◌}
+use Rattle.std.proofs.Common.{◌≡◌, List, true, refl, sym, ap, subst, ◌∙◌}
 use Rattle.std.proofs.lemmas.Result.{on_ok_weaker}
 use Rattle.listing_tables.specs.Decisions.{ComesInDoubt, KeepsWaiting}
 use Rattle.listing_tables.specs.Pairing.{GuessesFit, MarksFits, messages_of}
@@ -44,12 +44,17 @@ returns-clause-doubts c =
       guessed.waiting,
       subst (λ (p : Pairing). KeepsWaiting p.waiting guessed.waiting) same c.in_ok-guess.ensures.kept,
       subst (λ (f : Fitting). ComesInDoubt guessed.waiting f.list.items c.args.sought.now.message.key c.doubt_all.new.self.waiting)
-          (c.in_ok-guess.ensures.fitting ∙ ap (λ (p : Pairing). p.fitting) same) doubts,
+          (ap (λ (p : Pairing). p.fitting) c.in_ok-guess.ensures.same ∙ ap (λ (p : Pairing). p.fitting) same) doubts,
     ))
     c.doubt_all.ensures.doubts
 
-pub returns-clause-fitting : goal.returns-clause-fitting
-returns-clause-fitting c =
+pub returns-clause-same : goal.returns-clause-same
+returns-clause-same c =
+    let guessed = c.guess.new.self in
+    let waiting = c.doubt_all.new.self.waiting in
     on_ok_always c.doubt_all.result
-    (ap (λ (p : Pairing). p.fitting) c.doubt_all.ensures.same ∙ c.in_ok-guess.ensures.fitting
-    ∙ ap (λ (p : Pairing). p.fitting) c.in_ok-learn_target.ensures.same)
+    (subst
+    (λ (p : Pairing). p ≡ record c.args.self.now { messages = p.messages; meanings = p.meanings; waiting = p.waiting; marks = p.marks })
+    (sym (c.doubt_all.ensures.same ∙ ap (λ (p : Pairing). record p { waiting = waiting }) c.in_ok-guess.ensures.same
+    ∙ ap (λ (p : Pairing). record p { messages = guessed.messages; waiting = waiting; marks = guessed.marks }) c.in_ok-learn_target.ensures.same))
+    refl)

@@ -9,6 +9,8 @@ returns c = record {
   turns = c.in_ok-take_turns.ensures;
   claimed = c.claim_all.new.self;
   claims = c.in_ok-claim_all.ensures;
+  more = c.in_ok-self.field-0;
   settles = c.in_ok-self.ensures;
+  news = refl;
   same = refl;
 }

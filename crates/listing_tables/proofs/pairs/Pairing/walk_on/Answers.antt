@@ -1,4 +1,4 @@
-use Rattle.std.proofs.Common.{◌+◌, arith}
+use Rattle.std.proofs.Common.{◌+◌, inr, arith, rules}
 use Rattle.listing_tables.specs.Turns.{WalksAt}
 use Rattle.listing_tables.proofs.TurnLaws.{each_more}
 use Rattle.listing_tables.proofs.pairs.Pairing.walk_on.Goals as goal
@@ -14,4 +14,5 @@ returns-then-walk-gt0 c =
       omega (arith),
       omega (arith, more),
       each_more WalksAt c.args.self.now c.loop-walk.self c.walk.new.self c.loop-walk.walk c.loop-walk.invariant c.in_ok-walk.ensures,
+      inr (search rules),
     )
