@@ -12,7 +12,7 @@ from viewer.program_names import BEHIND, LIBRARY, PACKED
 # The folders of the repository, or of a package, all of whose files count; and single files.
 FOLDERS = "viewer/database", "viewer/rules", "viewer/methods"
 FILES = ("viewer/clocks.py", "viewer/malformed.py", "viewer/units.py", "viewer/defects/seen.py",
-         "viewer/defects/times.py", "viewer/page/queries/defects.sql", "lab/form.py", "lab/job.sh", "lab/one.py",
+         "viewer/defects/times.py", "viewer/page/queries/defects.sql", "lab/form.py", "lab/one.py",
          "lab/result.py", "lab/wrong_list.py")
 SOURCES = (".c", ".h", ".py", ".sql")
 

@@ -2,13 +2,18 @@
 
 import contextlib
 import ctypes
+import enum
+import functools
 import hashlib
 import os
 import pathlib
+import select
 import signal
 import subprocess
+import sys
 import time
-from typing import Iterator, NamedTuple
+import traceback
+from typing import NamedTuple, NoReturn
 
 from lab import result
 from lab.basis import basis_of, tables_of
@@ -54,6 +59,7 @@ def digest_of(files: list[str]) -> str:
     return whole.hexdigest()
 
 
+@functools.cache
 def version(root: pathlib.Path) -> str | None:
     """Which programs made a result: the version of a package, or the commit of the repository."""
     if PACKED:
@@ -73,29 +79,59 @@ def ends_with_parent() -> None:
     ctypes.CDLL(None, use_errno=True).prctl(PR_SET_PDEATHSIG, signal.SIGTERM)
 
 
-@contextlib.contextmanager
-def ended_group(words: list[str], room: pathlib.Path, **streams: object) -> Iterator[subprocess.Popen]:
-    """A program in a group of its own, of which nothing is left afterwards. It has the standard input of this one,
-    which a capture may be."""
-    program = subprocess.Popen(words, start_new_session=True, preexec_fn=ends_with_parent,
-                               env={**os.environ, "TMPDIR": str(room)}, **streams)  # type: ignore[call-overload]
+class Starting(enum.Enum):
+    """How `./view` is started: as a program, or as a fork of this one, which has its modules."""
+    EXECUTED, FORKED = range(2)
+
+
+def view_here(words: list[str], room: pathlib.Path, told: int, starting: Starting) -> NoReturn:
+    """Becomes `./view`, in a group of its own. It has the standard input of this program, which a capture may be."""
+    status = 1
     try:
-        yield program
+        os.setsid()
+        ends_with_parent()
+        os.environ["TMPDIR"] = str(room)
+        os.dup2(os.open(os.devnull, os.O_WRONLY), 1)
+        os.dup2(told, 2)
+        if starting is Starting.EXECUTED:
+            os.execv(words[0], words)
+        sys.argv = words
+        from viewer.showing import main
+        status = main(pathlib.Path(words[0]).parent)
+    except SystemExit as ended:
+        status = ended.code if isinstance(ended.code, int) else 1
+    except BaseException:
+        traceback.print_exc()
     finally:
-        with contextlib.suppress(ProcessLookupError):
-            os.killpg(program.pid, signal.SIGKILL)
-        program.wait()
+        sys.stderr.flush()
+        os._exit(status)
 
 
-def viewed(words: list[str], room: pathlib.Path, seconds: float) -> tuple[int | None, list[str]]:
-    """The status of `./view`, and the lines that it says; None if it took too long. The lines are kept in memory,
-    because the disk may be full."""
+def status_in(pid: int, seconds: float) -> int | None:
+    """The status of a program, or -SIGNAL; None if it has not ended after so many seconds."""
+    end = os.pidfd_open(pid)
+    try:
+        if not select.select([end], [], [], max(seconds, 0))[0]:
+            return None
+    finally:
+        os.close(end)
+    return os.waitstatus_to_exitcode(os.waitpid(pid, 0)[1])
+
+
+def viewed(words: list[str], room: pathlib.Path, seconds: float, starting: Starting) -> tuple[int | None, list[str]]:
+    """The status of `./view`, and the lines that it says; None if it took too long. Of its group nothing is left then.
+    The lines are kept in memory, because the disk may be full."""
     with open(os.memfd_create("told"), "w+b") as told:
-        with ended_group(words, room, stdout=subprocess.DEVNULL, stderr=told) as program:
-            try:
-                status = program.wait(seconds)
-            except subprocess.TimeoutExpired:
-                status = None
+        status, pid = None, os.fork()
+        if not pid:
+            view_here(words, room, told.fileno(), starting)
+        try:
+            status = status_in(pid, seconds)
+        finally:
+            with contextlib.suppress(ProcessLookupError):
+                os.killpg(pid, signal.SIGKILL)
+            if status is None:
+                os.waitpid(pid, 0)
         told.seek(0)
         return status, told.read().decode("utf-8", "replace").splitlines()
 
@@ -117,13 +153,13 @@ def no_room_in(room: pathlib.Path) -> str:
     return ""
 
 
-def result_of(root: pathlib.Path, inputs: Inputs, seconds: float) -> dict:
+def result_of(root: pathlib.Path, inputs: Inputs, seconds: float, starting: Starting) -> dict:
     """The result of a capture, without what only the caller knows. There is one only if another run would say the same.
     What else ends `./view`, such as a full disk, has none, and the next run tries again."""
     with folder_in(None, "fleet") as room:
         made = room / "capture.db"
         words = [str(root / "view"), "--groups", "--database", str(made), *inputs.options(), "--", *inputs.files]
-        status, told = viewed(words, room, seconds)
+        status, told = viewed(words, room, seconds, starting)
         if status is None:
             return result.failed(f"it took longer than {seconds:g} s")
         if status == 1 and told and side_belongs.OTHER in told[-1]:
@@ -140,14 +176,15 @@ def result_of(root: pathlib.Path, inputs: Inputs, seconds: float) -> dict:
             database.close()
 
 
-def one(root: pathlib.Path, inputs: Inputs, build: str, device: str, to: pathlib.Path, seconds: float) -> str | None:
+def one(root: pathlib.Path, inputs: Inputs, build: str, device: str, to: pathlib.Path, seconds: float,
+        starting: Starting = Starting.EXECUTED, basis: str | None = None) -> str | None:
     """Writes the result of a capture, by the programs in this folder. Returns why it does not have all defects, if it
     is malformed or can't be viewed."""
     with unchanged([*inputs.files, *inputs.sides, *inputs.methods]):
         digest = digest_of(inputs.files)
-        made = result_of(root, inputs, seconds)
+        made = result_of(root, inputs, seconds, starting)
         # Not by time.time(), which can't say the time of a clock that is wrong by centuries.
-        made["capture"] = {"digest": digest, "basis": basis_of(root), "tables": tables_of(inputs.methods),
+        made["capture"] = {"digest": digest, "basis": basis or basis_of(root), "tables": tables_of(inputs.methods),
                            "build": build, "device": device,
                            "file": result.short(shown_name(inputs.files)), **made["capture"],
                            "made": time.clock_gettime(time.CLOCK_REALTIME), "version": version(root)}

@@ -6,7 +6,7 @@ from collections.abc import Iterator
 from xml.etree import ElementTree
 
 from lab import chance
-from lab.commands import Commands, commands_of, folder_of
+from lab.shown_by import Commands, commands_of, folder_of
 from lab.compare import BACK, TOLD, Comparison, Row, milliseconds
 from lab.doubts import doubts
 from lab.fail_on import FailOn

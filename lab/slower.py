@@ -11,8 +11,9 @@ from viewer.defects.times import FACTOR, LEAST, PARTS, change_of, key_of, load_o
 
 
 # A p of a method counts so many times. There are many methods, and where devices differ in single ones, few samples:
-# of 700 comparisons of equal builds 11 had a line of a method without this, and 5 have one with it. A call that takes
-# twice as long is told all the same.
+# of 700 comparisons of equal builds 11 had a line of a method without this, and 5 with it. 2 was chosen on these same
+# draws, so they are no test of it. With 3 and 5 fewer had a line, but of 40 builds with a call that takes twice as long
+# the check `chances` found 39, and with 2 all. docs/MEASURED.md has what fresh draws gave.
 COUNTS = 2
 
 # Devices differ if the mean squares between them are more than so many times as large as within them.

@@ -15,9 +15,8 @@ if [[ -n ${SLURM_ARRAY_TASK_ID-} ]]; then
   sed -n "$(((SLURM_ARRAY_TASK_ID - 1) * task + 1)),$((SLURM_ARRAY_TASK_ID * task))p" "$lab/results/.progress/left" |
     while read -r session; do
       # A task that began again finds results of its own.
-      if [[ $lab/results/$session.json -nt $lab/results/.progress/left ]]; then continue; fi
-      "$here/job.sh" "$lab" "$session" </dev/null || :
-    done
+      if [[ ! $lab/results/$session.json -nt $lab/results/.progress/left ]]; then printf '%s\n' "$session"; fi
+    done | "$here/many.py" -- "$lab" || :
   exit
 fi
 
@@ -36,7 +35,7 @@ refused=0
 left=$(list_left)
 if [[ -z $task ]] && ((left)); then
   begun=${EPOCHREALTIME/./}
-  "$here/job.sh" "$lab" "$(head -n 1 "$progress/left")" || :
+  head -n 1 "$progress/left" | "$here/many.py" -- "$lab" || :
   task=$((60000000 / (${EPOCHREALTIME/./} - begun) + 1))
   left=$(list_left)
 fi

@@ -1,11 +1,13 @@
-"""The pages of the manual. Each is made from what a program says to `--help`, and from sections of docs/."""
+"""The pages of the manual. Each is made from the table of a command, and from sections of docs/."""
 
 import pathlib
 import re
-import subprocess
 import textwrap
 from typing import Iterator, NamedTuple
 
+from commands.all import command as command_of
+from commands.help import forms_of
+from commands.option import Command
 from viewer.program_names import as_packed
 
 ROOT = pathlib.Path(__file__).resolve().parent.parent
@@ -31,12 +33,13 @@ PAGES = (
     Page("binder-listing", 1, "lists the records of a capture of Binder traffic",
          {"REPORT": ("From a row to its record",)}),
     Page("binder-record", 1, "records the Binder traffic of a running system",
-         {"RECORDER": ("Recording by example", "What a recording needs", "What a capture holds", "The driver's books",
-                       "Stacks", "How it works, and its bounds"), "SIDE-LIST": ()}),
+         {"RECORD": ("Recording by example", "On a device", "What a recording needs", "What a capture holds",
+                     "The driver's books", "Stacks", "What recording costs", "How it works, and its bounds"),
+          "SIDE-LIST": ()}),
     Page(FIRST, 1, "shows a capture as a page, a database or a timeline",
-         {"VIEW": (), "RULES": (), "PERFETTO": ()}),
-    Page("binder-fleet", 1, "keeps what is found in many captures, and compares builds", {"FLEET": ()}),
-    Page("binder-methods", 1, "makes a table of the methods of interfaces", {"VIEW": ("Names of methods",)}),
+         {"PAGE": (), "RULES": (), "PERFETTO": (), "TRUST": ("How good the verdicts are", "Limits")}),
+    Page("binder-fleet", 1, "keeps what is found in many captures, and compares builds", {"BUILDS": ()}),
+    Page("binder-methods", 1, "makes a table of the methods of interfaces", {"PAGE": ("Names of methods",)}),
     Page("binder-capture", 5, "captures of Binder traffic", {"ENVELOPE": (), "COMMANDS": ()}),
 )
 
@@ -127,31 +130,6 @@ def items_of(lines: list[str]) -> Iterator[tuple[str, list[str]]]:
         yield item
 
 
-def column_of(lines: list[str]) -> int | None:
-    """Where the texts of a list of words begin, as `--help` writes it; None if the lines are no such list."""
-    if not all(line.startswith(" ") or re.match(r"(-|\S+(?: \S+)* {2,}\S)", line) for line in lines):
-        return None
-    indents = [len(line) - len(line.lstrip()) for line in lines if line.startswith(" ")]
-    gaps = [len(found[0]) for line in lines if (found := re.match(r"\S+(?: \S+)* {2,}", line))]
-    return min([*indents, *gaps], default=None)
-
-
-def words_of(lines: list[str], column: int) -> Iterator[tuple[str, list[str]]]:
-    """The words of such a list, each with what is said of it."""
-    word: tuple[str, list[str]] | None = None
-    for line in lines:
-        if line.startswith(" "):
-            if word:
-                word[1].append(line)
-            continue
-        if word:
-            yield word
-        is_short = line[column - 1:column] == " "
-        word = (line[:column].strip(), [line[column:]]) if is_short else (line, [])
-    if word:
-        yield word
-
-
 def cells_of(line: str) -> list[str]:
     return [cell.strip() for cell in line.strip("|").split("|")]
 
@@ -175,9 +153,6 @@ def block_lines(lines: list[str]) -> Iterator[str]:
         for begin, item in items_of(lines):
             yield r".IP \(bu 2" if begin == "-" else f".IP {begin} 4"
             yield from filled(item)
-    elif (column := column_of(lines)) is not None:
-        for word, text in words_of(lines, column):
-            yield from tagged(word, text)
     elif body := list(filled(lines)):
         yield from (".PP", *body)
 
@@ -239,36 +214,46 @@ def section_lines(section: Section) -> Iterator[str]:
         yield from lines[1:] if lines[0] == ".PP" else lines
 
 
-# ---- `--help`
+# ---- a command
 
 
-def help_of(program: pathlib.Path) -> str:
-    """What a program says to `--help`, without what Python's argparse adds."""
-    said = subprocess.run([program, "--help"], capture_output=True, encoding="utf-8", check=True).stdout
-    if said.startswith("usage: "):
-        said = said.partition("\n\n")[2].partition("\n\npositional arguments:")[0]
-    return re.sub(r"^record (\[|--)", r"binder-record \1", said, flags=re.MULTILINE)
-
-
-def synopsis_of(block: list[str]) -> Iterator[str]:
+def synopsis_of(command: Command) -> Iterator[str]:
     """The lines of a command line, which are broken before a bracket."""
-    lines = re.sub(r"\n +", " ", "\n".join(line.removeprefix("    ") for line in block)).split("\n")
-    for line in lines:
-        whole = re.sub(r"\[[^]]*\]", lambda found: found[0].replace(" ", "\0"), line)
+    for form in forms_of(command):
+        whole = re.sub(r"\[[^]]*\]", lambda found: found[0].replace(" ", "\0"), f"binder-{command.name} {form}")
         for part in textwrap.wrap(whole, WIDTH, subsequent_indent=8 * " ", break_on_hyphens=False):
             yield part.replace("\0", " ")
 
 
-def begin_lines(said: str) -> Iterator[str]:
-    """The sections that `--help` gives: the command line, and all else."""
-    blocks = list(joined(blocks_of(said)))
-    line = next(block for block in blocks if block[0].startswith(("    ", "binder-record [")))
-    blocks.remove(line)
+def described(head: str, told: str) -> Iterator[str]:
+    """A word and what is said of it, whose further lines are items."""
+    text, *items = told.split("\n")
+    yield from tagged(head, [text])
+    if items:
+        yield ".RS"
+        for item in items:
+            yield from (r".IP \(bu 2", *filled([item]))
+        yield ".RE"
+
+
+def command_lines(command: Command) -> Iterator[str]:
+    """The sections that the table of a command gives."""
     yield from (".SH SYNOPSIS", ".nf")
-    yield from (escaped(it) for it in synopsis_of(line))
-    yield from (".fi", ".SH DESCRIPTION")
-    lines = [it for block in blocks for it in block_lines(block)]
-    yield from lines[1:] if lines[0] == ".PP" else lines
+    yield from (escaped(line) for line in synopsis_of(command))
+    yield from (".fi", ".SH DESCRIPTION", *filled([command.begin]), ".PP", *filled([command.about_words]))
+    for verb in command.verbs:
+        yield from described(verb.name, verb.told)
+    yield ".SH OPTIONS"
+    for part in command.parts:
+        yield f".SS {escaped(part.heading)}"
+        for option in part.options:
+            yield from described(option.head, option.told)
+    yield ".SH EXAMPLES"
+    for words, what in command.examples:
+        yield from tagged(words, [what])
+    yield ".SH EXIT STATUS"
+    for number, told in command.statuses:
+        yield from tagged(number, [told])
 
 
 # ---- pages
@@ -294,12 +279,12 @@ def also_lines(page: Page) -> Iterator[str]:
         yield from (".PP", f".BR {escaped(FIRST)} (1)", "has the way from a capture to the cause of a leak.")
 
 
-def made(page: Page, programs: pathlib.Path, version: str, date: str) -> str:
-    """A page. The programs are those of a package."""
+def made(page: Page, version: str, date: str) -> str:
+    """A page."""
     lines = [f'.TH {escaped(page.name.upper())} {page.section} {date} "binder\\-audit {escaped(version)}"',
              ".SH NAME", rf"{escaped(page.name)} \- {escaped(page.title)}"]
     if page.section == 1:
-        lines += begin_lines(help_of(programs / page.name))
+        lines += command_lines(command_of(page.name.removeprefix("binder-")))
     else:
         lines += section_lines(Section(2, "Description", begin_of(next(iter(page.documents)))))
     lines += place_lines()

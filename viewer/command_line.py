@@ -1,13 +1,17 @@
 """The command line of a program in Python."""
 
 import argparse
-import functools
 import os
 import sys
-from typing import NoReturn
+from typing import Any, Iterable, Mapping, NoReturn
 
-from viewer.program_names import FOLDER, as_called, called
+from commands.all import command as command_of
+from commands.option import HELP, VERSION, Option
+from viewer.program_names import FOLDER, called
 from viewer.terminal import tell
+
+# How the values of options are read, as argparse has it.
+Reading = Mapping[str, Mapping[str, Any]]
 
 
 class Version(argparse.Action):
@@ -17,35 +21,38 @@ class Version(argparse.Action):
         os.execv(FOLDER / "version.sh", ["version.sh"])
 
 
-@functools.cache
-def width() -> int:
-    """So many columns the help has: those of the terminal. Each option asks for them; and Python's module shutil, which
-    has them too, takes long to load."""
-    told = os.environ.get("COLUMNS", "")
-    if told.isdecimal() and int(told):
-        return int(told)
-    try:
-        return os.get_terminal_size(sys.__stdout__.fileno()).columns or 80  # type: ignore[union-attr]
-    except (AttributeError, ValueError, OSError):  # closed, or no terminal
-        return 80
-
-
-class Help(argparse.RawDescriptionHelpFormatter):
-    """What --help says, in so many columns."""
-
-    def __init__(self, prog: str):
-        super().__init__(prog, width=width() - 2)
-
-
 class Words(argparse.ArgumentParser):
-    """The words of a program, whose docstring is what `--help` says. A mistake ends with status 64, as in the other
-    programs here; the line that names it begins with `name`."""
+    """The words of a command, by its table. A mistake ends with status 64, as in the other programs here; the line that
+    names it begins with `name`."""
 
-    def __init__(self, program: str, name: str, told: str | None):
-        super().__init__(prog=called(program), description=as_called(told or ""), allow_abbrev=False,
-                         formatter_class=Help)
+    def __init__(self, command: str, name: str) -> None:
+        self.command = command_of(command)
+        super().__init__(prog=called(command), allow_abbrev=False)
         self.name = name
-        self.add_argument("--version", action=Version, nargs=0)
+        self.add_argument(VERSION.name, action=Version, nargs=0)
+
+    def format_usage(self) -> str:
+        from commands.help import usage_of
+        return f"usage: {usage_of(self.command)}\n"
+
+    def format_help(self) -> str:
+        from commands.help import lines_of, width
+        return "".join(f"{line}\n" for line in lines_of(self.command, width()))
+
+    def take(self, options: Iterable[Option], read: Reading) -> None:
+        """Takes these options. What `read` has of one comes beside what the table says."""
+        groups: dict[str, Any] = {}
+        options = list(options)
+        assert read.keys() <= {option.name for option in options}, read.keys()
+        for option in options:
+            if option in (HELP, VERSION):
+                continue
+            to = groups.setdefault(option.one_of, self.add_mutually_exclusive_group()) if option.one_of else self
+            how: dict[str, Any] = {"action": "store_true"} if not option.value else {
+                "metavar": tuple(option.values) if len(option.values) > 1 else option.values[0],
+                **({"nargs": len(option.values)} if len(option.values) > 1 else {}),
+                **({"action": "append", "default": []} if option.many else {})}
+            to.add_argument(option.name, **(how | dict(read.get(option.name, {}))))
 
     def error(self, message: str) -> NoReturn:
         for word in sys.argv[1:]:

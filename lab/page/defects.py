@@ -7,7 +7,7 @@ from collections.abc import Iterator
 from typing import NamedTuple
 
 from lab import chance
-from lab.commands import Commands, commands_of
+from lab.shown_by import Commands, commands_of
 from lab.compare import BACK, SHOWN, TIMED, TOLD, Comparison, Enough
 from lab.doubts import doubts
 from lab.first_seen import FIRST

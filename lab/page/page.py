@@ -10,7 +10,7 @@ import sqlite3
 from collections.abc import Iterator
 
 from lab import chance
-from lab.commands import folder_of
+from lab.shown_by import folder_of
 from lab.compare import Enough, milliseconds
 from lab.known_until import Known
 from lab.page.builds import REFUSED

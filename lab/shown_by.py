@@ -20,7 +20,7 @@ def folder_of(path: str) -> pathlib.Path:
 
 
 def side_options(folder: pathlib.Path, at: str, files: list[str]) -> list[str]:
-    """The side list of a session, or of each of its parts, as far as they are beside its files, as lab/job.sh finds
+    """The side list of a session, or of each of its parts, as far as they are beside its files, as lab/many.py finds
     them."""
     stems = [name.removesuffix(".cap") for name in files]
     session = stems[0].rpartition("-")[0] if stems[0].rpartition("-")[2].isdigit() else stems[0]
