@@ -1,5 +1,6 @@
 #include "begin.h"
 #include "clocks.h"
+#include "descriptors.h"
 #include "devices.h"
 #include "met.h"
 #include "names.h"
@@ -51,6 +52,7 @@ void begin_tell_again(u64 number)
 	names_tell_again(number);
 	met_tell_again();
 	stacks_tell_again();
+	descriptors_tell_again();
 	side_wait();
 	if (tell_also)
 		tell_also(number);

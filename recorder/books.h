@@ -1,5 +1,5 @@
 /* Copies of the driver's books: what it holds of each process when the recording begins, and when it ends. They are
- * beside the side list, in OUT.begin.state and so on; docs/RECORDER.md names them. */
+ * beside the side list, in OUT.begin.state and so on; docs/RECORD.md names them. */
 #ifndef RECORDER_BOOKS_H
 #define RECORDER_BOOKS_H
 #include "common.h"

@@ -56,6 +56,7 @@ variables_of() { # NAME
 compile_programs record
 compile_programs older -DOLDER_KERNELS
 if [[ -n $by_helper ]]; then compile_programs by_helper -DREADS_BY_HELPER; fi
+"$here/../commands/as_c.py" >"$folder/option_names.h"
 # One skeleton opens both (kernel.c).
 if [[ $(variables_of record) != "$(variables_of older)" ]]; then
   printf 'record: the programs for older kernels have other variables\n' >&2 && exit 1

@@ -1,6 +1,7 @@
 #define _GNU_SOURCE
 #include "frame.h"
 #include "codes.h"
+#include "descriptors.h"
 #include "grammar.h"
 #include "live.h"
 #include "met.h"
@@ -401,5 +402,6 @@ enum reason frame_write(struct frame *frame, u64 consumed)
 	met_frame(frame);
 	open_calls_frame(frame);
 	live_frame(frame);
+	descriptors_frame(frame);
 	return REASON_NONE;
 }

@@ -1,4 +1,4 @@
-/* Keeps the files of a flight recorder as they are now, while the recording goes on. docs/RECORDER.md says when and how,
+/* Keeps the files of a flight recorder as they are now, while the recording goes on. docs/RECORD.md says when and how,
  * and docs/SIDE-LIST.md has the line that says why. */
 #ifndef RECORDER_KEEP_H
 #define RECORDER_KEEP_H

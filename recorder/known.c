@@ -1,5 +1,6 @@
 #include "known.h"
 #include "command.h"
+#include "descriptors.h"
 #include "met.h"
 #include "open_calls.h"
 #include <stdlib.h>
@@ -69,6 +70,7 @@ static int forget_opening(struct ending *ending)
 	if (o->numbered) {
 		met_process_ended(o->device, o->process);
 		open_calls_process_ended(o->device, o->process);
+		descriptors_process_ended(o->device, o->process);
 	}
 	command_forget(o->id);
 	table_empty(&o->thread_numbers);

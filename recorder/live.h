@@ -1,4 +1,4 @@
-/* --live: once a second, what goes on, in lines that docs/RECORDER.md explains. They go to standard output; or, for a
+/* --live: once a second, what goes on, in lines that docs/RECORD.md explains. They go to standard output; or, for a
  * program that draws them, to the descriptor that RECORD_LIVE names, each after a byte that no other line begins with. */
 #ifndef RECORDER_LIVE_H
 #define RECORDER_LIVE_H

@@ -1,10 +1,11 @@
-/* Records the Binder traffic of a system into a capture and a side list. docs/RECORDER.md says how and why. */
+/* Records the Binder traffic of a system into a capture and a side list. docs/RECORD.md says how and why. */
 #define _GNU_SOURCE
 #include "begin.h"
 #include "books.h"
 #include "clocks.h"
 #include "command.h"
 #include "common.h"
+#include "descriptors.h"
 #include "failures.h"
 #include "frame.h"
 #include "keep.h"
@@ -204,6 +205,7 @@ static void finish(struct ring *ring)
 	names_end();
 	stacks_end();
 	clocks_tell();
+	descriptors_tell();
 	books_tell();
 	/* A program that had its number at the end may have looked at the clock after that. */
 	u64 time = window_latest() > stopped ? window_latest() : stopped;
@@ -383,6 +385,7 @@ int main(int count, char **words)
 		books_drop_names();
 	else
 		books_copy(options.out, "end");
+	descriptors_look();
 	triggers_end();
 	finish(&ring);
 	redact_end();

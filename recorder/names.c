@@ -243,6 +243,19 @@ static int is_called(const struct known_opening *o, const char *name)
 	return (strlen(name) < NAME_BYTES && !strncmp(o->name, name, NAME_BYTES)) || command_is_called(o->id, name);
 }
 
+int names_process(u32 device, u32 number, u32 *process, u64 *start)
+{
+	for (struct link *link = known_openings.next; link != &known_openings; link = link->next) {
+		const struct known_opening *o = LINKED(link, struct known_opening, all);
+		if (link == &again.opening || !o->numbered || o->device != device || o->process != number)
+			continue;
+		*process = o->process_id;
+		*start = o->start;
+		return 1;
+	}
+	return 0;
+}
+
 int names_are_called(u32 process, const char *name)
 {
 	for (struct link *link = known_openings.next; link != &known_openings; link = link->next) {

@@ -32,6 +32,8 @@ void names_left(u32 opening, u32 thread, u64 time, u64 after);
 void names_ended(u32 thread, u32 process, int is_last, u64 time, u64 after);
 /* From now on `tell` is called when a process has ended, with the last number before that. */
 void names_tell_end(void (*tell)(u32 process, u64 time, u64 after));
+/* The process of an opening that has these numbers, and when it began. Returns 0 if there is none any more. */
+int names_process(u32 device, u32 number, u32 *process, u64 *start);
 /* Whether a process with an opening is called so: by its name, or its program, without folders. */
 int names_are_called(u32 process, const char *name);
 void names_changed(u32 thread, const char *name, u64 time, u64 after);

@@ -18,8 +18,8 @@ folder=$here/out${other:+/$other}
 program=$folder/record
 
 is_fresh() {
-  [[ -x $program && -z $(find "$here" -maxdepth 1 -newer "$program" \
-    \( -path "$here" -o -name '*.[ch]' -o -name build.sh \) -print -quit) ]]
+  [[ -x $program && -z $(find "$here" "$here/../commands" -maxdepth 1 -newer "$program" \
+    \( -path "$here" -o -name '*.[ch]' -o -name '*.py' -o -name build.sh \) -print -quit) ]]
 }
 
 # The owner of the folder, if that is another user. Root builds nothing there: the owner could change what root runs.
@@ -35,7 +35,7 @@ build() {
   owner=$(stranger)
   if ((EUID == 0)) && [[ -n $owner ]]; then
     printf 'record: root builds nothing in a folder of the user %s, who can build the recorder with %s\n' "$owner" \
-      "$([[ -n $other ]] && printf 'recorder/program.sh %s' "$other" || printf './record --help')" >&2
+      "recorder/program.sh${other:+ $other}" >&2
     return 1
   fi
   "$here/../packager/needs" --as record --machine "$machine" recorder || return 1

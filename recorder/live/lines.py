@@ -1,4 +1,4 @@
-"""What the lines of `record --live` say; docs/RECORDER.md explains them. They may come from a device that means harm,
+"""What the lines of `record --live` say; docs/RECORD.md explains them. They may come from a device that means harm,
 so a line that is none is passed over, and no more of a sort are taken than a recorder writes."""
 
 import re
