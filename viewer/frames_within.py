@@ -1,33 +1,19 @@
-#!/usr/bin/env python3
-"""Says to ./listing which frames are of a time: writes the numbers of the first and the last one.
-
-    viewer/frames_within.py [--side SIDE].. --last TIME | --between BEGIN END | --around PLACE FILE...
-
-The options are those of ./view. Without --side it takes the side list that lies beside the capture. Status 0: they are
-written. 1: the recording has nothing of this time. 4: a file can't be read. 64: the command line is not valid.
-"""
+"""Which frames are of a time, by the side list alone: ./listing narrows its lines to them."""
 
 import os
 import pathlib
 import sqlite3
 import subprocess
-import sys
 import tempfile
 
-ROOT = pathlib.Path(__file__).resolve().parents[1]
-sys.path.insert(0, str(ROOT))
-sys.dont_write_bytecode |= not (ROOT / "crates/build").exists()
-from viewer.whole_python import need_whole_python  # noqa: E402
-need_whole_python("listing")
-from viewer import window  # noqa: E402
-from viewer.command_line import Words  # noqa: E402
-from viewer.database import raw_tables  # noqa: E402
-from viewer.database.side_beside import side_beside  # noqa: E402
-from viewer.database.side_list import SideList, joined_sides, times_in  # noqa: E402
-from viewer.files import Stopped  # noqa: E402
-from viewer.terminal import tell, write  # noqa: E402
-from viewer.units import signed  # noqa: E402
+from viewer import window
+from viewer.database import raw_tables
+from viewer.database.side_beside import side_beside
+from viewer.database.side_list import SideList, joined_sides, times_in
+from viewer.files import Stopped
+from viewer.units import signed
 
+ROOT = pathlib.Path(__file__).resolve().parents[1]
 # The numbers that frames may have, as SQLite has them.
 MOST = 2**63 - 1
 
@@ -60,30 +46,20 @@ def frame_at(place: int, files: list[str]) -> int:
     if "\t" not in line and asked.returncode in (0, 2):
         raise Stopped(1, f"--around: the frame that has the byte at {place} has no record")
     if "\t" not in line:  # the program has said why
-        sys.exit(asked.returncode)
+        os._exit(asked.returncode)
     return int(line.split("\t")[1])
 
 
-def main() -> int:
-    line = Words("listing", "listing", __doc__)
-    line.add_argument("files", metavar="FILE", nargs="+")
-    line.add_argument("--side", action="append", default=[])
-    window.add_to(line)
-    asked = line.parse_args()
+def frames_within(option: str, values: list, sides: list[str], files: list[str]) -> tuple[int, int]:
+    """The numbers of the first and the last frame of what an option asks for. Without side lists it takes the one that
+    lies beside the capture."""
+    asked = {"--last": (values[0], None, None), "--between": (None, values, None), "--around": (None, None, values[0])}
+    last, between, around = asked[option]
     try:
-        sides = asked.side or side_beside(asked.files)
-        if asked.around is not None:
-            asked.around = frame_at(asked.around, asked.files)
-        found = window.Recording(database_of(sides), 0, MOST).window(asked)
-        write([f"{found.first} {found.last}\n"])
-        return 0
-    except Stopped as stopped:
-        tell("listing", str(stopped))
-        return stopped.status
+        sides = sides or side_beside(files)
+        if around is not None:
+            around = frame_at(around, files)
+        found = window.Recording(database_of(sides), 0, MOST).window(window.Asked(last, between, around))
+        return found.first, found.last
     except OSError as error:
-        tell("listing", f"{error.filename or 'standard output'}: {error.strerror}")
-        return 4
-
-
-if __name__ == "__main__":
-    os._exit(main())
+        raise Stopped(4, f"{error.filename}: {error.strerror}") from error

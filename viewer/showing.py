@@ -1,6 +1,7 @@
 """What `./view` does: from its words to a page, a database, groups or a timeline."""
 
 import argparse
+import contextlib
 import os
 import pathlib
 import signal
@@ -10,7 +11,7 @@ from typing import TYPE_CHECKING, Iterator, NamedTuple, NoReturn
 
 from viewer.absent import called as absent_call
 from viewer.calls import asked as asked_call
-from viewer.command_line import Words
+from viewer.command_line import Reading, Words
 from viewer.database import loading, raw_tables, side_list
 from viewer.database.side_beside import side_beside
 from viewer.database.sqlite import errors_in, open_database
@@ -25,6 +26,8 @@ from viewer.timing import Timing
 from viewer import window as windows
 
 if TYPE_CHECKING:
+    from viewer.arguments.recorded import Arguments
+    from viewer.arguments.sources import Declarations
     from viewer.defects.gate import Gate
 
 
@@ -35,31 +38,12 @@ def number(word: str) -> int:
     return int(word)
 
 
-def add_words(line: Words) -> None:
-    line.add_argument("files", metavar="FILE", nargs="+")
-    line.add_argument("--side", action="append", default=[])
-    line.add_argument("--no-side", action="store_true")
-    line.add_argument("--methods", action="append", default=[], metavar="FILE")
-    line.add_argument("--symbols", action="append", default=[], metavar="FOLDER")
-    line.add_argument("-o", dest="page", metavar="PAGE.html")
-    line.add_argument("--database", metavar="KEEP.db")
-    line.add_argument("--groups", action="store_true")
-    line.add_argument("--columns", action="store_true")
-    line.add_argument("--all", action="store_true")
-    line.add_argument("--against", metavar="OLD.db")
-    line.add_argument("--fail-on", dest="fail_on", choices=("real", "maybe"), metavar="VERDICT")
-    line.add_argument("--known", metavar="FILE")
-    line.add_argument("--trace", metavar="OUT")
-    line.add_argument("--names", choices=["android"])
-    line.add_argument("--process", metavar="PROCESS")
-    line.add_argument("--thread", type=number, metavar="N")
-    line.add_argument("--from", dest="first", type=number, metavar="N")
-    line.add_argument("--to", dest="final", type=number, metavar="N")
-    windows.add_to(line)
-    line.add_argument("--call", type=asked_call.call, metavar="CALL")
-    line.add_argument("--absent", type=absent_call.called, metavar="METHOD")
-    line.add_argument("--slow", type=windows.length, metavar="TIME")
-    line.add_argument("--timing", action="store_true")
+# How the values of the options are read, and what they are called here.
+READ: Reading = {
+    "-o": {"dest": "page"}, "--fail-on": {"choices": ("real", "maybe")}, "--names": {"choices": ("android",)},
+    "--thread": {"type": number}, "--from": {"type": number, "dest": "first"},
+    "--to": {"type": number, "dest": "final"}, **windows.READ, "--call": {"type": asked_call.call},
+    "--absent": {"type": absent_call.called}, "--slow": {"type": windows.length}}
 
 
 def why_not(asked: argparse.Namespace) -> Iterator[str]:
@@ -72,8 +56,8 @@ def why_not(asked: argparse.Namespace) -> Iterator[str]:
         yield "-o does not go with --groups, which makes no page"
     if (asked.columns or asked.all) and not asked.groups:
         yield "--columns and --all go with --groups"
-    if asked.no_side and asked.side:
-        yield "--no-side does not go with --side"
+    if asked.arguments and not (asked.page or asked.database):
+        yield "--arguments is for a page or a database"
     if asked.trace is None and {asked.thread, asked.first, asked.final} != {None}:
         yield "--thread, --from and --to narrow a timeline, and go with --trace"
     if asked.process is not None and not (asked.page or asked.groups or asked.trace or asked.absent):
@@ -90,9 +74,10 @@ def why_not(asked: argparse.Namespace) -> Iterator[str]:
         yield "--slow is for a page, which -o names"
 
 
-def asked_by(words: list[str], help_text: str | None) -> argparse.Namespace:
-    line = Words("view", "view", help_text)
-    add_words(line)
+def asked_by(words: list[str]) -> argparse.Namespace:
+    line = Words("view", "view")
+    line.add_argument("files", metavar="FILE", nargs="+")
+    line.take(line.command.options(), READ)
     asked = line.parse_args(words)
     if asked.page is None and not asked.groups and {asked.trace, asked.against, asked.call, asked.absent} == {None}:
         asked.page = f"{asked.files[0]}.html"
@@ -226,26 +211,52 @@ class Seen(NamedTuple):
     told: str | None
 
 
-def load(root: pathlib.Path, asked: argparse.Namespace, methods: known.Methods, room: pathlib.Path, progress: Progress
-         ) -> Fault | None:
+def sources_of(asked: argparse.Namespace) -> "Declarations | None":
+    """The .aidl sources that are named; none of them if only arguments are asked for."""
+    if not (asked.aidl or asked.arguments):
+        return None
+    from viewer.arguments.sources import Declarations
+    return Declarations(asked.aidl)
+
+
+def load(root: pathlib.Path, asked: argparse.Namespace, methods: known.Methods, room: pathlib.Path, progress: Progress,
+         sources: "Declarations | None") -> Fault | None:
     """Makes the database in this folder, by the programs of `root`. Returns the first fault of the capture."""
     with unchanged(asked.side):
         side = side_list.joined_sides(asked.side, room / "joined.side") if asked.side else None
         malformed = loading.database_of(root, asked.files, side, room / "capture.db", progress.tell, methods,
-                                        asked.side, asked.database is not None, progress.timing)
+                                        asked.side, asked.database is not None, progress.timing, sources)
     return fault_of(malformed, asked.files) if malformed else None
 
 
 def options_of(asked: argparse.Namespace) -> str:
     """The words by which the same page is made of the same files again."""
-    given = (("--side", asked.side), ("--methods", asked.methods), ("--symbols", asked.symbols),
-             ("--against", [asked.against] if asked.against else []))
+    given = (("--side", asked.side), ("--methods", asked.methods), ("--aidl", asked.aidl),
+             ("--symbols", asked.symbols), ("--against", [asked.against] if asked.against else []))
     return "".join(f" {option} {word_of(value)}" for option, values in given for value in values) + (
-        " --no-side" if asked.no_side else "")
+        " --no-side" if asked.no_side else "") + (" --arguments" if asked.arguments else "")
 
 
-def answer(database: sqlite3.Connection, asked: argparse.Namespace, fault: Fault | None, gate: "Gate | None"
-           ) -> tuple[list[str], str | None]:
+@contextlib.contextmanager
+def arguments_of(database: sqlite3.Connection, asked: argparse.Namespace, sources: "Declarations | None"
+                 ) -> "Iterator[Arguments | None]":
+    """The arguments of the capture, if they are asked for. A database that is kept gets all of them."""
+    if not asked.arguments or sources is None:
+        yield None
+        return
+    from viewer.arguments.recorded import Arguments, take_all
+    from viewer.database.data_hash import Data
+    with Data(asked.files) as files:
+        arguments = Arguments(database, files, sources)
+        if arguments.why_none:
+            tell("view", f"--arguments: {arguments.why_none}")
+        if asked.database:
+            take_all(database, arguments)
+        yield arguments
+
+
+def answer(database: sqlite3.Connection, asked: argparse.Namespace, fault: Fault | None, gate: "Gate | None",
+           arguments: "Arguments | None") -> tuple[list[str], str | None]:
     """Writes what is asked for of a database. Returns the lines to print, and what is said at the end."""
     lines: list[str] = []
     window = within.window_of(database, asked)
@@ -264,7 +275,7 @@ def answer(database: sqlite3.Connection, asked: argparse.Namespace, fault: Fault
     if asked.page:
         from viewer.page import page
         page.write(database, asked.files, pathlib.Path(asked.page), gate.shown() if gate else None, window,
-                   page.SLOW if asked.slow is None else asked.slow, options_of(asked))
+                   page.SLOW if asked.slow is None else asked.slow, options_of(asked), arguments)
     if asked.trace:
         write_trace(database, asked, window)
     return lines, told_at_end(database, asked, window)
@@ -275,7 +286,7 @@ def view(root: pathlib.Path, asked: argparse.Namespace, progress: Progress) -> S
     progress.timing = Timing() if asked.timing else None
     refuse_existing(asked)
     refuse_no_folder(asked.symbols)
-    methods = known.methods_of(asked.methods)
+    methods, sources = known.methods_of(asked.methods), sources_of(asked)
     gate = gate_of(asked)
     with sigterm_held():  # the compiler leaves files if it is ended
         raw_tables.loader()
@@ -283,7 +294,7 @@ def view(root: pathlib.Path, asked: argparse.Namespace, progress: Progress) -> S
     beside = os.path.dirname(os.path.abspath(asked.database)) if asked.database else None
     with (errors_of(asked.database or os.environ.get("TMPDIR", "/tmp")), folder_in(beside) as room,
           errors_in(room / "capture.db")):
-        fault = load(root, asked, methods, room, progress)
+        fault = load(root, asked, methods, room, progress, sources)
         database = open_database(room / "capture.db")
         progress.end()
         tell_doubt(database, fault)
@@ -291,7 +302,8 @@ def view(root: pathlib.Path, asked: argparse.Namespace, progress: Progress) -> S
             progress.tell("naming the functions of stacks")
             name_functions(database, asked.symbols, room)
         progress.tell("writing")
-        lines, told = answer(database, asked, fault, gate)
+        with arguments_of(database, asked, sources) as arguments:
+            lines, told = answer(database, asked, fault, gate, arguments)
         database.close()
         if asked.database:
             keep(room / "capture.db", pathlib.Path(asked.database))
@@ -306,13 +318,12 @@ def stop(_: int, __: object) -> NoReturn:
     sys.exit(128 + signal.SIGTERM)
 
 
-def main(root: pathlib.Path, help_text: str | None) -> int:
-    """Does what the words of the command line ask for, of which --help says `help_text`, by the programs of the folder
-    `root`. The status."""
+def main(root: pathlib.Path) -> int:
+    """Does what the words of the command line ask for, by the programs of the folder `root`. The status."""
     progress = Progress()
     signal.signal(signal.SIGTERM, stop)
     try:
-        status, lines, told = view(root, asked_by(sys.argv[1:], help_text), progress)
+        status, lines, told = view(root, asked_by(sys.argv[1:]), progress)
         progress.end()
         # A reader that stops early, for example `head`, ends this without a message. By now nothing is left to remove.
         signal.signal(signal.SIGPIPE, signal.SIG_DFL)

@@ -42,6 +42,13 @@ def tell(program: str, line: str) -> None:
             sys.stderr.write(f"{program}: {shown(line)}\n")
 
 
+def tell_fault(kind: str) -> None:
+    """Writes the line by which the proved programs name an error of a run."""
+    if sys.stderr is not None:
+        with contextlib.suppress(OSError):
+            sys.stderr.write(f"fault {kind}\n")
+
+
 def write(lines: Iterable[str]) -> None:
     """Writes lines to standard output, in UTF-8 whatever the locale is. A line may have tabs between its fields."""
     if sys.stdout is None:

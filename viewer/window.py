@@ -5,7 +5,7 @@ import contextlib
 import datetime
 import re
 import sqlite3
-from typing import Iterator, NamedTuple
+from typing import Any, Callable, Iterator, NamedTuple
 
 from viewer.clocks import SECOND, Times
 from viewer.files import Stopped
@@ -76,12 +76,16 @@ def place(word: str) -> int:
     return int(word)
 
 
-def add_to(line: argparse.ArgumentParser) -> None:
-    """The options, of which a command line has one."""
-    which = line.add_mutually_exclusive_group()
-    which.add_argument("--last", type=length, metavar="TIME")
-    which.add_argument("--between", type=moment, nargs=2, metavar=("BEGIN", "END"))
-    which.add_argument("--around", type=place, metavar="PLACE")
+# How the values of the options are read, of which a command line has one.
+READ_BY: dict[str, Callable[[str], Any]] = {"--last": length, "--between": moment, "--around": place}
+READ = {option: {"type": read} for option, read in READ_BY.items()}
+
+
+class Asked(NamedTuple):
+    """What one of the options is given."""
+    last: Any
+    between: Any
+    around: Any
 
 
 def is_asked(asked: argparse.Namespace) -> bool:
@@ -117,7 +121,7 @@ class Recording:
         self.first, self.last = first or 0, last or 0
         self.times = Times(database)
 
-    def window(self, asked: argparse.Namespace) -> Window:
+    def window(self, asked: argparse.Namespace | Asked) -> Window:
         """What is asked for, with the number of a frame for a place."""
         if asked.around is not None:
             return self.around(asked.around)

@@ -31,9 +31,8 @@ SENT = """SELECT r.place, r.seq, t.upid, i.name, r.code
 
 # How many transactions the whole capture has, by the report and by the tables.
 COUNTED = """SELECT
-  (SELECT coalesce(sum(CAST(substr(text, instr(text, ' ' || name || ' ') + length(name) + 2) AS INTEGER)), 0)
-    FROM report JOIN kind ON name IN ('BC_TRANSACTION', 'BC_TRANSACTION_SG') AND instr(text, ' ' || name || ' ')
-    WHERE section = 'codes'),
+  (SELECT coalesce(sum(count), 0) FROM report
+    WHERE section = 'codes' AND name IN ('BC_TRANSACTION', 'BC_TRANSACTION_SG')),
   (SELECT count(*) FROM raw_record WHERE kind IN
     (SELECT number FROM kind WHERE name IN ('BC_TRANSACTION', 'BC_TRANSACTION_SG')))"""
 

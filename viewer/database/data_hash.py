@@ -40,9 +40,14 @@ class Data:
         """The number of so many bytes of data, whose entry begins there."""
         if attachment is None:
             return None
+        held = self.bytes_of(attachment, size)
+        return int.from_bytes(blake2s(held, digest_size=8).digest(), "little", signed=True)
+
+    def bytes_of(self, attachment: int, size: int) -> bytes:
+        """So many bytes of an entry that begins there, after its header."""
         base, data = next(part for part in reversed(self.parts) if part[0] + FILE_HEADER <= attachment)
         begin = attachment - base + ENTRY_HEADER
-        return int.from_bytes(blake2s(data[begin:begin + size], digest_size=8).digest(), "little", signed=True)
+        return data[begin:begin + size]
 
 
 def take_all(database: sqlite3.Connection, files: list[str]) -> None:

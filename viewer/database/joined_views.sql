@@ -1,8 +1,8 @@
 -- Views that join what a question needs: both ends of a transaction, with times, names and outcome; who holds whose
 -- object; who asked to be told of whose death; descriptors; loopers and what they serve; and senders in sum. They have
 -- numbers in place of names, and joined lines, as views.sql has.
--- needs: schema.sql: book_handle, capture, finding, method, object_interface, object_service, package, raw_call,
---   raw_capture, raw_delivery, raw_generation, raw_interface, raw_object, raw_process, raw_record, raw_send,
+-- needs: schema.sql: argument, book_handle, capture, finding, method, object_interface, object_service, package,
+--   raw_call, raw_capture, raw_delivery, raw_generation, raw_interface, raw_object, raw_process, raw_record, raw_send,
 --   raw_service, raw_thread, side_device, side_process, side_thread, side_time; numbers.sql: kind, verdict;
 --   rules/nodes.sql: node_of, who; rules/matters.sql: traffic; rules/defects.sql: call_text
 -- makes: views: txn, holder, death_request, fd_sent, looper, sender
@@ -45,7 +45,9 @@ SELECT
   q.uid AS client_uid,
   (SELECT group_concat(name) FROM package x WHERE x.uid = q.uid OR x.uid = q.uid % 100000) AS client_package,
   sq.uid AS server_uid,
-  (SELECT group_concat(name) FROM package x WHERE x.uid = sq.uid OR x.uid = sq.uid % 100000) AS server_package
+  (SELECT group_concat(name) FROM package x WHERE x.uid = sq.uid OR x.uid = sq.uid % 100000) AS server_package,
+  ga.text AS arguments,
+  gr.text AS returned
 FROM raw_send s JOIN raw_record r USING (place) JOIN raw_thread t USING (utid) JOIN raw_process p USING (upid)
   LEFT JOIN side_thread u USING (device, process, thread) LEFT JOIN side_process q USING (device, process)
   LEFT JOIN side_device sd ON sd.device = p.device
@@ -61,6 +63,7 @@ FROM raw_send s JOIN raw_record r USING (place) JOIN raw_thread t USING (utid) J
   LEFT JOIN kind f ON f.number = x.kind LEFT JOIN raw_record a ON a.place = iif(c.verdict = 1, c.closer, NULL)
   LEFT JOIN side_time b ON b.seq = s.seq LEFT JOIN side_time y ON y.seq = d.seq
   LEFT JOIN side_time z ON z.seq = c.seq + c.dur_seq
+  LEFT JOIN argument ga ON ga.place = s.place LEFT JOIN argument gr ON gr.place = iif(c.verdict = 1, c.closer, NULL)
 WHERE r.kind IN (:BC_TRANSACTION, :BC_TRANSACTION_SG);
 
 -- A row for each handle that a process holds at the end, unless it ended before the last frame. Its counts are those of

@@ -5,7 +5,7 @@ import os
 import pathlib
 import select
 import sqlite3
-from typing import Callable
+from typing import TYPE_CHECKING, Callable
 
 from viewer.database import data_hash, packages
 from viewer.database.finders import Finders, finders_of
@@ -16,13 +16,16 @@ from viewer.database.side_list import SideList
 from viewer.database.sqlite import open_database
 from viewer.files import Stopped, linked, shown_name, unchanged
 from viewer.malformed import fault_of
-from viewer.methods.known import Methods, load_methods
+from viewer.methods.known import Methods, load_methods, named_in
 from viewer.program_names import called
 from viewer.rules.judging import begin, judge
 from viewer.scratch import remove
 from viewer.started import Started
 from viewer.timing import Timing
 from viewer.zeros import Ended, without_zeros
+
+if TYPE_CHECKING:
+    from viewer.arguments.sources import Declarations
 
 # The least bytes of a capture of which tables are packed: of fewer, the files of these take longer than they save.
 LEAST_PACKED = 2**20
@@ -47,10 +50,12 @@ def load_facts(database: sqlite3.Connection, files: list[str], malformed: str | 
 
 def fill(database: sqlite3.Connection, files: list[str], side: str | None, report: pathlib.Path,
          malformed: str | None, methods: Methods | None = None, beside: list[str] | None = None,
-         others: pathlib.Path | None = None, finders: Finders | None = None, is_packed: bool = False) -> SideList:
+         others: pathlib.Path | None = None, finders: Finders | None = None, is_packed: bool = False,
+         sources: "Declarations | None" = None) -> SideList:
     """Adds the side list, the report and its findings to the raw tables. The driver's books are beside the side lists
     `beside`, or else beside the side list, of which `others` has the lines that are not loaded yet. If there are
-    `finders`, `doubt_side_list` tells later whether the side list is that of the capture."""
+    `finders`, `doubt_side_list` tells later whether the side list is that of the capture. The methods are those of
+    tables, and then those of `sources`."""
     database.execute("BEGIN")
     if not is_packed:
         data_hash.take_all(database, files)
@@ -68,8 +73,9 @@ def fill(database: sqlite3.Connection, files: list[str], side: str | None, repor
     load_report(database, report)
     load_facts(database, files, malformed, taken.facts if side is not None else {})
     load_findings(database)
-    load_methods(database, methods or {})
-    database.execute("INSERT INTO capture VALUES ('methods', ?)", (len(methods or {}),))
+    given = {**(sources.names(named_in(database)) if sources else {}), **(methods or {})}
+    load_methods(database, given)
+    database.execute("INSERT INTO capture VALUES ('methods', ?)", (len(given),))
     database.execute("COMMIT")
     return taken
 
@@ -148,7 +154,8 @@ def tell_zeros(database: sqlite3.Connection, files: list[str], malformed: str | 
 
 def database_of(root: pathlib.Path, files: list[str], side: str | None, made: pathlib.Path,
                 tell: Callable[[str], None], methods: Methods | None = None,
-                beside: list[str] | None = None, kept: bool = True, timing: Timing | None = None) -> str | None:
+                beside: list[str] | None = None, kept: bool = True, timing: Timing | None = None,
+                sources: "Declarations | None" = None) -> str | None:
     """Makes the database of a capture, with the report and the verdicts of the rules, and the names of methods. Returns
     the line of the capture's first fault, or None. If it is not kept, a part of it stays in files beside it."""
     with unchanged(files):
@@ -177,7 +184,7 @@ def database_of(root: pathlib.Path, files: list[str], side: str | None, made: pa
     with finders or contextlib.nullcontext():
         if finders:
             begin(database, finders)
-        taken = fill(database, files, side, report, malformed, methods, beside, others, finders, packs)
+        taken = fill(database, files, side, report, malformed, methods, beside, others, finders, packs, sources)
         tell_zeros(database, files, malformed, ends)
         report.unlink()
         tell("applying the rules")

@@ -15,8 +15,8 @@
  */
 enum { EQUAL = 1, FROM = 2, UP_TO = 4, FALLING = 8, BY_INDEX = 16, BITS_OF_KEY = 5, BITS_OF_FILTER = 7, SEVERAL = 64 };
 
-/* So many other columns are looked at, each for so many values: more are left to SQLite. */
-enum { MOST_FILTERS = 3, MOST_VALUES = 16 };
+/* So many other columns are looked at, each for up to MOST_VALUES: more are left to SQLite. */
+enum { MOST_FILTERS = 3 };
 
 /*
  * What SQLite takes a table of its own to have, and about what it reckons for a look at all of it and for one row, so
@@ -45,12 +45,6 @@ struct table {
 	struct by_column index[MOST_COLUMNS];
 };
 
-/* A column, and what it has to be. */
-struct filter {
-	int column, values;
-	int64_t value[MOST_VALUES];
-};
-
 /* A cursor is at a row between `least` and `most`, or at the end. */
 struct cursor {
 	sqlite3_vtab_cursor base;
@@ -60,7 +54,7 @@ struct cursor {
 	int falls, is_by_value, is_at_end;
 	const uint32_t *next_row, *end_of_rows;		/* those of a value that come next, if `is_by_value` */
 	int filters;
-	struct filter filter[MOST_FILTERS];
+	struct packed_value filter[MOST_FILTERS];
 };
 
 /* ---- where a cursor is */
@@ -225,7 +219,7 @@ static int go_to_next_of_value(struct cursor *cursor)
 /* Goes to the first of the rows between the keys that are asked for, of which those of a value will pass. */
 static int go_to_first_of_all(struct cursor *cursor, int column, int64_t value)
 {
-	cursor->filter[cursor->filters++] = (struct filter){ .column = column, .values = 1, .value = { value } };
+	cursor->filter[cursor->filters++] = (struct packed_value){ .column = column, .values = 1, .value = { value } };
 	cursor->is_by_value = 0;
 	return go_to_first(cursor);
 }
@@ -259,7 +253,7 @@ static int go_to_first_of_value(struct cursor *cursor, struct by_column *index, 
 
 /* ---- the rows that pass */
 
-static int has_value(const struct cursor *cursor, const struct filter *filter)
+static int has_value(const struct cursor *cursor, const struct packed_value *filter)
 {
 	int at = 0;
 	while (at < filter->values && filter->value[at] != cursor->at.values[filter->column])
@@ -272,7 +266,7 @@ static int see_whether_passes(struct cursor *cursor, int *passes)
 {
 	*passes = 1;
 	for (int number = 0; *passes && number < cursor->filters; number++) {
-		const struct filter *filter = &cursor->filter[number];
+		const struct packed_value *filter = &cursor->filter[number];
 		int status = packed_take_columns(&cursor->at, filter->column);
 		if (status)
 			return status;
@@ -281,11 +275,20 @@ static int see_whether_passes(struct cursor *cursor, int *passes)
 	return SQLITE_OK;
 }
 
+/* Goes up to the next row that passes the first filter: of others nothing more is taken than what tells that. */
+static int go_up_to_value(struct cursor *cursor)
+{
+	int is_there, status = packed_go_up_to_value(&cursor->at, &cursor->filter[0], cursor->most, &is_there);
+	return status ? status : is_there ? arrive(cursor) : end_here(cursor);
+}
+
 static int go_to_next(struct cursor *cursor)
 {
 	if (cursor->is_by_value)
 		return go_to_next_of_value(cursor);
-	return cursor->falls ? go_down(cursor) : go_up(cursor);
+	if (cursor->falls)
+		return go_down(cursor);
+	return cursor->filters ? go_up_to_value(cursor) : go_up(cursor);
 }
 
 /* Goes on until a row passes. */
@@ -328,7 +331,7 @@ static void narrow(struct cursor *cursor, sqlite3_value *value, int how)
 }
 
 /* Adds a value to those of a filter. Returns whether it could: of what is no whole number SQLite sees to it. */
-static int add_value(struct filter *filter, sqlite3_value *value)
+static int add_value(struct packed_value *filter, sqlite3_value *value)
 {
 	int type = sqlite3_value_numeric_type(value);
 	if (type == SQLITE_NULL)
@@ -342,7 +345,7 @@ static int add_value(struct filter *filter, sqlite3_value *value)
 /* Adds a filter by what a column has to be, unless that can't be looked at here. */
 static void add_filter(struct cursor *cursor, int plan, sqlite3_value *asked)
 {
-	struct filter *filter = &cursor->filter[cursor->filters];
+	struct packed_value *filter = &cursor->filter[cursor->filters];
 	filter->column = plan & (SEVERAL - 1);
 	filter->values = 0;
 	if (!(plan & SEVERAL)) {

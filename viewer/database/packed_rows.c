@@ -271,6 +271,73 @@ int packed_go_up(struct packed_cursor *cursor, int *is_there)
 	return SQLITE_OK;
 }
 
+/* Passes over so many numbers, of which none needs to be known. */
+static inline const unsigned char *pass_numbers(const unsigned char *at, const unsigned char *end, int count)
+{
+	for (; count; at++) {
+		if (at == end)
+			return NULL;
+		count -= !(*at & 0x80);
+	}
+	return at;
+}
+
+/*
+ * Sees whether a row has one of some values in a column: of all that stands in the row only that column is taken. `has`
+ * is what came of it. Returns whether the row is whole so far.
+ */
+static inline int see_value(const struct packed_row *row, int columns, const struct packed_value *due, int *has)
+{
+	uint64_t mask;
+	int64_t value;
+	const unsigned char *at = take_number(row->rest, row->next, &mask);
+	*has = 0;
+	if (!at || mask >> columns)
+		return 0;
+	if (!(mask >> due->column & 1))
+		return 1;
+	uint64_t before = mask & (((uint64_t)1 << due->column) - 2);
+	at = pass_numbers(at, row->next, __builtin_popcountll(before));
+	if (!at || !take_signed(at, row->next, &value))
+		return 0;
+	for (int number = 0; number < due->values; number++)
+		*has |= due->value[number] == value;
+	return 1;
+}
+
+/* The same of the rows that follow in the block; the first one behind `most` has it too. */
+static int go_up_in_block(struct packed_cursor *cursor, const struct packed_value *due, int64_t most, int *has)
+{
+	struct packed_row row = cursor->row;
+	for (size_t nth = cursor->nth + 1; row.next < cursor->block_end; nth++) {
+		if (!take_row(row.next, cursor->block_end, row.key, &row) || !see_value(&row, cursor->file->columns, due, has))
+			return SQLITE_CORRUPT;
+		if (!*has && row.key <= most)
+			continue;
+		cursor->row = row;
+		cursor->nth = nth;
+		cursor->is_taken = 0;
+		*has = 1;
+		return SQLITE_OK;
+	}
+	*has = 0;
+	return SQLITE_OK;
+}
+
+int packed_go_up_to_value(struct packed_cursor *cursor, const struct packed_value *due, int64_t most, int *is_there)
+{
+	int status = go_up_in_block(cursor, due, most, is_there);
+	while (status == SQLITE_OK && !*is_there && cursor->block + 1 < cursor->file->blocks) {
+		status = go_to_block(cursor, cursor->block + 1);
+		if (status == SQLITE_OK && !see_value(&cursor->row, cursor->file->columns, due, is_there))
+			status = SQLITE_CORRUPT;
+		*is_there |= cursor->row.key > most;
+		if (status == SQLITE_OK && !*is_there)
+			status = go_up_in_block(cursor, due, most, is_there);
+	}
+	return status;
+}
+
 /* All blocks but the last one have equally many rows. */
 int packed_go_to_number(struct packed_cursor *cursor, size_t number)
 {

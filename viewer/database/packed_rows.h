@@ -29,6 +29,13 @@ struct packed_cursor {
 	int64_t values[MOST_COLUMNS];
 };
 
+/* What a column has to be: one of some values. */
+enum { MOST_VALUES = 16 };
+struct packed_value {
+	int column, values;
+	int64_t value[MOST_VALUES];
+};
+
 /* The path that stands in a statement, between quotation marks; to be freed by sqlite3_free. */
 char *packed_unquoted(const char *word);
 
@@ -44,6 +51,12 @@ int packed_find(struct packed_cursor *cursor, int64_t key, int *is_there);
 
 /* Goes to the next row; after the last one `is_there` gets 0. */
 int packed_go_up(struct packed_cursor *cursor, int *is_there);
+
+/*
+ * Goes to the next row that has one of some values in a column other than the first, or to the first one behind the key
+ * `most`; if there is neither, `is_there` gets 0.
+ */
+int packed_go_up_to_value(struct packed_cursor *cursor, const struct packed_value *due, int64_t most, int *is_there);
 
 /* Goes to a row by its number. */
 int packed_go_to_number(struct packed_cursor *cursor, size_t number);

@@ -42,8 +42,8 @@ def with_numbers(text: str) -> str:
 
 
 def schema_of(name: str) -> str:
-    """The statements of a file of the schema. Lines are joined as views.sql says."""
-    return with_numbers((FOLDER / name).read_text("utf-8").replace(f"\n{' ' * 8}", " "))
+    """The statements of a file of the schema."""
+    return with_numbers((FOLDER / name).read_text("utf-8"))
 
 
 @functools.cache

@@ -10,22 +10,35 @@
 -- no_space and the column bits of thread are new.
 -- Since version 10, send_time, call_tree, queue_holder, method_time and clock are new, and the columns data_hash of
 -- record, and device, client_uid, client_package, server_uid and server_package of txn.
+-- Since version 11, side_descriptors is new, and the columns arguments of record, and arguments and returned of txn.
 -- needs: nothing
 -- makes: tables: raw_capture, raw_process, raw_thread, raw_frame, raw_record, raw_interface, raw_service, raw_object,
 --   raw_call, raw_generation, raw_send, raw_delivery, raw_slice, raw_level, side_device, side_process, side_thread,
 --   side_time, side_clock, side_lost, method, call_interface, object_interface, object_service, side_missed,
---   side_failed, side_overrun, side_calls, side_handle, book, book_opening, book_handle, book_node, book_buffer,
---   book_call, book_process, book_open, book_stats, package, disagreement, side_call, side_pc, side_map,
---   side_unstacked, symbol, data_hash, capture, report, finding; indexes: side_process_of_pid, side_thread_of_tid,
---   book_call_of
+--   side_failed, side_overrun, side_descriptors, side_calls, side_handle, book, book_opening, book_handle, book_node,
+--   book_buffer, book_call, book_process, book_open, book_stats, package, disagreement, side_call, side_pc, side_map,
+--   side_unstacked, symbol, data_hash, argument, capture, report, finding; indexes: side_process_of_pid,
+--   side_thread_of_tid, book_call_of
 
-PRAGMA user_version = 10;
+PRAGMA user_version = 11;
 
 -- ---- raw tables: the rows that `./listing --tables` writes, column by column
 --
--- docs/DATABASE.md has the form of a row. These tables may change; the views may not. A change of a
--- column, of its meaning or of the order raises the layout, here, in raw_tables.py and in ending.rt of listing_tables.
--- They are not STRICT: the loader has only whole numbers and texts, and checking each took a quarter of its time.
+-- These tables may change; the views may not. A change of a column, of its meaning or of the order raises the layout,
+-- here, in raw_tables.py and in ending.rt of listing_tables. They are not STRICT: the loader has only whole numbers and
+-- texts, and checking each took a quarter of its time.
+--
+-- A file is rows, one right after another, with no header, count or trailer; a table without rows is an empty file. A
+-- number is 8 bytes, the lowest byte first. A row begins with a number, the mask: bit k, counted from 0 at the lowest,
+-- is 1 if the row has column k. Then come the columns that it has, in order; the others are NULL. A column is a number,
+-- or, where it is TEXT here, a number and as many bytes of ASCII. So a row of four numbers without the second is 32
+-- bytes: the mask 13, and three numbers; and the row of the interface with the id 1 and the name `a.b.IC` is 30: the
+-- mask 3, 1, 6 and the name. The loader refuses a file that ends within a row, and a mask with a bit above the last
+-- column. Only sender_pid, status, and value of BR_ERROR and the like, have a sign: two's complement of 64 bits.
+--
+-- A malformed capture has the rows before its first fault: frames whose header and lengths are good, records before the
+-- fault, and objects of entries before it. before-fault.cap has these frames; of a frame whose content has the fault
+-- the good records, or, if all its records are good, these and the good entries.
 --
 -- A column is present in every row unless it may be NULL. A place is the place of a record's code word unless said
 -- otherwise. A difference of two sequences is taken in 64 bits without a sign. Rows rise by the first column, in
@@ -91,6 +104,15 @@ CREATE TABLE raw_frame(seq INTEGER PRIMARY KEY, place INTEGER NOT NULL, utid INT
 --                that is all of the data of a reply; NULL if they name none
 --   service      the id in raw_service of the name that comes after the interface android.os.IServiceManager in the
 --                data of a transaction; NULL without one
+-- The name of an interface is looked for in transactions whose code is one of a method: from 1 to 0x00ffffff, and for
+-- HIDL also from 0x0f000000 to 0x0fffffff, where the methods of IBase are. docs/DATABASE.md has the forms of their data.
+-- A String16 is the number of its units, the units in UTF-16, a NUL unit, and zeros up to a multiple of four bytes. A
+-- name has at most 256 characters and is identifiers with dots between them, of letters, digits, _ and $. Other data
+-- may begin with a number and a text, so a name must also have a dot, and an I after the last dot, as in
+-- android.os.IServiceManager; after SYST and the like neither is needed. The reply to the code _NTF, 0x5f4e5446, is one
+-- String16, the interface of the node that is asked.
+-- The name of a service is a String16 right after the interface android.os.IServiceManager, of 1 to 256 letters, digits
+-- and the signs . _ - / : @ and $.
 -- The target of a reply means nothing, so BC_REPLY, BC_REPLY_SG and BR_REPLY have no handle, ptr or cookie. A sent
 -- transaction goes to a handle and a received one to a ptr and a cookie; the other reading of these bytes is left out.
 -- Indexes are those that a query of the page, or of docs/DATABASE.md, was measured to need: nodes.sql begins with them.
@@ -315,6 +337,9 @@ CREATE TABLE side_failed(id INTEGER PRIMARY KEY, what TEXT NOT NULL, pid INTEGER
   to_pid INTEGER NOT NULL, handle INTEGER NOT NULL, data_size INTEGER NOT NULL, offsets_size INTEGER NOT NULL,
   answer INTEGER, errno INTEGER NOT NULL, from_seq INTEGER NOT NULL, after INTEGER NOT NULL, ts INTEGER NOT NULL) STRICT;
 CREATE TABLE side_overrun(from_seq INTEGER NOT NULL, after INTEGER NOT NULL, ts INTEGER NOT NULL) STRICT;
+-- How many descriptors a process had open that receives some, and how many it may have.
+CREATE TABLE side_descriptors(id INTEGER PRIMARY KEY, device INTEGER NOT NULL, process INTEGER NOT NULL,
+  ts INTEGER NOT NULL, open INTEGER NOT NULL, most INTEGER NOT NULL, why TEXT NOT NULL) STRICT;
 CREATE TABLE side_calls(device INTEGER, process INTEGER, thread INTEGER, made INTEGER NOT NULL,
   served INTEGER NOT NULL, PRIMARY KEY(device, process, thread)) STRICT;
 CREATE TABLE side_handle(device INTEGER, process INTEGER, handle INTEGER, PRIMARY KEY(device, process, handle)) STRICT;
@@ -363,9 +388,15 @@ CREATE TABLE symbol(build_id TEXT, address INTEGER, inlined INTEGER, function TE
 -- A number for the data of a transaction: the same data have the same one. data_hash.py fills it, for all of them, or of a
 -- large capture that is not kept for calls that come again and again.
 CREATE TABLE data_hash(place INTEGER PRIMARY KEY, hash INTEGER NOT NULL) STRICT;
+-- What transactions and replies say, where that is asked for: recorded.py of arguments/ fills it.
+CREATE TABLE argument(place INTEGER PRIMARY KEY, text TEXT NOT NULL) STRICT;
 CREATE TABLE capture(key TEXT PRIMARY KEY, value);
+-- A row has the columns of its section (report.py), and NULL in the others.
 CREATE TABLE report(id INTEGER PRIMARY KEY, section TEXT NOT NULL, place INTEGER, device INTEGER, process INTEGER,
-  text TEXT NOT NULL) STRICT;
+  text TEXT NOT NULL, what TEXT, thread INTEGER, sender_pid INTEGER, handle INTEGER, code INTEGER, closer INTEGER,
+  ptr INTEGER, cookie INTEGER, strong INTEGER, strong_low INTEGER, weak INTEGER, weak_low INTEGER,
+  held_strong INTEGER, held_weak INTEGER, strong_due INTEGER, weak_due INTEGER, address INTEGER, data_size INTEGER,
+  idx INTEGER, at INTEGER, code_word INTEGER, name TEXT, count INTEGER, sum INTEGER) STRICT;
 -- n_all is NULL where a path is not counted: for handles that are let go of or that no delivery gave, for nodes,
 -- requests, deaths, clears, frees and flags, and for replies that are sent. later counts calls no deeper than the
 -- finding itself; for what is neither a call nor its buffer, it counts write frames. culprit is NULL if it is upid.

@@ -416,6 +416,13 @@ class SideList:
         self.database.execute("INSERT INTO side_overrun VALUES (?, ?, ?)",
                               (number(keyed["from"]), number(keyed["after"]), time))
 
+    def take_descriptors(self, time: int, positional: list[str], keyed: dict[str, str]) -> None:
+        """How many descriptors a process had open, and how many it may have."""
+        self.database.execute("INSERT INTO side_descriptors(device, process, ts, open, most, why)"
+                              " VALUES (?, ?, ?, ?, ?, ?)",
+                              (*numbers(positional, 2), time, number(keyed["open"]), number(keyed["limit"]),
+                               keyed["why"]))
+
     def take_call(self, _: int, positional: list[str], keyed: dict[str, str]) -> None:
         """A line that is not of the usual form."""
         seq, = numbers(positional, 1)

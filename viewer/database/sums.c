@@ -203,6 +203,15 @@ static int time_between(struct work *work, struct packed_cursor *from, struct pa
 	return 1;
 }
 
+/* How long it was from a time, if that is known, to a frame. Returns whether both are known. */
+static int time_since(struct work *work, const int64_t *begin, struct packed_cursor *to, int64_t seq, int64_t *time)
+{
+	if (!begin || !look_up(work, to, seq, TIME_TS))
+		return 0;
+	*time = to->values[TIME_TS] - *begin;
+	return 1;
+}
+
 static int64_t process_of(const struct work *work, int64_t utid)
 {
 	return utid > 0 && (size_t)utid <= work->tables->threads ? work->tables->upid[utid] : 0;
@@ -257,10 +266,10 @@ static void sum_peers(struct work *work)
 
 enum { SENT_GENERATION, SENT_CODE, SENT_ONEWAY, SENT_KEYS, SENT_SENDS = SENT_KEYS, SENT_FAILED, SENT_REFUSED, SENT_OPEN,
        SENT_BYTES, SENT_DELIVERED, SENT_ONE_FITS, SENT_BUFFERS, SENT_PEAK, SENT_LONGEST_SEQ, SENT_LONGEST, SENT_GOOD,
-       SENT_GOOD_SEQ, SENT_GOOD_TIME, SENT_FIELDS };
+       SENT_GOOD_SEQ, SENT_GOOD_TIME, SENT_WAITED, SENT_FIELDS };
 
-/* Adds the delivery of a send, if there is one. */
-static void add_delivery(struct work *work, struct group *group, const struct packed_cursor *send,
+/* Adds the delivery of a send, if there is one. Returns whether it is there. */
+static int add_delivery(struct work *work, struct group *group, const struct packed_cursor *send,
 			 struct packed_cursor *delivery)
 {
 	int is_delivered = has(send, SEND_DELIVERY);
@@ -271,6 +280,15 @@ static void add_delivery(struct work *work, struct group *group, const struct pa
 	add(group, SENT_BUFFERS, is_delivered && !(is_there && has(delivery, DELIVERY_FREED_BY)));
 	if (is_there)
 		set_most(group, SENT_PEAK, delivery->values[DELIVERY_HELD]);
+	return is_there;
+}
+
+/* Sets how many frames it was at most, and how long, if that is known. */
+static void set_longest(struct group *group, int of_frames, int of_time, int64_t frames, const int64_t *time)
+{
+	set_most(group, of_frames, frames);
+	if (time)
+		set_most(group, of_time, *time);
 }
 
 /* The total of sizes is a real number, which stands in its field. */
@@ -283,10 +301,39 @@ static void add_bytes(struct group *group, int64_t size)
 	group->there |= (uint64_t)1 << SENT_BYTES;
 }
 
+/* Adds how long a call took that was sent at this time, if it is closed. Returns whether it was answered. */
+static int add_end(struct work *work, struct group *group, const struct packed_cursor *call, const int64_t *sent,
+		   struct packed_cursor *ended)
+{
+	if (!has(call, CALL_DUR_SEQ))
+		return 0;
+	int64_t time, lasted = call->values[CALL_DUR_SEQ];
+	int is_answered = call->values[CALL_VERDICT] == ANSWERED;
+	int is_timed = time_since(work, sent, ended, call->values[CALL_SEQ] + lasted, &time);
+	set_longest(group, SENT_LONGEST_SEQ, SENT_LONGEST, lasted, is_timed ? &time : NULL);
+	if (is_answered)
+		set_longest(group, SENT_GOOD_SEQ, SENT_GOOD_TIME, lasted, is_timed ? &time : NULL);
+	return is_answered;
+}
+
+/* Adds how long a delivery was waited for, so many frames. Returns whether that is all, as of a oneway send. */
+static int add_wait(struct work *work, struct group *group, int64_t frames, int is_oneway, const int64_t *sent,
+		    const struct packed_cursor *delivery, struct packed_cursor *came)
+{
+	int64_t time;
+	int is_timed = time_since(work, sent, came, delivery->values[DELIVERY_SEQ], &time);
+	if (is_timed)
+		set_most(group, SENT_WAITED, time);
+	if (is_oneway)
+		set_longest(group, SENT_GOOD_SEQ, SENT_GOOD_TIME, frames, is_timed ? &time : NULL);
+	return is_oneway;
+}
+
 static void sum_sent(struct work *work)
 {
 	struct packed_cursor send = cursor_in(work, SENDS), record = cursor_in(work, RECORDS), call = cursor_in(work, CALLS),
-			     delivery = cursor_in(work, DELIVERIES), from = cursor_in(work, TIMES), to = cursor_in(work, TIMES);
+			     delivery = cursor_in(work, DELIVERIES), begun = cursor_in(work, TIMES),
+			     came = cursor_in(work, TIMES), ended = cursor_in(work, TIMES);
 	while (go_on(work, &send, SEND_FITS)) {
 		if (!has(&send, SEND_GENERATION) || !look_up(work, &record, send.values[0], RECORD_DATA_SIZE))
 			continue;
@@ -299,32 +346,19 @@ static void sum_sent(struct work *work)
 		if (!group)
 			return;
 		int is_call = look_up(work, &call, send.values[0], CALL_DUR_SEQ), is_refused = has(&send, SEND_REFUSED);
-		int64_t verdict = is_call ? call.values[CALL_VERDICT] : -1, time;
+		int64_t verdict = is_call ? call.values[CALL_VERDICT] : -1;
 		add(group, SENT_SENDS, 1);
 		add(group, SENT_FAILED, verdict == FAILED || is_refused);
 		add(group, SENT_REFUSED, is_refused);
 		add(group, SENT_OPEN, verdict == OPEN);
 		add_bytes(group, record.values[RECORD_DATA_SIZE]);
-		add_delivery(work, group, &send, &delivery);
-		int64_t seq = send.values[SEND_SEQ], end = seq;
-		int is_closed = is_call && has(&call, CALL_DUR_SEQ), is_good = is_closed && verdict == ANSWERED && !is_oneway;
-		if (is_closed) {
-			end = seq + call.values[CALL_DUR_SEQ];
-			set_most(group, SENT_LONGEST_SEQ, call.values[CALL_DUR_SEQ]);
-			if (time_between(work, &from, &to, seq, end, &time))
-				set_most(group, SENT_LONGEST, time);
-		}
-		if (is_oneway && has(&send, SEND_DELIVERY)
-		    && look_up(work, &delivery, send.values[SEND_DELIVERY], DELIVERY_SEQ)) {
-			end = delivery.values[DELIVERY_SEQ];
-			is_good = 1;
-		}
+		int has_come = add_delivery(work, group, &send, &delivery);
+		const int64_t *sent = look_up(work, &begun, send.values[SEND_SEQ], TIME_TS) ? &begun.values[TIME_TS] : NULL;
+		int is_good = is_call && add_end(work, group, &call, sent, &ended);
+		if (has_come)
+			is_good |= add_wait(work, group, delivery.values[DELIVERY_SEQ] - send.values[SEND_SEQ], is_oneway, sent,
+					    &delivery, &came);
 		add(group, SENT_GOOD, is_good);
-		if (is_good) {
-			set_most(group, SENT_GOOD_SEQ, end - seq);
-			if (time_between(work, &from, &to, seq, end, &time))
-				set_most(group, SENT_GOOD_TIME, time);
-		}
 	}
 }
 
@@ -473,8 +507,7 @@ static void sum_again(struct work *work)
 	struct packed_cursor send = cursor_in(work, SENDS), record = cursor_in(work, RECORDS), time = cursor_in(work, TIMES);
 	while (go_on(work, &send, SEND_GENERATION)) {
 		if (!has(&send, SEND_GENERATION) || !look_up(work, &record, send.values[0], RECORD_DATA_SIZE)
-		    || record.values[RECORD_FLAGS] & ONE_WAY || !record.values[RECORD_DATA_SIZE]
-		    || !look_up(work, &time, send.values[SEND_SEQ], TIME_TS))
+		    || record.values[RECORD_FLAGS] & ONE_WAY || !look_up(work, &time, send.values[SEND_SEQ], TIME_TS))
 			continue;
 		union keys keys = { 0 };
 		set(&keys.group, AGAIN_GENERATION, send.values[SEND_GENERATION]);
@@ -500,7 +533,7 @@ struct sum {
 static const struct sum SUMS[] = {
 	{ "peer_sum", "generation, upid, ptr, cookie, deliveries, certain", PEER_KEYS, PEER_FIELDS, -1, sum_peers },
 	{ "sent_sum", "generation, code, oneway, sends, failed, refused, open, bytes, delivered, one_fits, buffers, peak,"
-		      " longest_seq, longest, good, good_seq, good_time", SENT_KEYS, SENT_FIELDS, SENT_BYTES, sum_sent },
+		      " longest_seq, longest, good, good_seq, good_time, waited", SENT_KEYS, SENT_FIELDS, SENT_BYTES, sum_sent },
 	{ "came_sum", "reply, oneway, code, generation, handle, receiver, ptr, cookie, n, good, longest_seq, longest",
 	  CAME_KEYS, CAME_FIELDS, -1, sum_came },
 	{ "served_sum", "code, upid, ptr, cookie, n, good, longest_seq, longest", SERVED_KEYS, SERVED_FIELDS, -1,

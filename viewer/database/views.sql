@@ -1,10 +1,9 @@
--- The views, which docs/DATABASE.md describes. A view can't have parameters, so raw_tables.py puts the numbers in. It
--- also joins a line that is eight spaces in to the one before it: the database keeps the text of a view, and names are
--- longer than numbers.
--- needs: schema.sql: book_process, capture, data_hash, object_interface, object_service, raw_call, raw_delivery,
---   raw_frame, raw_generation, raw_interface, raw_level, raw_object, raw_process, raw_record, raw_send, raw_service,
---   raw_thread, side_device, side_map, side_pc, side_process, side_thread, side_time, symbol; numbers.sql: cause, kind,
---   sort, verdict; rules/nodes.sql: node_of; rules/matters.sql: traffic; rules/defects.sql: call_text, program
+-- The views, which docs/DATABASE.md describes. A view can't have parameters, so raw_tables.py puts the numbers in.
+-- needs: schema.sql: argument, book_process, capture, data_hash, object_interface, object_service, raw_call,
+--   raw_delivery, raw_frame, raw_generation, raw_interface, raw_level, raw_object, raw_process, raw_record, raw_send,
+--   raw_service, raw_thread, side_device, side_map, side_pc, side_process, side_thread, side_time, symbol; numbers.sql:
+--   cause, kind, sort, verdict; rules/nodes.sql: node_of; rules/matters.sql: traffic; rules/defects.sql: call_text,
+--   program
 -- makes: views: device, process, thread, frame, record, interface, service, object, call, handle, send, delivery,
 --   status, level, reference, listing, came_to, sent_to, node_interface, stack, node_service, talk
 
@@ -34,11 +33,10 @@ FROM raw_frame f JOIN raw_thread t USING (utid) LEFT JOIN side_time x USING (seq
 CREATE VIEW record AS
 SELECT r.place, r.seq, r.utid, t.upid, k.name AS kind, r.handle, r.ptr, r.cookie, r.address, r.code, r.flags,
   r.flags & :TF_ONE_WAY AS oneway, r.sender_pid, r.sender_euid, r.data_size, r.offsets_size, r.offsets, r.extra,
-        r.attachment,
-  r.value, x.ts, i.name AS interface, v.name AS service, h.hash AS data_hash
+  r.attachment, r.value, x.ts, i.name AS interface, v.name AS service, h.hash AS data_hash, g.text AS arguments
 FROM raw_record r JOIN raw_thread t USING (utid) LEFT JOIN kind k ON k.number = r.kind
   LEFT JOIN side_time x USING (seq) LEFT JOIN interface i ON i.id = r.interface
-  LEFT JOIN service v ON v.id = r.service LEFT JOIN data_hash h USING (place);
+  LEFT JOIN service v ON v.id = r.service LEFT JOIN data_hash h USING (place) LEFT JOIN argument g USING (place);
 
 CREATE VIEW interface AS SELECT id, name FROM raw_interface;
 CREATE VIEW service AS SELECT id, name FROM raw_service;
@@ -66,7 +64,7 @@ FROM raw_generation g;
 
 CREATE VIEW send AS
 SELECT s.place, s.seq, s.utid, t.upid, k.name AS kind, r.handle, s.generation, r.code, r.flags,
-        r.flags & :TF_ONE_WAY AS oneway,
+  r.flags & :TF_ONE_WAY AS oneway,
   r.data_size,
   CASE WHEN s.refused IS NOT NULL THEN 'refused' WHEN s.delivery IS NOT NULL THEN 'delivered'
     WHEN s.confirmed IS NOT NULL THEN 'confirmed' ELSE 'unknown' END AS outcome,
@@ -80,7 +78,7 @@ CREATE VIEW delivery AS
 SELECT d.place, d.seq, d.utid, t.upid, k.name AS kind, r.address, r.data_size,
   iif(r.kind = :BR_REPLY, c.code, r.code) AS code, iif(r.kind = :BR_REPLY, c.handle, NULL) AS handle, r.ptr, r.cookie,
   iif(r.kind = :BR_REPLY, 0, r.flags & :TF_ONE_WAY) AS oneway, d.call, d.send, d.freed_by, f.utid AS freed_by_utid,
-        d.dur_seq, d.held,
+  d.dur_seq, d.held,
   b.ts, z.ts - b.ts AS dur, i.name AS interface
 FROM raw_delivery d JOIN raw_thread t USING (utid) JOIN raw_record r USING (place)
   LEFT JOIN kind k ON k.number = r.kind LEFT JOIN raw_record c ON c.place = d.call
@@ -100,7 +98,7 @@ CREATE VIEW level AS SELECT upid, slice, buffers, bytes, refs, calls, served FRO
 CREATE VIEW reference AS
 SELECT r.place, r.seq, r.utid, t.upid, r.handle, k.name AS kind,
   sum((r.kind = :BC_ACQUIRE) - (r.kind = :BC_RELEASE)) OVER changes AS strong,
-        sum((r.kind = :BC_INCREFS) - (r.kind = :BC_DECREFS)) OVER changes AS weak
+  sum((r.kind = :BC_INCREFS) - (r.kind = :BC_DECREFS)) OVER changes AS weak
 FROM raw_record r JOIN raw_thread t USING (utid) JOIN kind k ON k.number = r.kind
 WHERE r.kind BETWEEN :BC_INCREFS AND :BC_DECREFS
 WINDOW changes AS (PARTITION BY t.upid, r.handle ORDER BY r.place ROWS UNBOUNDED PRECEDING);

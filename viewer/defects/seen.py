@@ -14,7 +14,7 @@ QUERY = pathlib.Path(__file__).resolve().parents[1] / "page/queries/defects.sql"
 RANKS = {verdict: rank for verdict, rank in verdicts.RANKS.items() if verdict != "normal"}
 
 # The version of the database's layout.
-LAYOUT = 10
+LAYOUT = 11
 
 
 class Defect(NamedTuple):

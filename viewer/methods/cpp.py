@@ -1,7 +1,10 @@
 """Reads interfaces that are written in C++ by hand, without AIDL: the macro IMPLEMENT_META_INTERFACE says what calls
 name them, and an enum that begins with IBinder::FIRST_CALL_TRANSACTION has the codes of their methods.
 
-C++ is not parsed: an interface counts only if a few forms are there that leave no doubt, and is left out otherwise."""
+C++ is not parsed: an interface counts only if a few forms are there that leave no doubt, and is left out otherwise. The
+enum of ICounter must be in the class ICounter or BnCounter, or be the one of a source that implements ICounter and no
+other interface. Its codes are not certain if the preprocessor may leave out enumerators, or one of them is given a
+value of another form."""
 
 import itertools
 import re

@@ -91,10 +91,15 @@ def of_manager(database: sqlite3.Connection) -> Methods:
             for code, name in enumerate(OF_MANAGER_BEFORE_15, 1)}
 
 
+def named_in(database: sqlite3.Connection) -> set[str]:
+    """The interfaces that the capture names."""
+    return {name for name, in database.execute("SELECT name FROM interface")}
+
+
 def load_methods(database: sqlite3.Connection, given: Methods) -> None:
     """Puts the methods of the interfaces that the capture names into the database, and those that need no interface.
     What a file says goes before what is built in."""
-    named = {name for name, in database.execute("SELECT name FROM interface")}
+    named = named_in(database)
     known = {(name, code): Method(method, "built in: if it has a version")
              for name in named if "::" not in name for method, code in ADDED.items()}
     if MANAGER in named:

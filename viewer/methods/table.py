@@ -1,21 +1,5 @@
 #!/usr/bin/env python3
-"""Makes a table of the methods of interfaces, from their sources.
-
-    viewer/methods/table.py SOURCE...
-    viewer/methods/table.py --version
-
-SOURCE... are .aidl and .hal files, sources of C++ (.h, .hpp, .cc and .cpp), and folders, in which it takes all of them,
-but of C++ only what declares an interface. It writes to standard output a line for each method, in the order of
-interfaces and codes, with four fields separated by tabs: interface (as calls name it), code, method, and source (file
-and line, or `-` if it is in no source).
-
-docs/VIEW.md explains the codes. What is left out is told on standard error, for example an interface of which two
-sources give one code to two methods. --version writes of which commit the programs are.
-
-Status 0: the table is written. 1: a source is wrong, and the line on standard error names its file and line; or no
-source is there. Then nothing is written to standard output. 4: a file can't be read, or the table can't be written. 64:
-the command line is not valid.
-"""
+"""Makes a table of the methods of interfaces, from their sources. commands/methods.py has its words."""
 
 import os
 import pathlib
@@ -129,7 +113,7 @@ def table_of(interfaces: Iterable[Interface]) -> dict[tuple[str, int], Method]:
 
 
 def main() -> int:
-    line = Words("methods", called("methods"), __doc__)
+    line = Words("methods", called("methods"))
     line.add_argument("sources", metavar="SOURCE", nargs="+")
     words = line.parse_args().sources
     try:

@@ -3,6 +3,7 @@
 import os
 import pathlib
 import sqlite3
+from typing import TYPE_CHECKING
 
 from viewer.clocks import SECOND, Times
 from viewer.files import word_of
@@ -11,6 +12,9 @@ from viewer.program_names import called
 from viewer.page.within import groups_within
 from viewer.rules.names import Names
 from viewer.window import WHOLE, Window
+
+if TYPE_CHECKING:
+    from viewer.arguments.recorded import Arguments
 
 QUERIES = pathlib.Path(__file__).resolve().parent / "queries"
 
@@ -27,8 +31,8 @@ class Capture:
     these. A process is called as in `who`, and a call or an object as in `names`."""
 
     def __init__(self, database: sqlite3.Connection, files: list[str], window: Window | None = None, slow: int = SLOW,
-                 options: str = ""):
-        self.database, self.window, self.slow = database, window, slow
+                 options: str = "", arguments: "Arguments | None" = None):
+        self.database, self.window, self.slow, self.arguments = database, window, slow, arguments
         self.within = WHOLE if window is None else window.values()
         self.upids = self.within[3]
         self.groups = set(groups_within(database, window))
@@ -55,6 +59,10 @@ class Capture:
     def rows(self, name: str, most: int = ROWS) -> list[tuple]:
         """The rows of the query in a file, which takes no more than how many there may be."""
         return self.asked(name, most)
+
+    def says(self, place: int | None) -> str | None:
+        """What the transaction or reply at a place says, if the page shows that."""
+        return self.arguments.text(place) if self.arguments and place is not None else None
 
     def slow_calls(self, most: int = ROWS) -> list[tuple]:
         """The slow calls of main threads, by method."""

@@ -34,6 +34,7 @@ class Finding(NamedTuple):
     size: int | None
     lasted: int | None
     at: str
+    says: str | None
 
 
 class Group:
@@ -43,7 +44,7 @@ class Group:
         (self.number, self.verdict, self.title, self.path, self.n, self.n_all, self.first, self.last, self.waiting,
          rules, self.note) = row
         self.rules = rules.split(",")
-        self.found = [Finding._make((*row, spans.lasted[row[9]], spans.word(row[9])))
+        self.found = [Finding._make((*row, spans.lasted[row[9]], spans.word(row[9]), capture.says(row[1])))
                       for row in capture.asked("findings", self.number, FINDINGS + 1)]
         self.who = [upid for upid, in capture.asked("group_who", self.number)]
         keys = [key for key, in capture.asked("group_keys", self.number)]
@@ -65,7 +66,7 @@ class Group:
             return any(getattr(one, name) is not None for one in self.found)
         has_age = some("lasted")
         said = {"place": True, "at": some("ts"), "held for": has_age, "others at most": has_age and some("good"),
-                "size": some("size"), "thread": True, "rule": len(self.rules) > 1,
+                "size": some("size"), "thread": True, "arguments": some("says"), "rule": len(self.rules) > 1,
                 "note": bool({one.note for one in self.found} - {None, "", self.note}), "row of the report": True}
         return {name: name in ("place", "at", "held for", "others at most", "size") for name in said if said[name]}
 

@@ -11,7 +11,7 @@ import pathlib
 import re
 import sqlite3
 import sys
-from typing import Iterator
+from typing import TYPE_CHECKING, Iterator
 
 from viewer.calls.page import Spent
 from viewer.database.report import columns_of
@@ -28,6 +28,9 @@ from viewer.program_names import commit
 from viewer.rules.verdicts import VERDICTS
 from viewer.units import code_name, counted, duration_of
 from viewer.window import Window
+
+if TYPE_CHECKING:
+    from viewer.arguments.recorded import Arguments
 
 FOLDER = pathlib.Path(__file__).resolve().parent
 
@@ -69,7 +72,7 @@ def asked_of(capture: Capture, shown: Shown) -> dict[str, object]:
             "count": capture.count, "groups": groups.of, "left": groups.left, "most": FINDINGS,
             "all_verdicts": VERDICTS, "columns_of": columns_of, "growths": lambda: growths_of(capture),
             "axis": lambda: axis_of(capture), "has_stacks": groups.stacks.are_there, "gone": shown.gone,
-            "calls": calls, "spent": Spent(capture), "slow": capture.slow,
+            "calls": calls, "spent": Spent(capture), "slow": capture.slow, "says": capture.says,
             "slow_calls": capture.slow_calls,
             "waited": sum(call[5] != "answered" or (call[8] or 0) >= capture.slow for call in calls()),
             "groups_shown": len(capture.groups), "ruled": capture.count("rule", "id IN (SELECT rule FROM finding)"),
@@ -118,9 +121,12 @@ def refuse_other(files: list[str], path: pathlib.Path) -> None:
 
 
 def write(database: sqlite3.Connection, files: list[str], path: pathlib.Path, shown: Shown | None = None,
-          window: Window | None = None, slow: int = SLOW, options: str = "") -> None:
+          window: Window | None = None, slow: int = SLOW, options: str = "", arguments: "Arguments | None" = None
+          ) -> None:
     """Writes the page, for its owner only. `shown`: what it shows of another capture. `slow`: how long a call of a main
-    thread takes at least that it lists. `options`: the words of the command beside the files."""
+    thread takes at least that it lists. `options`: the words of the command beside the files. `arguments`: what
+    transactions say, if the page shows that."""
     with whole_file(path, lambda: is_page_of(files, path)) as made:
         with open(made, "x", encoding="utf-8", errors="replace", opener=for_owner) as out:
-            out.writelines(document(Capture(database, files, window, slow, options), shown or Shown({}, [], {})))
+            capture = Capture(database, files, window, slow, options, arguments)
+            out.writelines(document(capture, shown or Shown({}, [], {})))

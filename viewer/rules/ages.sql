@@ -80,12 +80,14 @@ WHERE t.utid = finding.utid AND section NOT IN ('calls', 'served')
 
 -- What is old: older than :OLD times the longest of its path or, if there is none, the median of all buffers or calls,
 -- of which some :SAMPLE are looked at; and older than :LONG.
--- beside: loading
+-- beside: counts.sql
 CREATE TEMP TABLE usual AS
-WITH held AS (SELECT z.ts - x.ts AS dur FROM (SELECT 1 FROM side_time LIMIT 1) CROSS JOIN raw_delivery d
+WITH held AS (SELECT z.ts - x.ts AS dur
+    FROM (SELECT 1 FROM finding WHERE section = 'buffers' LIMIT 1) CROSS JOIN raw_delivery d
     JOIN side_time x ON x.seq = d.seq JOIN side_time z ON z.seq = d.seq + d.dur_seq
     WHERE d.place / 4 % (SELECT 1 + count(*) / :SAMPLE FROM raw_delivery) = 0 ORDER BY dur),
-  called AS (SELECT z.ts - x.ts AS dur FROM (SELECT 1 FROM side_time LIMIT 1) CROSS JOIN raw_call c
+  called AS (SELECT z.ts - x.ts AS dur
+    FROM (SELECT 1 FROM finding WHERE section IN ('calls', 'served', 'books') LIMIT 1) CROSS JOIN raw_call c
     JOIN side_time x ON x.seq = c.seq JOIN side_time z ON z.seq = c.seq + c.dur_seq
     WHERE c.verdict IN (1, 2) AND c.place / 4 % (SELECT 1 + count(*) / :SAMPLE FROM raw_call) = 0 ORDER BY dur)
 SELECT 'buffers' AS section, (SELECT dur FROM held LIMIT 1 OFFSET (SELECT count(*) / 2 FROM held)) AS dur
@@ -110,10 +112,9 @@ WHERE r.kind = :BC_EXIT_LOOPER GROUP BY 1;
 -- thread had still to read of clears and nodes with the thread. One whose loopers leave its pool after a clear reads
 -- no more of it, and may take longer to end.
 CREATE TEMP TABLE leaving AS
-SELECT f.id FROM finding f JOIN process_life p USING (upid) LEFT JOIN life l USING (utid)
+SELECT f.id FROM finding f JOIN process_life p USING (upid) JOIN life l USING (utid)
 WHERE f.section IN ('buffers', 'deaths', 'freezes', 'freeze_clears') AND p.ended_after NOTNULL AND f.age <= :LONG
-  OR f.section IN ('nodes', 'clears') AND l.ended_after NOTNULL
-    AND l.ended - (SELECT ts FROM side_time x WHERE x.seq = f.seq) <= :LONG
+  OR f.section IN ('nodes', 'clears') AND l.ended - (SELECT ts FROM side_time x WHERE x.seq = f.seq) <= :LONG
   OR f.section = 'clears' AND p.ended_after NOTNULL AND f.age <= :VERY_LONG
     AND f.place < (SELECT place FROM left_pool o WHERE o.upid = f.upid);
 CREATE UNIQUE INDEX temp.leaving_finding ON leaving(id);

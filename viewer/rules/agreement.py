@@ -33,9 +33,9 @@ QUERIES = {
     # The driver ignores a release of what is not held; the report counts it, and its low makes up for that.
     "handles": f"""
 SELECT upid, 'handle ' || handle || what, sum(counted + had + held) - min(0, sum(low + had)), sum(books) FROM (
-  SELECT p.upid, number_in(r.section, r.text, 'handle') AS handle, w.what,
-    number_in(r.section, r.text, w.name) AS counted, number_in(r.section, r.text, w.name || '_low') AS low,
-    number_in(r.section, r.text, 'held_' || w.name) AS held, 0 AS had, 0 AS books
+  SELECT p.upid, r.handle, w.what, iif(w.name = 'strong', r.strong, r.weak) AS counted,
+    iif(w.name = 'strong', r.strong_low, r.weak_low) AS low,
+    iif(w.name = 'strong', r.held_strong, r.held_weak) AS held, 0 AS had, 0 AS books
   FROM report r JOIN process p USING (device, process), way w WHERE r.section = 'handles'
   UNION ALL SELECT upid, handle, what, 0, 0, 0, iif(moment = 'begin', iif(name = 'strong', strong, weak), 0),
     iif(moment = 'end', iif(name = 'strong', strong, weak), 0) FROM book_handle, way)
@@ -43,7 +43,7 @@ WHERE upid NOT IN ({CARRIERS}) GROUP BY upid, handle, what""",
     # The driver itself has references to the node of a context manager.
     "nodes": """
 SELECT upid, 'node ' || printf('0x%x', ptr) || what, sum(report), sum(books) FROM (
-  SELECT f.upid, f.ptr, f.cookie, w.what, number_in(r.section, r.text, w.name) AS report, 0 AS books
+  SELECT f.upid, f.ptr, f.cookie, w.what, iif(w.name = 'strong', r.strong, r.weak) AS report, 0 AS books
   FROM finding f JOIN report r ON r.id = f.report, way w WHERE f.section = 'nodes'
   UNION ALL SELECT upid, ptr, cookie, what,
     iif(moment = 'begin', iif(name = 'strong', strong, weak), 0) + (moment = 'end' AND ptr = 0 AND cookie = 0)
@@ -52,7 +52,7 @@ SELECT upid, 'node ' || printf('0x%x', ptr) || what, sum(report), sum(books) FRO
 GROUP BY upid, ptr, cookie, what""",
     "buffers": f"""
 SELECT upid, what, sum(iif(of = 'buffers', report_n, report_bytes)), sum(iif(of = 'buffers', books_n, books_bytes))
-FROM (SELECT upid, 1 AS report_n, number_in('buffers', text, 'data_size') AS report_bytes, 0 AS books_n,
+FROM (SELECT upid, 1 AS report_n, data_size AS report_bytes, 0 AS books_n,
     0 AS books_bytes FROM report JOIN process USING (device, process) WHERE section = 'buffers'
   UNION ALL SELECT upid, 0, 0, 1, data_size FROM book_buffer e WHERE moment = 'end' AND NOT unread
     AND NOT EXISTS (SELECT 1 FROM book_buffer b WHERE b.moment = 'begin' AND (b.upid, b.number) = (e.upid, e.number)

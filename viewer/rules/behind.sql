@@ -1,9 +1,10 @@
 -- W4, W12, W13: listeners that fall behind, which are findings of their own, one for each node: oneway sends to it wait
 -- longer and longer.
 -- needs: database/schema.sql: finding, raw_delivery, raw_record, raw_send, raw_thread, side_time; nodes.sql: node_of;
---   records.sql: to_frozen; ages.sql: last, process_life; rule.sql: lossy
+--   records.sql: to_frozen; counts.sql: sent; ages.sql: last, process_life; rule.sql: lossy
 -- after: used_up.sql
--- makes: temporary tables: slow_wait, by_quarter, not_come, behind, burst; indexes: slow_wait_of, not_come_of
+-- makes: temporary tables: late_node, slow_wait, by_quarter, not_come, behind, burst; indexes: slow_wait_of,
+--   not_come_of
 
 -- ---- what findings are called
 
@@ -32,22 +33,24 @@
 
 -- How long each oneway send waited for its delivery, or if it did not come, for the end of its receiver; but not those
 -- that waited for a thaw. Which of those that wait for one node a delivery belongs to may be a guess, which keeps their
--- order, as the driver does. Of these, those of the nodes for which one waited over :LONG.
--- beside: rule.sql
+-- order, as the driver does. Of these, those of the nodes for which one waited over :LONG, or did not come.
+CREATE TEMP TABLE late_node AS
+SELECT DISTINCT node_upid AS upid, ptr, cookie FROM sent
+WHERE oneway AND (waited > :LONG OR delivered < sends);
 CREATE TEMP TABLE slow_wait AS
-WITH oneway_wait AS MATERIALIZED (
-  SELECT s.place, n.upid, n.ptr, n.cookie, x.ts AS since, coalesce(y.ts, p.ended, last.ts) AS until,
+SELECT *, until - since AS wait
+FROM (SELECT s.place, n.upid, n.ptr, n.cookie, x.ts AS since, coalesce(y.ts, p.ended, last.ts) AS until,
     y.ts NOTNULL AS came
-  FROM raw_send s JOIN raw_record r USING (place) JOIN node_of n USING (generation) JOIN process_life p USING (upid)
+  FROM (SELECT 1 FROM late_node LIMIT 1) CROSS JOIN raw_send s CROSS JOIN node_of n USING (generation)
+    CROSS JOIN raw_record r USING (place) JOIN process_life p USING (upid)
     JOIN side_time x ON x.seq = s.seq LEFT JOIN raw_delivery d ON d.place = s.delivery
     LEFT JOIN raw_record c ON c.place = d.place LEFT JOIN raw_thread t ON t.utid = d.utid
     LEFT JOIN side_time y ON y.seq = d.seq, last
-  WHERE r.flags & :TF_ONE_WAY AND NOT r.flags & :TF_UPDATE_TXN AND s.refused IS NULL
+  WHERE (n.upid, n.ptr, n.cookie) IN (SELECT upid, ptr, cookie FROM late_node)
+    AND r.flags & :TF_ONE_WAY AND NOT r.flags & :TF_UPDATE_TXN AND s.refused IS NULL
     AND s.place NOT IN (SELECT place FROM to_frozen)
     AND (d.place IS NULL OR (t.upid, c.ptr, c.cookie) = (n.upid, n.ptr, n.cookie))
-    AND n.upid NOT IN (SELECT upid FROM lossy))
-SELECT *, until - since AS wait FROM oneway_wait
-WHERE (upid, ptr, cookie) IN (SELECT upid, ptr, cookie FROM oneway_wait WHERE until - since > :LONG);
+    AND n.upid NOT IN (SELECT upid FROM lossy));
 CREATE INDEX temp.slow_wait_of ON slow_wait(upid, ptr, cookie, place);
 -- The first and the last quarter of those that came: how many they are, their median, and the least.
 CREATE TEMP TABLE by_quarter AS

@@ -1,7 +1,19 @@
 -- How many took the path of each finding, how many of these came to a good end, and how long that took at most.
 -- needs: database/schema.sql: finding, raw_generation, raw_record, raw_send; sums.sql: came_sum, sent_sum, served_sum;
 --   nodes.sql: node_of; paths.sql: answered, given, given_way
--- makes: temporary tables: buffer_path, send_path, served_path; indexes: buffer_path_of, send_path_of, served_path_of
+-- makes: temporary tables: sent, buffer_path, send_path, served_path; indexes: buffer_path_of, send_path_of,
+--   served_path_of
+
+-- What was sent to each generation of a handle, by code, and the node to which it leads. The sum is made once, for all
+-- statements that take it.
+CREATE TEMP TABLE sent(generation INTEGER, code INTEGER, oneway INTEGER, sends INTEGER, failed INTEGER, refused INTEGER,
+  open INTEGER, bytes REAL, delivered INTEGER, one_fits INTEGER, buffers INTEGER, peak INTEGER, longest_seq INTEGER,
+  longest INTEGER, good INTEGER, good_seq INTEGER, good_time INTEGER, waited INTEGER, upid INTEGER, handle INTEGER,
+  node_upid INTEGER, ptr INTEGER, cookie INTEGER);
+-- beside: nodes.sql
+INSERT INTO sent
+SELECT x.*, g.upid, g.handle, n.upid, n.ptr, n.cookie
+FROM sent_sum x CROSS JOIN raw_generation g ON g.id = x.generation LEFT JOIN node_of n ON n.generation = x.generation;
 
 -- Buffers, by what they came for, and by the process that got them and must free them: of each path that has a finding
 -- how many there are, how many were freed, and how long these were held. Of calls the path says which process gets
@@ -38,12 +50,11 @@ WHERE section = 'buffers';
 -- Calls and oneway sends to a target, by code: how many were answered or delivered, and how long that took.
 CREATE TEMP TABLE send_path(code INTEGER, upid INTEGER, ptr INTEGER, cookie INTEGER, oneway INTEGER, n INTEGER,
   good INTEGER, longest_seq INTEGER, longest INTEGER);
--- beside: records.sql
 INSERT INTO send_path
-SELECT s.code, coalesce(n.upid, -g.upid) AS upid, coalesce(n.ptr, g.handle) AS ptr, coalesce(n.cookie, 0) AS cookie,
-  s.oneway, sum(s.sends) AS n, sum(s.good) AS good, max(s.good_seq) AS longest_seq, max(s.good_time) AS longest
-FROM sent_sum s JOIN raw_generation g ON g.id = s.generation LEFT JOIN node_of n ON n.generation = s.generation
-WHERE s.code IN (SELECT code FROM finding
+SELECT code, coalesce(node_upid, -upid) AS upid, coalesce(ptr, handle) AS ptr, coalesce(cookie, 0) AS cookie, oneway,
+  sum(sends) AS n, sum(good) AS good, max(good_seq) AS longest_seq, max(good_time) AS longest
+FROM sent
+WHERE code IN (SELECT code FROM finding
     WHERE section IN ('calls', 'refused', 'strays', 'oneway', 'spam', 'objects', 'books'))
 GROUP BY 1, 2, 3, 4, 5;
 CREATE UNIQUE INDEX temp.send_path_of ON send_path(code, upid, ptr, cookie, oneway);

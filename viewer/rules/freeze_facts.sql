@@ -9,7 +9,7 @@ CREATE TEMP TABLE freeze_record AS
 SELECT r.place, t.upid, r.kind, r.handle, r.cookie, r.value <> 0 AS frozen,
   iif(r.kind IN (:BR_FROZEN_BINDER, :BC_FREEZE_NOTIFICATION_DONE), 'freezes', 'freeze_clears') AS section,
   r.kind IN (:BC_FREEZE_NOTIFICATION_DONE, :BR_CLEAR_FREEZE_NOTIFICATION_DONE) AS is_answer
-FROM (SELECT 1 FROM report WHERE section = 'codes' AND text GLOB '* OPAQUE *' LIMIT 1)
+FROM (SELECT 1 FROM report WHERE section = 'codes' AND name = 'OPAQUE' LIMIT 1)
   CROSS JOIN raw_record r JOIN raw_thread t USING (utid)
 WHERE r.kind IN (:BC_REQUEST_FREEZE_NOTIFICATION, :BC_CLEAR_FREEZE_NOTIFICATION, :BC_FREEZE_NOTIFICATION_DONE,
   :BR_FROZEN_BINDER, :BR_CLEAR_FREEZE_NOTIFICATION_DONE);

@@ -3,8 +3,9 @@
 --   paths.sql: given, given_way, way; rule.sql: rule, title; causes.sql: led_by; judging.py: bare_name, call_words,
 --   counted, path_text, rank_of, short_name, status_name
 -- after: texts.sql
--- makes: tables: finding_head, finding_group; temporary tables: titled, alike_name, alike_way, named, ranked, common,
---   paths; indexes: titled_kind, alike_name_of, alike_way_of, head_of_group, ranked_group, common_of, paths_of
+-- makes: tables: finding_head, finding_group; temporary tables: titled, alike_name, alike_way, named, ranked,
+--   other_end, common, paths; indexes: titled_kind, alike_name_of, alike_way_of, head_of_group, ranked_group,
+--   other_end_of, common_of, paths_of
 
 -- The title of each kind of finding that there is; and its title without what its rule says.
 CREATE TEMP TABLE titled AS
@@ -57,19 +58,22 @@ SELECT
   iif(f.relation = 'service', f.service, f.calls) AS calls,
   iif(f.section = 'answers', status_name(f.status), NULL) AS status,
   CASE
-    WHEN f.relation = 'given' THEN iif(w.reply, w.other, (SELECT name FROM alike_name a WHERE a.upid = f.giver))
+    WHEN f.relation = 'given' THEN iif(w.reply, w.other, c.name)
     WHEN f.relation IN ('to', 'reply to', 'at', 'oneway at') AND f.way NOTNULL THEN 'objects ' || w.path
     WHEN f.relation IN ('to', 'reply to', 'at', 'oneway at') OR f.relation = 'handle' AND f.about > 0
-    THEN iif(f.about > 0, (SELECT name FROM alike_name a WHERE a.upid = f.about), 'a handle') END AS other
+    THEN iif(f.about > 0, (SELECT name FROM alike_name a WHERE a.upid = f.about), 'a handle') END AS other,
+  -- A service keeps what its clients hand over: that is one fault of it, but for what they have to take back.
+  iif(f.rule <> 'H13' AND c.name NOTNULL, (SELECT name FROM alike_name a WHERE a.upid = f.upid), NULL) AS keeper
 FROM finding f JOIN rule r ON r.id = f.rule JOIN titled k USING (rule, section, what)
   LEFT JOIN given v ON v.generation = f.generation AND f.relation = 'given' AND f.rule <> 'H12'
-  LEFT JOIN alike_way w ON w.id = f.way
+  LEFT JOIN alike_way w ON w.id = f.way LEFT JOIN alike_name c ON c.upid = f.giver AND f.relation = 'given'
 WHERE f.lead IS NULL;
 -- What is real and what is maybe on like paths is one group, with the strongest verdict of its findings. Methods and
 -- packages do not tell paths apart.
 INSERT INTO finding_head
 SELECT id, min(id) OVER (PARTITION BY title, max(rank, 2), relation, iif(relation IN ('handle', 'node'), NULL, code),
-  iif(relation IN ('handle', 'node'), NULL, bare_name(interface)), calls, other, status)
+  iif(relation IN ('handle', 'node'), NULL, bare_name(interface)), calls, keeper, iif(keeper NOTNULL, NULL, other),
+  status)
 FROM named;
 INSERT INTO finding_head
 SELECT f.id, h.grp FROM finding f JOIN finding_head h ON h.id = f.lead;
@@ -85,6 +89,14 @@ FROM (
 GROUP BY grp;
 CREATE UNIQUE INDEX temp.ranked_group ON ranked(grp);
 
+-- What is at the other end of its paths: of what is kept, the clients that handed it over, those of the most first.
+CREATE TEMP TABLE other_end AS
+SELECT grp, group_concat(other, ', ') || iif(n > :NAMED, ' and ' || counted(n - :NAMED, 'other'), '') AS names
+FROM (SELECT h.grp, n.other, count(*) OVER (PARTITION BY h.grp) AS n,
+    row_number() OVER (PARTITION BY h.grp ORDER BY count(*) DESC, n.other) AS nth
+  FROM named n JOIN finding_head h USING (id) GROUP BY 1, 2 ORDER BY nth)
+WHERE nth <= :NAMED GROUP BY grp;
+CREATE UNIQUE INDEX temp.other_end_of ON other_end(grp);
 -- What the paths of a group have in common; and if its handles came from several processes, how many these are.
 CREATE TEMP TABLE common AS
 SELECT
@@ -96,10 +108,10 @@ SELECT
       ELSE coalesce(n.calls, iif(count(DISTINCT call_words(n.code, short_name(n.interface), n.others, n.method)) = 1,
         call_words(n.code, short_name(n.interface), n.others, n.method),
         call_words(n.code, bare_name(n.interface), 0, NULL))) END,
-    iif(n.relation = 'handle', ', ', '') || n.other,
+    iif(n.relation = 'handle', ', ', '') || o.names,
     n.status), '')
   || iif(count(DISTINCT n.giver) > 1, ' (' || count(DISTINCT n.giver) || ' processes)', '') AS likeness
-FROM named n JOIN finding_head h USING (id) GROUP BY 1;
+FROM named n JOIN finding_head h USING (id) JOIN other_end o USING (grp) GROUP BY 1;
 CREATE UNIQUE INDEX temp.common_of ON common(grp);
 
 -- Of each path in a group how many there are, as far as it is counted. Of handles, these are all that came the ways of

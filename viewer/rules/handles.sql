@@ -1,7 +1,7 @@
 -- H1, H2: handles that nobody gave, and references let go of more often than taken; H6, H7: what the driver's books of
 -- the beginning have of these.
 -- needs: database/schema.sql: book_handle, book_node, finding, raw_delivery, raw_generation, raw_record, raw_thread,
---   report; paths.sql: given, given_way, way_path; ages.sql: begun, process_life; judging.py: counted, number_in
+--   report; paths.sql: given, given_way, way_path; ages.sql: begun, process_life; judging.py: counted
 -- makes: temporary tables: unseen, handle_row, held_before, let_go_again, again_way, too_often; indexes:
 --   let_go_again_of
 
@@ -37,12 +37,8 @@ SELECT f.id, f.upid, f.handle, f.generation, f.what,
     JOIN raw_generation g ON g.upid = b.upid JOIN raw_record r ON r.place = g.begin
     WHERE b.upid = f.upid AND f.section = 'handles' AND g.handle = f.handle AND g.n = 1), 0) AS begun,
   -- Below 0 if more was let go, or acknowledged, than was taken or asked for; and what buffers hold, or what is due.
-  -- A row without a minus has nothing below 0, and what is held or due are its last two numbers: so most rows, of which
-  -- there may be very many, are not read.
-  iif(instr(r.text, '-') = 0, 0, min(number_in(f.section, r.text, 'strong_low'),
-    number_in(f.section, r.text, 'weak_low'), iif(f.section = 'nodes', number_in(f.section, r.text, 'strong_due'), 0),
-    iif(f.section = 'nodes', number_in(f.section, r.text, 'weak_due'), 0))) AS least,
-  r.text NOT GLOB '* 0 0' AS more,
+  min(r.strong_low, r.weak_low, coalesce(r.strong_due, 0), coalesce(r.weak_due, 0)) AS least,
+  coalesce(r.held_strong, r.strong_due) <> 0 OR coalesce(r.held_weak, r.weak_due) <> 0 AS more,
   (SELECT known FROM process_life p WHERE p.upid = f.upid) AS known,
   EXISTS (SELECT 1 FROM raw_generation g WHERE g.upid = f.upid AND g.handle = f.handle AND g.given_by IS NOT NULL)
     AS given
@@ -50,11 +46,10 @@ FROM finding f JOIN report r ON r.id = f.report WHERE f.section IN ('handles', '
 -- The same with what was held before added, for handles and nodes that the books have.
 CREATE TEMP TABLE held_before AS
 SELECT h.id, h.begun, k.strong AS had_strong, k.weak AS had_weak,
-  number_in(f.section, r.text, 'strong') + k.strong AS strong, number_in(f.section, r.text, 'weak') + k.weak AS weak,
-  min(number_in(f.section, r.text, 'strong_low') + k.strong, number_in(f.section, r.text, 'weak_low') + k.weak,
-    -- The driver in Rust does not tell how many answers of the process it waits for.
-    iif(f.section = 'nodes', coalesce(number_in(f.section, r.text, 'strong_due') + k.local_strong, 0), 0),
-    iif(f.section = 'nodes', coalesce(number_in(f.section, r.text, 'weak_due') + k.local_weak, 0), 0)) AS least
+  r.strong + k.strong AS strong, r.weak + k.weak AS weak,
+  -- The driver in Rust does not tell how many answers of the process it waits for.
+  min(r.strong_low + k.strong, r.weak_low + k.weak, coalesce(r.strong_due + k.local_strong, 0),
+    coalesce(r.weak_due + k.local_weak, 0)) AS least
 FROM handle_row h JOIN finding f USING (id) JOIN report r ON r.id = f.report
   JOIN (SELECT 'handles' AS section, upid, handle AS a, 0 AS b, strong, weak, 0 AS local_strong, 0 AS local_weak
       FROM book_handle WHERE moment = 'begin'
@@ -88,8 +83,7 @@ WHERE EXISTS (SELECT 1 FROM finding WHERE rule = 'H2' AND section = 'handles')
 CREATE INDEX temp.let_go_again_of ON let_go_again(upid, handle);
 CREATE TEMP TABLE again_way AS SELECT upid, way, count(*) AS n FROM let_go_again WHERE way NOTNULL GROUP BY 1, 2;
 CREATE TEMP TABLE too_often AS
-SELECT f.id, f.upid, -min(0, number_in(f.section, r.text, 'strong_low') + coalesce(k.strong, 0))
-    - min(0, number_in(f.section, r.text, 'weak_low') + coalesce(k.weak, 0)) AS n,
+SELECT f.id, f.upid, -min(0, r.strong_low + coalesce(k.strong, 0)) - min(0, r.weak_low + coalesce(k.weak, 0)) AS n,
   (SELECT a.way FROM let_go_again a WHERE (a.upid, a.handle) = (f.upid, f.handle) ORDER BY a.generation LIMIT 1) AS way
 FROM finding f JOIN report r ON r.id = f.report
   LEFT JOIN book_handle k ON (k.moment, k.upid, k.handle) = ('begin', f.upid, f.handle)

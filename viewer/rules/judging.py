@@ -9,7 +9,6 @@ from typing import Callable, Sequence
 from viewer.clocks import Times
 from viewer.database.finders import Finders, Given, Query, insert, path_of
 from viewer.database.raw_tables import PACKED_TABLES
-from viewer.database.report import number_of
 from viewer.database.sqlite import named_numbers
 from viewer.page.texts import APPS
 from viewer.rules.effect import ANY_RULE, Effect
@@ -288,7 +287,6 @@ def run(database: sqlite3.Connection, plan: Plan, timing: Timing | None = None, 
     database.create_function("hash_of", 2, hash_of)
     for name, function in WORDS.items():
         database.create_function(name, -1, functools.lru_cache(4096)(function), deterministic=True)
-    database.create_function("number_in", 3, number_of, deterministic=True)
     for statement in BY_SECTION:
         database.execute(statement)
     database.execute("BEGIN")

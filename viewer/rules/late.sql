@@ -2,7 +2,7 @@
 -- recorded what a call that waited in the driver then read, but not what that comes of or leads to, in calls that began
 -- later. So a finding that comes of such a frame says nothing (L1).
 -- needs: database/schema.sql: capture, finding, raw_call, raw_delivery, raw_frame, raw_record, raw_send, raw_thread,
---   report, side_time; judging.py: number_in
+--   report, side_time
 -- after: counts.sql
 -- makes: temporary tables: late; indexes: late_frame
 
@@ -25,7 +25,7 @@ WHERE section = 'served' AND what = 'open' AND d.place = finding.place AND r.seq
 -- A reference that the driver gave back, and had asked for in a call that is not recorded.
 UPDATE finding SET rule = 'L1' FROM report p
 WHERE finding.section = 'nodes' AND p.id = finding.report
-  AND min(number_in('nodes', p.text, 'strong_low'), number_in('nodes', p.text, 'weak_low')) < 0
+  AND min(p.strong_low, p.weak_low) < 0
   AND EXISTS (SELECT 1 FROM raw_record r JOIN raw_thread t USING (utid)
     WHERE r.place > (SELECT min(place) FROM late) AND r.seq IN (SELECT seq FROM late)
       AND r.kind IN (:BR_RELEASE, :BR_DECREFS) AND (t.upid, r.ptr, r.cookie) = (finding.upid, finding.ptr,

@@ -1,6 +1,5 @@
 -- Who talks to whom, and what each finding is about: of both come the calls that are named.
--- needs: database/schema.sql: finding, raw_generation; sums.sql: sent_sum; nodes.sql: node_of; paths.sql: given;
---   rule.sql: rule
+-- needs: database/schema.sql: finding; paths.sql: given; counts.sql: sent; rule.sql: rule
 -- after: causes.sql, culprits.sql
 -- makes: tables: traffic; temporary tables: came_by, matter, in_matter
 
@@ -10,12 +9,10 @@ CREATE TABLE traffic(upid INTEGER NOT NULL, handle INTEGER NOT NULL, generation 
   open INTEGER NOT NULL, bytes INTEGER NOT NULL, delivered INTEGER NOT NULL, one_fits INTEGER NOT NULL,
   buffers INTEGER NOT NULL, buffers_peak INTEGER, longest_seq INTEGER, node_upid INTEGER, ptr INTEGER,
   cookie INTEGER, longest INTEGER) STRICT;
--- beside: nodes.sql
 INSERT INTO traffic
-SELECT g.upid, g.handle, x.generation, x.code, x.oneway, x.sends, x.failed, x.refused, x.open,
-  CAST(min(x.bytes, 9e18) AS INTEGER), x.delivered, x.one_fits, x.buffers, x.peak, x.longest_seq, n.upid, n.ptr, n.cookie,
-  x.longest
-FROM sent_sum x CROSS JOIN raw_generation g ON g.id = x.generation LEFT JOIN node_of n ON n.generation = x.generation;
+SELECT upid, handle, generation, code, oneway, sends, failed, refused, open, CAST(min(bytes, 9e18) AS INTEGER),
+  delivered, one_fits, buffers, peak, longest_seq, node_upid, ptr, cookie, longest
+FROM sent;
 
 -- How a handle that is kept with others came: in replies to a call, or with calls; and which process is at the other
 -- end.

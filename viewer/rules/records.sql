@@ -25,13 +25,13 @@ WHERE s.delivery IS NULL AND s.refused IS NULL AND s.generation IN (SELECT gener
 
 INSERT INTO finding(section, what, place, upid)
 SELECT 'spam', 'suspect', s.place, t.upid
-FROM (SELECT 1 FROM report WHERE section = 'codes' AND text LIKE '% BR_ONEWAY_SPAM_SUSPECT %' LIMIT 1)
+FROM (SELECT 1 FROM report WHERE section = 'codes' AND name = 'BR_ONEWAY_SPAM_SUSPECT' LIMIT 1)
   CROSS JOIN raw_send s JOIN raw_record k ON k.place = s.confirmed AND k.kind = :BR_ONEWAY_SPAM_SUSPECT
   JOIN raw_thread t ON t.utid = s.utid
 WHERE s.generation NOTNULL;
 -- Oneway sends to a process that was frozen, as the driver said when it took them.
 CREATE TEMP TABLE to_frozen AS
-SELECT s.place FROM (SELECT 1 FROM report WHERE section = 'codes' AND text LIKE '% BR_TRANSACTION_PENDING_FROZEN %'
+SELECT s.place FROM (SELECT 1 FROM report WHERE section = 'codes' AND name = 'BR_TRANSACTION_PENDING_FROZEN'
     LIMIT 1) CROSS JOIN raw_send s JOIN raw_record k ON k.place = s.confirmed
 WHERE k.kind = :BR_TRANSACTION_PENDING_FROZEN;
 CREATE UNIQUE INDEX temp.to_frozen_place ON to_frozen(place);
@@ -56,12 +56,12 @@ CREATE TEMP TABLE dead_record(place INTEGER PRIMARY KEY, upid INTEGER, utid INTE
 -- beside: nodes.sql
 INSERT INTO dead_record
 SELECT r.place, t.upid, r.utid, r.kind, r.handle, r.cookie
-FROM (SELECT 1 FROM report WHERE section = 'codes' AND text GLOB '*DEA[TD]*' LIMIT 1)
+FROM (SELECT 1 FROM report WHERE section = 'codes' AND name GLOB '*DEA[TD]*' LIMIT 1)
   CROSS JOIN raw_record r JOIN raw_thread t USING (utid)
 WHERE r.kind IN (:BC_REQUEST_DEATH_NOTIFICATION, :BC_CLEAR_DEATH_NOTIFICATION, :BC_DEAD_BINDER_DONE, :BR_DEAD_BINDER,
   :BR_CLEAR_DEATH_NOTIFICATION_DONE);
 CREATE INDEX temp.dead_cookie ON dead_record(upid, cookie, kind, place);
-CREATE INDEX temp.dead_handle ON dead_record(upid, handle, kind, place);
+CREATE INDEX temp.dead_handle ON dead_record(upid, handle, kind, place) WHERE handle NOTNULL;
 -- The deaths that were reported to a process, each with the generation that the latest request with its cookie names.
 CREATE TEMP TABLE told_death AS
 SELECT d.place, d.upid, d.cookie, q.handle, (SELECT g.id FROM raw_generation g WHERE g.upid = q.upid

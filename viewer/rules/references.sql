@@ -4,10 +4,9 @@
 --   thing_path; ages.sql: ended, last, leaving, process_life, recorded; handles.sql: handle_row; rule.sql: lossy;
 --   ways.sql: collector, earlier, kept_handle, kept_way, let_go, of_way, outlived; waits.sql: waits; judging.py:
 --   call_name
--- makes: temporary tables: mourned, dead_way, outlives, let_go_later, told_by_reply, reference_level, most_held,
---   more_references, each_again, nearly_all, growing, by_design, overdue, unused, outliving, not_collected,
---   kept_elsewhere, used_of_way, weakly_kept, handed_over; temporary views: held_change; indexes: most_held_of,
---   more_references_of, by_design_of
+-- makes: temporary tables: mourned, dead_way, outlives, let_go_later, told_by_reply, held_change, reference_level,
+--   most_held, more_references, each_again, nearly_all, growing, by_design, overdue, unused, outliving, not_collected,
+--   kept_elsewhere, used_of_way, weakly_kept, handed_over; indexes: most_held_of, more_references_of, by_design_of
 
 -- ---- what findings are called
 
@@ -161,7 +160,7 @@ FROM outlives o JOIN finding f USING (id) JOIN recorded l ON l.upid = o.upid
   JOIN raw_send s ON s.generation = f.generation JOIN raw_record e ON e.place = s.refused JOIN side_time x ON x.seq = e.seq
 WHERE e.kind = :BR_DEAD_REPLY
 GROUP BY 1
-HAVING max(l.last_ts) - min(x.ts) > :VERY_LONG;
+HAVING l.last_ts - min(x.ts) > :VERY_LONG;
 UPDATE finding SET
   rule = iif(w.told >= :TOO_MANY, 'H16', 'H17'),
   relation = 'given',
@@ -181,7 +180,10 @@ WHERE rule IS NULL AND o.id = finding.id;
 -- say nothing of that: one may write late that it let go, when another has taken it again. By these a generation has
 -- more only if it has three now, besides one for each of them that is in a call, and may let go after it. A handle may
 -- have very many generations, of which at most one is held.
-CREATE TEMP VIEW held_change AS
+CREATE TEMP TABLE held_change(generation INTEGER, place INTEGER, seq INTEGER, utid INTEGER, strong INTEGER,
+  weak INTEGER);
+-- beside: loading
+INSERT INTO held_change
 WITH held AS MATERIALIZED (
   SELECT id, upid, handle, begin FROM raw_generation WHERE strong + weak > 0 AND (acquired > 1 OR increfs > 1))
 SELECT g.id AS generation, r.place, r.seq, r.utid, (r.kind = :BC_ACQUIRE) - (r.kind = :BC_RELEASE) AS strong,
@@ -190,7 +192,6 @@ FROM (SELECT 1 FROM held LIMIT 1) CROSS JOIN raw_record r CROSS JOIN raw_thread 
   CROSS JOIN held g ON g.upid = t.upid AND g.handle = r.handle AND g.begin <= r.place
 WHERE r.kind IN (:BC_INCREFS, :BC_ACQUIRE, :BC_RELEASE, :BC_DECREFS);
 -- What each thread brought a generation to at most.
--- beside: loading
 CREATE TEMP TABLE reference_level AS
 SELECT generation, utid, max(strong) AS strong, max(weak) AS weak
 FROM (SELECT generation, utid, sum(strong) OVER changes AS strong, sum(weak) OVER changes AS weak FROM held_change
@@ -205,7 +206,6 @@ FROM (SELECT c.generation, g.strong AS now_strong, g.weak AS now_weak, c.utid,
 CREATE UNIQUE INDEX temp.most_held_of ON most_held(generation);
 -- Of which references become more to the end: how many there are at the half of what was recorded of the process, and
 -- at the end, if that is more by enough, and the last two quarters have each made it more.
--- beside: ages.sql
 CREATE TEMP TABLE more_references AS
 SELECT generation, half || ' held at half of its time, ' || held || ' at the end' AS told
 FROM (SELECT generation, sum(n * (left >= :LATELY)) AS half, sum(n * (left >= :LATELY / 2)) AS later, sum(n) AS held

@@ -1,9 +1,10 @@
 -- V: what is slow, which are findings of their own: calls of main threads of apps, by method; and one listener among many.
 -- needs: database/schema.sql: data_hash, finding, object_interface, raw_call, raw_delivery, raw_generation, raw_object,
 --   raw_record, raw_send, side_time; database/views.sql: process, thread; database/time_views.sql: call_tree; sums.sql:
---   again_sum, sent_sum; nodes.sql: node_of, who; judging.py: counted, duration, hash_of
+--   again_sum; nodes.sql: node_of, who; counts.sql: sent; judging.py: counted, duration, hash_of
 -- after: used_up.sql
--- makes: temporary tables: timed_path, slow_main, slow_part, listener, late_listener, slow_listener, periodic
+-- makes: temporary tables: slow_main, slow_part, told_many, timed_path, listener, late_listener, slow_listener,
+--   periodic
 
 -- ---- what findings are called
 
@@ -29,31 +30,16 @@
 
 -- ---- what they say of which finding
 
--- Each method that a process called at an object, with its longest call. What a process sent to many others by one code
--- in oneway sends has its longest handler: the time from the delivery until its buffer is freed.
--- beside: nodes.sql
-CREATE TEMP TABLE timed_path AS
-SELECT s.generation, s.code, s.oneway, s.longest, g.upid, n.upid AS server, n.ptr
-FROM sent_sum s JOIN raw_generation g ON g.id = s.generation JOIN node_of n ON n.generation = s.generation
-WHERE s.longest NOTNULL OR s.oneway;
-UPDATE timed_path SET longest = (
-  SELECT max(z.ts - x.ts)
-  FROM raw_send s JOIN raw_record r USING (place) JOIN raw_delivery d ON d.place = s.delivery
-    JOIN side_time x ON x.seq = d.seq JOIN side_time z ON z.seq = d.seq + d.dur_seq
-  WHERE s.generation = timed_path.generation AND r.code = timed_path.code)
-WHERE oneway AND (upid, code) IN (SELECT upid, code FROM timed_path WHERE oneway GROUP BY 1, 2
-  HAVING count(DISTINCT server) >= :TOO_MANY);
-
 -- The calls of main threads of apps that took long, of each path the longest. An app has a user id of its own.
 CREATE TEMP TABLE slow_main AS
-SELECT p.upid, p.server, p.ptr, p.code, c.place, c.seq, c.utid, z.ts - x.ts AS dur, count(*) OVER path AS n,
+SELECT p.upid, p.node_upid AS server, p.ptr, p.code, c.place, c.seq, c.utid, z.ts - x.ts AS dur, count(*) OVER path AS n,
   row_number() OVER (path ORDER BY z.ts - x.ts DESC, c.place) AS nth
-FROM timed_path p JOIN process a USING (upid) JOIN thread t ON t.upid = a.upid AND t.tid = a.pid
+FROM sent p JOIN process a USING (upid) JOIN thread t ON t.upid = a.upid AND t.tid = a.pid
   CROSS JOIN raw_send s CROSS JOIN raw_call c CROSS JOIN raw_record r CROSS JOIN side_time x CROSS JOIN side_time z
-WHERE p.longest > :LONG AND NOT p.oneway AND a.uid % 100000 BETWEEN :FIRST_APP AND :LAST_APP
+WHERE p.longest > :LONG AND p.node_upid NOTNULL AND a.uid % 100000 BETWEEN :FIRST_APP AND :LAST_APP
   AND s.generation = p.generation AND c.place = s.place AND c.utid = t.utid AND r.place = s.place AND r.code = p.code
   AND x.seq = c.seq AND z.seq = c.seq + c.dur_seq AND z.ts - x.ts > :LONG
-WINDOW path AS (PARTITION BY p.upid, p.server, p.ptr, p.code);
+WINDOW path AS (PARTITION BY p.upid, p.node_upid, p.ptr, p.code);
 -- Whose the time was of the longest one: by process, and by what it was. A query for each call finds it by its place.
 CREATE TEMP TABLE slow_part AS
 SELECT place, server, what, sum(ns) AS ns, row_number() OVER (PARTITION BY place ORDER BY sum(ns) DESC, server) AS nth
@@ -75,6 +61,20 @@ SELECT 'slow', 'main thread', m.place, m.seq, m.upid, m.utid, m.code, m.ptr, m.s
   (SELECT server FROM slow_part p WHERE p.place = m.place AND p.nth = 1 AND p.what <> 'unknown')
 FROM slow_main m WHERE m.nth = 1;
 
+-- What a process sent to objects of many others by one code: each with its longest call; or with the longest handler of
+-- oneway sends, the time from the delivery until its buffer is freed.
+CREATE TEMP TABLE told_many AS
+SELECT upid, code, oneway
+FROM (SELECT DISTINCT upid, code, oneway, node_upid FROM sent)
+GROUP BY 1, 2, 3 HAVING count(*) >= :TOO_MANY;
+CREATE TEMP TABLE timed_path AS
+SELECT p.generation, p.code, p.oneway, p.upid, p.node_upid AS server, p.ptr, iif(p.oneway, (
+    SELECT max(z.ts - x.ts)
+    FROM raw_send s JOIN raw_record r USING (place) JOIN raw_delivery d ON d.place = s.delivery
+      JOIN side_time x ON x.seq = d.seq JOIN side_time z ON z.seq = d.seq + d.dur_seq
+    WHERE s.generation = p.generation AND r.code = p.code), p.longest) AS longest
+FROM (SELECT 1 FROM told_many LIMIT 1) CROSS JOIN sent p
+WHERE (p.upid, p.code, p.oneway) IN (SELECT upid, code, oneway FROM told_many);
 -- What a process told listeners of one interface by one code, each process that has some with its longest call, or
 -- handler.
 CREATE TEMP TABLE listener AS
@@ -109,13 +109,14 @@ FROM slow_listener;
 -- beside: loading
 CREATE TEMP TABLE periodic AS
 SELECT * FROM again_sum WHERE n >= :AGAIN AND last - first > :VERY_LONG AND most <= :USUAL * least;
-DELETE FROM periodic WHERE generation NOT IN (SELECT generation FROM node_of)
-  OR EXISTS (SELECT 1 FROM raw_call c JOIN raw_object o ON o.place = c.closer WHERE c.place = periodic.place);
+DELETE FROM periodic
+WHERE EXISTS (SELECT 1 FROM raw_call c JOIN raw_object o ON o.place = c.closer WHERE c.place = periodic.place);
 INSERT INTO data_hash
-SELECT s.place, hash_of(r.attachment, r.data_size)
-FROM periodic p CROSS JOIN raw_send s ON s.generation = p.generation JOIN raw_record r ON r.place = s.place
-WHERE (r.code, r.data_size) = (p.code, p.data_size) AND hash_of(r.attachment, r.data_size) NOTNULL
-  AND s.place NOT IN (SELECT place FROM data_hash);
+WITH hashed AS MATERIALIZED (
+  SELECT s.place, hash_of(r.attachment, r.data_size) AS hash
+  FROM periodic p CROSS JOIN raw_send s ON s.generation = p.generation JOIN raw_record r ON r.place = s.place
+  WHERE (r.code, r.data_size) = (p.code, p.data_size) AND s.place NOT IN (SELECT place FROM data_hash))
+SELECT place, hash FROM hashed WHERE hash NOTNULL;
 INSERT INTO finding(section, what, place, seq, upid, utid, code, ptr, target, relation, about, node, rule, said, how_many,
   how_long)
 SELECT 'slow', 'again', p.place, s.seq, g.upid, s.utid, p.code, n.ptr, n.upid, 'to', n.upid, n.ptr, 'V3',

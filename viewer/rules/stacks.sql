@@ -23,9 +23,11 @@ WHERE f.section <> 'handles' AND EXISTS (SELECT 1 FROM side_call)
 UNION ALL SELECT f.id, 2, d.send, 'the send of it' FROM finding f JOIN raw_delivery d USING (place)
   JOIN raw_record r USING (place)
 WHERE f.section <> 'handles' AND r.kind <> :BR_REPLY AND EXISTS (SELECT 1 FROM side_call)
--- A call that came back to a thread that waits: the call in which it waits, over which it holds its lock.
-UNION ALL SELECT f.id, 1, f.other, 'the call within which its thread got it' FROM finding f
-WHERE f.rule = 'C10' AND EXISTS (SELECT 1 FROM side_call)
+-- A call that came back to a thread that waits, and one that others wait for: the call of the thread over which it holds
+-- its lock.
+UNION ALL SELECT f.id, 0, f.other,
+  iif(f.rule = 'C10', 'the call within which its thread got it', 'the call that its thread made meanwhile')
+FROM finding f WHERE f.rule IN ('C10', 'V4') AND EXISTS (SELECT 1 FROM side_call)
 -- An error reply: the send that the driver refused.
 UNION ALL SELECT f.id, 1, s.place, 'the send that was refused' FROM finding f JOIN raw_send s ON s.refused = f.place
 WHERE f.section IN ('refused', 'strays') AND EXISTS (SELECT 1 FROM side_call)

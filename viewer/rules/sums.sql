@@ -11,7 +11,8 @@ FROM raw_send s JOIN raw_record r ON r.place = s.delivery JOIN raw_thread t ON t
 WHERE s.generation NOTNULL GROUP BY 1, 2, 3, 4;
 
 -- What was sent to a generation of a handle, by code. `longest` is the longest call; `good` counts the calls that were
--- answered, and the oneway sends that were delivered, and the two after it are the longest of these.
+-- answered, and the oneway sends that were delivered, and the two after it are the longest of these. `waited` is the
+-- longest time from a send to its delivery.
 CREATE TEMP VIEW sent_sum AS
 SELECT
   s.generation,
@@ -30,12 +31,13 @@ SELECT
   max(z.ts - x.ts) AS longest,
   count(e.seq) AS good,
   max(e.seq - s.seq) AS good_seq,
-  max(y.ts - x.ts) AS good_time
+  max(y.ts - x.ts) AS good_time,
+  max(w.ts - x.ts) AS waited
 FROM raw_send s CROSS JOIN raw_record r USING (place) LEFT JOIN raw_call c USING (place)
   LEFT JOIN raw_delivery d ON d.place = s.delivery
   LEFT JOIN raw_record e ON e.place = iif(r.flags & :TF_ONE_WAY, s.delivery, iif(c.verdict = 1, c.closer, NULL))
   LEFT JOIN side_time x ON x.seq = s.seq LEFT JOIN side_time z ON z.seq = c.seq + c.dur_seq
-  LEFT JOIN side_time y ON y.seq = e.seq
+  LEFT JOIN side_time y ON y.seq = e.seq LEFT JOIN side_time w ON w.seq = d.seq
 WHERE s.generation NOTNULL GROUP BY 1, 2, 3;
 
 -- What each process got: replies by the call that they answer, and all else by the object. A reply has no ptr and no
@@ -89,5 +91,5 @@ FROM (
   SELECT s.generation, r.code, r.data_size, s.place, x.ts,
     x.ts - lag(x.ts) OVER (PARTITION BY s.generation, r.code, r.data_size ORDER BY s.place) AS gap
   FROM raw_send s JOIN raw_record r USING (place) JOIN side_time x ON x.seq = s.seq
-  WHERE s.generation NOTNULL AND r.data_size > 0 AND NOT r.flags & :TF_ONE_WAY)
+  WHERE s.generation NOTNULL AND NOT r.flags & :TF_ONE_WAY)
 GROUP BY 1, 2, 3;

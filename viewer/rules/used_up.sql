@@ -44,7 +44,7 @@ FROM (SELECT server, dur, row_number() OVER (PARTITION BY server ORDER BY dur) A
     FROM (SELECT 1 FROM pool_wait WHERE until - since > :VERY_LONG LIMIT 1) CROSS JOIN raw_call v JOIN raw_delivery d USING (place)
       JOIN raw_send s ON s.place = d.send JOIN raw_thread t ON t.utid = v.utid JOIN side_time x ON x.seq = s.seq
       JOIN side_time y ON y.seq = v.seq
-    WHERE v.served AND v.depth = 1 AND s.certain
+    WHERE v.depth = 1 AND s.certain
       AND t.upid IN (SELECT server FROM pool_wait WHERE until - since > :VERY_LONG)))
 WHERE nth = (n + 1) / 2;
 -- If a call keeps the pool busy to the end, or is in a ring, that call is the finding, also where the loopers wait for
@@ -53,16 +53,15 @@ CREATE TEMP TABLE told_by_call AS
 WITH RECURSIVE told(at) AS (SELECT id FROM finding WHERE rule IN ('C3', 'C6', 'C8', 'C10', 'C11')
     AND EXISTS (SELECT 1 FROM pool_wait)
   UNION SELECT s.id FROM told t JOIN step s ON s.next = t.at LEFT JOIN finding f ON f.id = s.id
-    WHERE s.id < 0 OR f.rule = 'C7')
-SELECT DISTINCT upid AS server FROM occupies WHERE id IN (SELECT at FROM told);
+    WHERE f.id IS NULL OR f.rule = 'C7')
+SELECT upid AS server FROM occupies WHERE id IN (SELECT at FROM told);
 -- The processes whose calls kept its loopers busy, with when each call did so; `before` is how long a looper was busy
 -- with calls of the process before.
 CREATE TEMP TABLE keeper AS
-SELECT k.server, t.upid, k.utid, k.busy_since AS since, k.busy_until AS until,
-  sum(k.busy_until - k.busy_since) OVER (PARTITION BY k.server, t.upid, k.utid ORDER BY k.busy_since)
-    - (k.busy_until - k.busy_since) AS before
-FROM (SELECT DISTINCT server, utid, place, busy_since, busy_until FROM kept_by) k JOIN raw_delivery d USING (place)
-  JOIN raw_send s ON s.place = d.send JOIN raw_thread t ON t.utid = s.utid;
+SELECT server, caller AS upid, utid, busy_since AS since, busy_until AS until,
+  sum(busy_until - busy_since) OVER (PARTITION BY server, caller, utid ORDER BY busy_since)
+    - (busy_until - busy_since) AS before
+FROM (SELECT DISTINCT server, caller, utid, place, busy_since, busy_until FROM kept_by);
 CREATE INDEX temp.keeper_of ON keeper(server, upid, utid, since);
 -- How long each wait was, and how long calls of the process that waits kept loopers busy meanwhile: who waits for its own
 -- calls delays itself.

@@ -203,9 +203,9 @@ CREATE UNIQUE INDEX temp.full_pool_of ON full_pool(upid);
 CREATE TEMP TABLE pool_ring AS
 SELECT k.id, n.id AS next, min(n.place) AS place
 FROM last, occupies o JOIN full_pool USING (upid) JOIN waits k ON k.id = o.id AND k.upid = o.upid
-  JOIN raw_thread t ON t.utid = k.server LEFT JOIN side_time x ON x.seq = t.last_seq
+  JOIN raw_thread t ON t.utid = k.server JOIN side_time x ON x.seq = t.last_seq
   JOIN waits n ON n.upid = k.server_upid AND n.server_upid = k.upid
-WHERE k.replied = 0 AND n.delivery IS NULL AND coalesce(last.ts - x.ts > :LONG, 1)
+WHERE n.delivery IS NULL AND last.ts - x.ts > :LONG
   AND NOT EXISTS (SELECT 1 FROM waits_for f WHERE f.id = k.id AND NOT f.by_main)
 GROUP BY 1;
 CREATE UNIQUE INDEX temp.pool_ring_of ON pool_ring(id);

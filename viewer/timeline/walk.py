@@ -1,7 +1,7 @@
 """The walk through a capture by which a timeline is made, record by record, in whatever format.
 
 What is kept meanwhile is what is open: calls, buffers of oneway transactions, references that are held, and when what
-has not come yet was sent. docs/VIEW.md says what the events mean.
+has not come yet was sent. docs/PAGE.md says what the events mean.
 """
 
 import functools
