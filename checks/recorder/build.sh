@@ -22,15 +22,19 @@ case $1 in
   ;;
 esac
 program=$1 folder=$(readlink -f -- "$2")
-flags+=("${@:3}")
+flags+=("-isystem$folder" "${@:3}")
 
 # Only these are about the programs in the kernel, which are not built here.
-sources=("$here/kit.c" "$here/made_proc.c" "$here/played.c" "$here/scene.c")
+sources=("$here"/{kit,made_frame,made_proc,played,scene}.c)
 for source in "$recorder"/*.c; do
   if [[ $source != *.bpf.c && $source != */kernel.c ]]; then sources+=("$source"); fi
 done
 if [[ ! -e $folder/loader.a ]]; then
+  "$recorder/../commands/as_c.py" >"$folder/option_names.h"
   objects=$(mktemp -d -- "$folder/objects.XXXXXX")
   (cd -- "$objects" && "$compiler" "${flags[@]}" -c "${sources[@]}" && ar rc "$folder/loader.a" ./*.o)
 fi
-"$compiler" "${flags[@]}" "${last[@]}" "$here/$program.c" "$folder/loader.a" -o "$folder/$program" -lb2
+programs=("$here/$program.c")
+# In an archive it would come beside what it is in place of.
+if grep -q '"made_driver.h"' "${programs[0]}"; then programs+=("$here/made_driver.c"); fi
+"$compiler" "${flags[@]}" "${last[@]}" "${programs[@]}" "$folder/loader.a" -o "$folder/$program" -lb2

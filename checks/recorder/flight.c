@@ -5,17 +5,14 @@
  * sets the wall clock back. With SCENE there, what scene.c plays comes in place of all that, until a signal. See loader
  * and live. */
 #define _GNU_SOURCE
-#include "drivers.h"
 #include "kernel.h"
 #include "kit.h"
 #include "lack.h"
-#include "names.h"
+#include "made_driver.h"
+#include "made_frame.h"
 #include "needs.h"
 #include "scene.h"
-#include <fcntl.h>
-#include <linux/android/binder.h>
 #include <signal.h>
-#include <stdarg.h>
 #include <stdio.h>
 #include <stdlib.h>
 #include <string.h>
@@ -29,45 +26,35 @@ enum {
 };
 
 static u32 looks;		/* how often the ring was looked at */
-static int is_stopped, is_written;
-static u64 last;		/* the number that was taken last */
-static u64 end_number;		/* the same when the recording ended */
+static int is_written;
 static u64 missed;		/* events */
 
 /* A frame of so many codes without a payload. */
-static void hear_codes(void (*hear)(const void *, u64), u32 direction, u32 code, u32 count)
+static void hear_codes(hearer *hear, u32 direction, u32 code, u32 count)
 {
-	u32 bytes = count * (u32)sizeof code;
-	struct chunk *chunk = allocate(sizeof *chunk + bytes);
-	*chunk = (struct chunk){ .head = head_of(MESSAGE_CHUNK, direction, ++last, direction), .commands = bytes,
-				 .next = direction == DIRECTION_WRITE ? bytes : 0 };
 	for (u32 i = 0; i < count; i++)
-		memcpy((u8 *)(chunk + 1) + i * sizeof code, &code, sizeof code);
-	hear(chunk, sizeof *chunk + bytes);
-	free(chunk);
-}
-
-static void hear_event(void (*hear)(const void *, u64), struct event event)
-{
-	hear(&event, sizeof event);
+		made_code(code);
+	made_begun(hear, head_of(MESSAGE_CHUNK, direction, ++made_last, 1, direction), NULL, 0);
 }
 
 /* A process that had no opening of a device ends. */
-static void hear_end(void (*hear)(const void *, u64), u32 process)
+static void hear_end(hearer *hear, u32 process)
 {
-	struct event event = { .head = head_of(MESSAGE_ENDED, 0, last, 0), .ended = { .process = process, .is_last = 1 } };
-	hear_event(hear, event);
+	struct event event = { .head = head_of(MESSAGE_ENDED, 0, made_last, 1, 0),
+			       .ended = { .process = process, .is_last = 1 } };
+	hear(&event, sizeof event);
 }
 
 /* The driver is through with the write. All else is after the end: a process ends; a program that had begun takes a
  * number for a read, one for a read that is lost, and one for a write that does not end; and one more process ends. */
-static void hear_last(void (*hear)(const void *, u64))
+static void hear_last(hearer *hear)
 {
-	hear_event(hear, (struct event){ .head = head_of(MESSAGE_WRITTEN, DIRECTION_WRITE, 3, DIRECTION_WRITE), .written = { 4 } });
+	struct event lost = { .lost = { REASON_UNREADABLE } };
+	made_written(hear, head_of(MESSAGE_WRITTEN, DIRECTION_WRITE, 3, 1, DIRECTION_WRITE), 4);
 	hear_end(hear, 2002);
 	hear_codes(hear, DIRECTION_READ, BR_NOOP, RETURNS);
-	hear_event(hear, (struct event){ .head = head_of(MESSAGE_LOST, DIRECTION_READ, ++last, DIRECTION_READ),
-					 .lost = { REASON_UNREADABLE } });
+	lost.head = head_of(MESSAGE_LOST, DIRECTION_READ, ++made_last, 1, DIRECTION_READ);
+	hear(&lost, sizeof lost);
 	hear_codes(hear, DIRECTION_WRITE, BC_ENTER_LOOPER, 1);
 	hear_end(hear, 2003);
 }
@@ -85,14 +72,14 @@ static void plant(void)
 
 /* Two reads come, and something is missed that no later frame lacks. Then the write comes, and the reads that wait for
  * it; what is missed then is told long before they are written. */
-long ring_drain(struct ring *ring, void (*hear)(const void *message, u64 bytes))
+long ring_drain(struct ring *ring, hearer *hear)
 {
-	u64 before = last;
+	u64 before = made_last;
 	(void)ring;
 	looks++;
 	if (scene_has("")) {
-		last = is_stopped ? last : scene_play(hear, last, looks);
-		return (long)(last - before);
+		made_last = made_is_stopped ? made_last : scene_play(hear, made_last, looks);
+		return (long)(made_last - before);
 	}
 	if (looks == 1)
 		plant();
@@ -106,25 +93,15 @@ long ring_drain(struct ring *ring, void (*hear)(const void *message, u64 bytes))
 		hear_end(hear, 2001);
 		missed += 3;
 		if (!getenv("GOES_ON")) raise(SIGINT);
-	} else if (is_stopped && !is_written) {
+	} else if (made_is_stopped && !is_written) {
 		hear_last(hear);
 		is_written = 1;
 		return 1;
 	}
-	return (long)(last - before);
+	return (long)(made_last - before);
 }
 
-/* ---- the driver's books */
-
-int __real_open(const char *path, int flags, ...);
-int __wrap_open(const char *path, int flags, ...);
-
-static int is_book(const char *name)
-{
-	return !strcmp(name, "/state") || !strcmp(name, "/transactions") || !strcmp(name, "/stats");
-}
-
-/* ---- its log of failed transactions, which has the last 32 of them */
+/* ---- the driver's log of failed transactions, which has the last 32 of them */
 
 static int log_book = -1;
 
@@ -143,38 +120,17 @@ static void write_log(u32 newest)
 }
 
 /* What it has at the beginning, and, as FAILURES in the environment says, at the end. */
-static int open_log(void)
+int made_log(void)
 {
 	log_book = memfd_create("log", 0);
 	write_log(2);
 	return log_book;
 }
 
-static void fill_log(void)
+void made_stop(void)
 {
 	if (getenv("FAILURES"))
 		write_log((u32)atoi(getenv("FAILURES")));
-}
-
-/* The text of a book is its name. */
-static int open_book(const char *name)
-{
-	int book = memfd_create(name, 0);
-	if (book < 0 || write(book, name, strlen(name)) < 0 || lseek(book, 0, SEEK_SET))
-		fail("the book %s can't be made", name);
-	return book;
-}
-
-int __wrap_open(const char *path, int flags, ...)
-{
-	const char *name = strrchr(path, '/');
-	va_list more;
-	va_start(more, flags);
-	mode_t mode = flags & O_CREAT ? va_arg(more, mode_t) : 0;
-	va_end(more);
-	if (name && !strcmp(name, "/failed_transaction_log"))
-		return open_log();
-	return name && is_book(name) ? open_book(name + 1) : __real_open(path, flags, mode);
 }
 
 /* ---- the clocks: the system sleeps before the ring is looked at for the second time */
@@ -204,9 +160,6 @@ int __wrap_clock_gettime(clockid_t clock, struct timespec *time)
 
 /* ---- what the recorder asks of the system */
 
-void need_space(const char *out, u64 most) { (void)out, (void)most; }
-void need_capabilities(void) {}
-
 /* With LACKING in the environment, two things are missing. */
 void need_kernel(void)
 {
@@ -216,32 +169,8 @@ void need_kernel(void)
 	lack("another one is missing");
 }
 
-void need_no_lockdown(void) {}
-int need_driver(void) { return 1; }
-int need_tracefs(void) { return 1; }
-void need_tracepoints(void) {}
-int driver_is_recorded(enum driver driver) { return driver == DRIVER_IN_C; }
-const char *driver_language(enum driver driver) { return driver == DRIVER_IN_C ? "C" : "another language"; }
-
-/* Nothing is in the ring: what comes is handed over by ring_drain() here. */
-void kernel_load(const struct options *options, struct ring *ring)
-{
-	static u64 place;
-	*ring = (struct ring){ .taken = &place, .put = &place, .size = options->ring };
-}
-
-void kernel_start(void) {}
-void kernel_detach(void) {}
-void kernel_unload(void) {}
-u64 kernel_last_number(void) { return is_stopped ? end_number : last; }
-void kernel_make_room(void) {}
-u64 kernel_bound(void) { return kernel_last_number(); }
 u64 kernel_runs_missed(void) { return missed; }
-u64 kernel_calls_32_bit(void) { return 0; }
 u64 kernel_calls_without_number(void) { return getenv("CROWDED") && looks >= 3 ? 5 : 0; }
-u64 kernel_stacks_without_room(void) { return 0; }
-u64 kernel_stacks_failed(void) { return 0; }
-u64 kernel_stacks_empty(void) { return 0; }
 
 /* With CROWDED in the environment calls are missed, since this process has its share of openings, one that is gone has
  * many, and others have few. */
@@ -254,20 +183,11 @@ u32 kernel_holders(struct share *holders, u32 most)
 	return count;
 }
 
-u64 kernel_stop(void)
-{
-	end_number = last;
-	is_stopped = 1;
-	fill_log();
-	return end_number;
-}
-
 void kernel_meet_openings(void)
 {
-	static const char name[NAME_BYTES] = "caller";
-	names_opening(1, now(), 0, 1000, 1, name, MET_FROM_START);
-	names_thread(DIRECTION_WRITE, 1001, 1000, 1, name);
-	names_thread(DIRECTION_READ, 1002, 1000, 1, name);
+	made_opening(1, 1000, "caller");
+	made_thread(DIRECTION_WRITE, 1001, 1000, "caller");
+	made_thread(DIRECTION_READ, 1002, 1000, "caller");
 	if (scene_has(""))
 		scene_meet();
 }

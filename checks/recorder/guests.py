@@ -4,12 +4,14 @@
 
 - A first file system has what its list names, with folders, links and modes, as `cpio` unpacks it.
 - What is kept is taken again, and made anew if a file of it was changed.
+- The kernel that an image has packed is booted in its place, if QEMU can begin with it.
 - A guest that stands still is told: one that says nothing for long while it has a processor, and one of which nothing
   runs. One that waits for a processor which others have is not ended, and neither is one that says something.
 - What a guest says of its plan is told, and so is what was wrong.
 """
 
 import argparse
+import lzma
 import os
 import pathlib
 import subprocess
@@ -17,7 +19,7 @@ import sys
 import time
 
 from checks.kit.checking import Fail, check, compare
-from checks.recorder.guest import boot, image, kept
+from checks.recorder.guest import boot, image, kept, kernels
 
 
 def check_image(room: pathlib.Path, fail: Fail) -> None:
@@ -52,6 +54,17 @@ def check_kept(room: pathlib.Path, fail: Fail) -> None:
         compare(f"what is kept, {what}", (folder / "file").read_text("utf-8"), "as made", fail)
     if kept.kept("thing", ["other part"], make) == folder:
         fail("what is made of other parts is in the same folder")
+
+
+def check_unpacked(room: pathlib.Path, fail: Fail) -> None:
+    for note, due in ((0x12, True), (0x13, False)):
+        source = f'.section .note.Xen, "a", @note\n.long 4, 8, {note}\n.string "Xen"\n.quad 0x1000\n'
+        subprocess.run(["gcc", "-nostdlib", "-static", "-Wl,-e0", "-o", room / "kernel", "-x", "assembler", "-"],
+                       input=source.encode(), check=True)
+        packed = b"head" + lzma.compress((room / "kernel").read_bytes()) + b"tail"
+        came = kernels.unpack(packed, room / "unpacked")
+        compare(f"whether a kernel with the note {note:#x} is booted", came, due, fail)
+        compare("what an image has packed", (room / "unpacked").read_bytes(), (room / "kernel").read_bytes(), fail)
 
 
 class Program(boot.Running):
@@ -107,7 +120,7 @@ def check_told(room: pathlib.Path, fail: Fail) -> None:
 
 
 def judge(_: argparse.Namespace, room: pathlib.Path, fail: Fail) -> None:
-    for one in (check_image, check_kept, check_silence, check_starved, check_told):
+    for one in (check_image, check_kept, check_unpacked, check_silence, check_starved, check_told):
         one(room, fail)
 
 

@@ -5,6 +5,7 @@
 #include "begin.h"
 #include "frame.h"
 #include "kit.h"
+#include "made_frame.h"
 #include "met.h"
 #include "names.h"
 #include "parts.h"
@@ -12,7 +13,6 @@
 #include "side.h"
 #include "slice.h"
 #include "window.h"
-#include <linux/android/binder.h>
 #include <malloc.h>
 #include <stdio.h>
 #include <stdlib.h>
@@ -45,18 +45,11 @@ static char *list;			/* the newest side list */
 void slice_begin(void) { steps = 0; }
 int slice_is_over(void) { return ++steps > SLICE; }
 
-static void hear_frame(u32 direction, u32 opening, const void *commands, u32 bytes)
+/* The frame of the commands of an opening, with so many bytes of data. */
+static void hear_frame(u32 direction, u32 opening, u32 bytes)
 {
-	struct chunk *chunk = allocate(sizeof *chunk + bytes);
-	*chunk = (struct chunk){ .head = head_of(MESSAGE_CHUNK, direction, ++last, opening), .commands = bytes,
-				 .next = direction == DIRECTION_WRITE ? bytes : 0 };
-	chunk->head.opening = opening;
-	memcpy(chunk + 1, commands, bytes);
-	window_hear(chunk, sizeof *chunk + bytes);
-	free(chunk);
-	struct event event = { .head = head_of(MESSAGE_WRITTEN, direction, last, opening), .written = { bytes } };
-	if (direction == DIRECTION_WRITE)
-		window_hear(&event, sizeof event);
+	static const u8 data[MUCH];
+	made_frame(window_hear, head_of(MESSAGE_CHUNK, direction, ++last, opening, opening), data, bytes);
 }
 
 /* Writes what can be written. Returns how often the ring would have been looked at meanwhile. */
@@ -70,13 +63,9 @@ static int settle(void)
 
 static void hear_handles(u32 opening, u32 first, u32 count)
 {
-	struct { u32 code, handle; } *commands = allocate(count * sizeof *commands);
-	for (u32 i = 0; i < count; i++) {
-		commands[i].code = BC_INCREFS;
-		commands[i].handle = first + i;
-	}
-	hear_frame(DIRECTION_WRITE, opening, commands, count * (u32)sizeof *commands);
-	free(commands);
+	for (u32 handle = first; handle < first + count; handle++)
+		made_record(BC_INCREFS, &handle, sizeof handle);
+	hear_frame(DIRECTION_WRITE, opening, 0);
 }
 
 static void name_handles(u32 opening, u32 first, u32 count)
@@ -87,10 +76,9 @@ static void name_handles(u32 opening, u32 first, u32 count)
 
 static void hear_return(void)
 {
-	static u32 codes[RETURNS];
 	for (u32 i = 0; i < RETURNS; i++)
-		codes[i] = BR_NOOP;
-	hear_frame(DIRECTION_READ, HOST, codes, sizeof codes);
+		made_code(BR_NOOP);
+	hear_frame(DIRECTION_READ, HOST, 0);
 }
 
 static void read_list(void)
@@ -162,30 +150,13 @@ static void many_liars(void)
 /* A send with so much data, and what its thread reads then: nothing if that is 0. */
 static void send_data(u32 bytes, u32 answer)
 {
-	struct {
-		struct chunk chunk;
-		u32 word;
-		struct binder_transaction_data sent;
-	} __attribute__((packed)) command = { { .commands = 4 + sizeof command.sent, .next = 4 + sizeof command.sent },
-					      BC_TRANSACTION, { .data_size = bytes } };
-	static union {
-		struct piece piece;
-		u8 bytes[sizeof(struct piece) + CHUNK];
-	} more;
-	u32 returns[] = { BR_NOOP, answer };
-	command.chunk.head = head_of(MESSAGE_CHUNK, DIRECTION_WRITE, ++last, HOST);
-	window_hear(&command, sizeof command);
-	for (u32 at = 0, count; at < bytes; at += count) {
-		count = bytes - at < CHUNK ? bytes - at : CHUNK;
-		more.piece = (struct piece){ .head = head_of(MESSAGE_PIECE, DIRECTION_WRITE, last, HOST), .data = bytes,
-					     .at = at, .bytes = count };
-		window_hear(&more, sizeof more.piece + count);
+	made_send(BC_TRANSACTION, (struct binder_transaction_data){ .data_size = bytes });
+	hear_frame(DIRECTION_WRITE, HOST, bytes);
+	if (answer) {
+		made_code(BR_NOOP);
+		made_code(answer);
+		hear_frame(DIRECTION_READ, HOST, 0);
 	}
-	struct event event = { .head = head_of(MESSAGE_WRITTEN, DIRECTION_WRITE, last, HOST),
-			       .written = { command.chunk.commands } };
-	window_hear(&event, sizeof event);
-	if (answer)
-		hear_frame(DIRECTION_READ, HOST, returns, sizeof returns);
 	settle();
 }
 
@@ -219,12 +190,11 @@ static void refused_sends(void)
 
 static void come_and_go(u32 opening)
 {
-	struct command command = { .head = head_of(MESSAGE_COMMAND, 0, last, opening), .user = 10123,
+	struct command command = { .head = head_of(MESSAGE_COMMAND, 0, last, opening, opening), .user = 10123,
 				   .bytes = COMMAND_BYTES };
-	struct event closed = { .head = head_of(MESSAGE_CLOSED, 0, 0, 0) };
-	struct event ended = { .head = head_of(MESSAGE_ENDED, 0, 0, opening), .ended = { opening, opening, 1 } };
+	struct event closed = { .head = head_of(MESSAGE_CLOSED, 0, 0, opening, 0) };
+	struct event ended = { .head = head_of(MESSAGE_ENDED, 0, 0, 1, opening), .ended = { opening, opening, 1 } };
 	open_process(opening, MET_FROM_START);
-	command.head.opening = closed.head.opening = opening;
 	window_hear(&command, sizeof command);
 	hear_handles(opening, 1, 1);
 	closed.head.number = ended.head.number = last;
@@ -277,9 +247,8 @@ u64 __wrap_process_read(u32 process, u64 start, const char *name, char *text, u6
 /* A process whose command line nobody can read holds up neither the loader nor its end, and is told as one without. */
 static void a_silent_process(void)
 {
-	struct command command = { .head = head_of(MESSAGE_COMMAND, 0, last, SILENT), .user = 10123 };
+	struct command command = { .head = head_of(MESSAGE_COMMAND, 0, last, SILENT, SILENT), .user = 10123 };
 	u64 began = now();
-	command.head.opening = SILENT;
 	open_process(SILENT, MET_FROM_START);
 	window_hear(&command, sizeof command);
 	name_handles(SILENT, 1, 1);

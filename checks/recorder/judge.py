@@ -16,8 +16,20 @@
     --store             keeps these recordings in samples/blind from now on
     --keep FOLDER       where sessions are unpacked, each with its database; by default a folder that is removed
 
-The set's expected.txt says what is expected of each session; it was written before any of them was judged. The lines of
-`./view --groups` that are `real` or `maybe` are read. The table has a column for each recording:
+The set's expected.txt says what is expected of each session; it was written before any of them was judged. Below its
+name a session is `healthy`, or has a fault:
+
+    healthy         nothing is wrong
+    fault WHO       the culprit, and by what a line of the page is that fault
+    more WHO        what may be told beside it, as its consequence
+    true WHO        what may be told, and is so, but no fault
+    spared WHO      those that the fault's lines must not have among their processes
+
+WHO names processes of which a line must have one, or as many as `2:` says. What is below are regular expressions: of
+the line's `kind`; of something else that the line `has`; and of the `method`, code or object that the lines of the
+fault must name, each of them if several are separated by `; `. Without these a line may have anything.
+
+The lines of `./view --groups` that are `real` or `maybe` are read. The table has a column for each recording:
 
 - A fault is found if a line is of its kind and names the culprit; its culprit is named on the first line if that is a
   line of the fault, or of a consequence, and names the culprit; also as its process if the culprit is among the

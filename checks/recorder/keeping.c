@@ -14,126 +14,87 @@
  * how many bytes the disk has free, FULL_AT the number of the call from which on it has none, and with NO_LINKS a file
  * can have no second name. See keeping. */
 #define _GNU_SOURCE
-#include "drivers.h"
 #include "kernel.h"
 #include "kit.h"
-#include "names.h"
-#include "needs.h"
+#include "made_driver.h"
+#include "made_frame.h"
 #include <dirent.h>
 #include <errno.h>
-#include <fcntl.h>
-#include <linux/android/binder.h>
 #include <signal.h>
-#include <stdarg.h>
 #include <stdio.h>
 #include <stdlib.h>
 #include <string.h>
-#include <sys/mman.h>
 #include <sys/stat.h>
 #include <sys/statvfs.h>
 #include <time.h>
 #include <unistd.h>
 
 enum { CLIENT = 1, SERVICE, HANGING, POOL, WAITING, VICTIM, THREADS };	/* threads, each with an opening of its own process */
-enum { CALLS_OF_LOOK = 25, LOOKS_OF_SECOND = 20, RECORD = 4 + sizeof(struct binder_transaction_data) };
+enum { CALLS_OF_LOOK = 25, LOOKS_OF_SECOND = 20 };
 
 static const u32 process_of[THREADS] = { 0, 2000, 3000, 4000, 3000, 5000, 6000 };
 static const char *const name_of[THREADS] = { "", "client", "service", "camera_app", "service", "impatient", "victim" };
 static volatile u32 looks;
-static u64 last, end_number;
-static int is_stopped;
-
 /* ---- frames */
 
 static const char token[] = "\0\0\0\0\377\377\377\377TSYS\14\0\0\0t\0e\0s\0t\0.\0I\0C\0a\0m\0e\0r\0a\0\0\0\0\0";
-static u8 message[4096];
-static u32 used;			/* of the commands in `message` */
+static void add_transaction(u32 word, u32 code, u32 flags, u32 sender, u64 data)
+{
+	made_send(word, (struct binder_transaction_data){ .target.handle = 5, .code = code, .flags = flags,
+							  .data_size = data, .sender_pid = (pid_t)sender });
+}
 
 static struct message head(u32 type, u32 direction, u32 thread)
 {
-	return (struct message){ .type = type, .direction = direction, .number = last, .time = now(),
-				 .opening = process_of[thread] / 1000, .thread = thread };
-}
-
-static u8 *add(u32 word, u32 bytes)
-{
-	u8 *to = message + sizeof(struct chunk) + used;
-	memcpy(to, &word, sizeof word);
-	memset(to + sizeof word, 0, bytes);
-	used += (u32)sizeof word + bytes;
-	return to + sizeof word;
-}
-
-static void add_transaction(u32 word, u32 code, u32 flags, u32 sender, u64 data)
-{
-	struct binder_transaction_data made = { .target.handle = 5, .code = code, .flags = flags, .data_size = data,
-						.sender_pid = (pid_t)sender };
-	memcpy(add(word, sizeof made), &made, sizeof made);
+	return head_of(type, direction, made_last, process_of[thread] / 1000, thread);
 }
 
 /* A frame of the commands; their last record may have the token as its data. */
-static void hear(void (*to)(const void *, u64), u32 direction, u32 thread, int has_token)
+static void hear(hearer *to, u32 direction, u32 thread, int has_token)
 {
-	struct chunk *chunk = (void *)message;
-	u64 bytes = sizeof *chunk + used;
-	last++;
-	*chunk = (struct chunk){ .head = head(MESSAGE_CHUNK, direction, thread), .commands = used,
-				 .next = direction == DIRECTION_WRITE ? used : 0 };
-	if (has_token) {
-		u64 at = MULTIPLE_OF_8(bytes);
-		struct piece *piece = (void *)(message + at);
-		*piece = (struct piece){ .head = head(MESSAGE_PIECE, direction, thread), .record = used - RECORD,
-					 .data = sizeof token - 1, .bytes = sizeof token - 1 };
-		memcpy(piece + 1, token, sizeof token - 1);
-		bytes = at + sizeof *piece + sizeof token - 1;
-	}
-	to(message, bytes);
-	if (direction == DIRECTION_WRITE) {
-		struct event event = { .head = head(MESSAGE_WRITTEN, direction, thread), .written = { used } };
-		to(&event, sizeof event);
-	}
-	used = 0;
+	made_last++;
+	made_frame(to, head(MESSAGE_CHUNK, direction, thread), token, has_token ? sizeof token - 1 : 0);
 }
 
-static void send_call(void (*to)(const void *, u64), u32 thread, u32 code)
+static void send_call(hearer *to, u32 thread, u32 code)
 {
 	add_transaction(BC_TRANSACTION, code, 0, 0, sizeof token - 1);
 	hear(to, DIRECTION_WRITE, thread, 1);
 }
 
-static void take_call(void (*to)(const void *, u64), u32 thread, u32 sender, u32 code)
+static void take_call(hearer *to, u32 thread, u32 sender, u32 code)
 {
 	add_transaction(BR_TRANSACTION, code, 0, process_of[sender], sizeof token - 1);
 	hear(to, DIRECTION_READ, thread, 1);
 }
 
-static void answer_call(void (*to)(const void *, u64), u32 thread, u32 sender)
+static void answer_call(hearer *to, u32 thread, u32 sender)
 {
 	add_transaction(BC_REPLY, 0, 0, 0, 4);
 	hear(to, DIRECTION_WRITE, thread, 0);
-	add(BR_TRANSACTION_COMPLETE, 0);
+	made_code(BR_TRANSACTION_COMPLETE);
 	hear(to, DIRECTION_READ, thread, 0);
-	add(BR_TRANSACTION_COMPLETE, 0);
+	made_code(BR_TRANSACTION_COMPLETE);
 	add_transaction(BR_REPLY, 0, 0, 0, 4);
 	hear(to, DIRECTION_READ, sender, 0);
 }
 
-static void call(void (*to)(const void *, u64))
+static void call(hearer *to)
 {
 	send_call(to, CLIENT, 1);
 	take_call(to, SERVICE, CLIENT, 1);
 	answer_call(to, SERVICE, CLIENT);
 }
 
-static void refuse_send(void (*to)(const void *, u64))
+static void refuse_send(hearer *to)
 {
 	add_transaction(BC_TRANSACTION, 9, TF_ONE_WAY, 0, 0);
 	hear(to, DIRECTION_WRITE, WAITING, 0);
-	add(BR_FAILED_REPLY, 0);
+	made_code(BR_FAILED_REPLY);
 	hear(to, DIRECTION_READ, WAITING, 0);
 }
 
-static void end_victim(void (*to)(const void *, u64))
+static void end_victim(hearer *to)
 {
 	struct event event = { .head = head(MESSAGE_ENDED, 0, VICTIM),
 			       .ended = { .id = process_of[VICTIM], .process = process_of[VICTIM], .is_last = 1 } };
@@ -151,7 +112,7 @@ static void touch(void)
 		fail("WATCHED can't be made");
 }
 
-static void do_planned(void (*to)(const void *, u64), const char *what)
+static void do_planned(hearer *to, const char *what)
 {
 	if (!strcmp(what, "hang") || !strcmp(what, "long")) {
 		send_call(to, HANGING, 7);
@@ -183,7 +144,7 @@ static void do_planned(void (*to)(const void *, u64), const char *what)
 	}
 }
 
-static void go_on(void (*to)(const void *, u64))
+static void go_on(hearer *to)
 {
 	if (open_until == looks)
 		answer_call(to, POOL, HANGING);
@@ -201,12 +162,12 @@ static void go_on(void (*to)(const void *, u64))
 		call(to);
 }
 
-long ring_drain(struct ring *ring, void (*to)(const void *message, u64 bytes))
+long ring_drain(struct ring *ring, hearer *to)
 {
-	u64 before = last;
+	u64 before = made_last;
 	char plan[1024];
 	(void)ring;
-	if (is_stopped)
+	if (made_is_stopped)
 		return 0;
 	looks++;
 	snprintf(plan, sizeof plan, "%s", getenv("PLAN"));
@@ -214,7 +175,7 @@ long ring_drain(struct ring *ring, void (*to)(const void *message, u64 bytes))
 		if (looks == (u32)(atof(one) * LOOKS_OF_SECOND + 0.5))
 			do_planned(to, strchr(one, ':') + 1);
 	go_on(to);
-	return (long)(last - before);
+	return (long)(made_last - before);
 }
 
 /* ---- the time: each look is a twentieth of a second later */
@@ -355,72 +316,10 @@ int __wrap_fstatvfs(int file, struct statvfs *space)
 	return status;
 }
 
-/* ---- the driver's books: the text of a book is its name */
-
-int __real_open(const char *path, int flags, ...);
-int __wrap_open(const char *path, int flags, ...);
-
-int __wrap_open(const char *path, int flags, ...)
-{
-	const char *name = strrchr(path, '/');
-	va_list more;
-	va_start(more, flags);
-	mode_t mode = flags & O_CREAT ? va_arg(more, mode_t) : 0;
-	va_end(more);
-	if (!name || (strcmp(name, "/state") && strcmp(name, "/transactions") && strcmp(name, "/stats")))
-		return __real_open(path, flags, mode);
-	int book = memfd_create(name + 1, 0);
-	if (book < 0 || dprintf(book, "%s", name + 1) < 0 || lseek(book, 0, SEEK_SET))
-		fail("the book %s can't be made", name);
-	return book;
-}
-
-/* ---- what the recorder asks of the system */
-
-void need_space(const char *out, u64 most) { (void)out, (void)most; }
-void need_capabilities(void) {}
-void need_kernel(void) {}
-void need_no_lockdown(void) {}
-int need_driver(void) { return 1; }
-int need_tracefs(void) { return 1; }
-void need_tracepoints(void) {}
-int driver_is_recorded(enum driver driver) { return driver == DRIVER_IN_C; }
-const char *driver_language(enum driver driver) { return driver == DRIVER_IN_C ? "C" : "another language"; }
-
-void kernel_load(const struct options *options, struct ring *ring)
-{
-	static u64 place;
-	*ring = (struct ring){ .taken = &place, .put = &place, .size = options->ring };
-}
-
-void kernel_start(void) {}
-void kernel_detach(void) {}
-void kernel_unload(void) {}
-u64 kernel_last_number(void) { return is_stopped ? end_number : last; }
-void kernel_make_room(void) {}
-u64 kernel_bound(void) { return kernel_last_number(); }
-u64 kernel_runs_missed(void) { return 0; }
-u64 kernel_calls_32_bit(void) { return 0; }
-u64 kernel_calls_without_number(void) { return 0; }
-u64 kernel_stacks_without_room(void) { return 0; }
-u64 kernel_stacks_failed(void) { return 0; }
-u64 kernel_stacks_empty(void) { return 0; }
-u32 kernel_holders(struct share *holders, u32 most) { return (void)holders, (void)most, 0; }
-
-u64 kernel_stop(void)
-{
-	end_number = last;
-	is_stopped = 1;
-	return end_number;
-}
-
 void kernel_meet_openings(void)
 {
-	char name[NAME_BYTES];
 	for (u32 thread = 1; thread < THREADS; thread++) {
-		memset(name, 0, sizeof name);
-		strcpy(name, name_of[thread]);
-		names_opening(process_of[thread] / 1000, now(), 0, process_of[thread], 1, name, MET_FROM_START);
-		names_thread(thread, process_of[thread] + thread, process_of[thread], 1, name);
+		made_opening(process_of[thread] / 1000, process_of[thread], name_of[thread]);
+		made_thread(thread, process_of[thread] + thread, process_of[thread], name_of[thread]);
 	}
 }

@@ -86,12 +86,6 @@ int times_in(const char *list, const char *text)
 	return found;
 }
 
-struct message head_of(u32 type, u32 direction, u64 number, u32 thread)
-{
-	return (struct message){ .type = type, .direction = direction, .number = number, .time = now(),
-				 .opening = 1, .thread = thread };
-}
-
 void made_ring_begin(struct made_ring *made, u64 size)
 {
 	made->bytes = allocate(size);

@@ -2,7 +2,6 @@
 #ifndef KIT_H
 #define KIT_H
 #include "common.h"
-#include "messages.h"
 #include "ring.h"
 #include <stdio.h>
 
@@ -15,8 +14,6 @@ u64 own_start(void);			/* when this process began, as the kernel counts it */
 void *all_of(FILE *, u64 *bytes);	/* what is left of a file, and a NUL behind it */
 void *whole_file(const char *path, u64 *bytes);
 int times_in(const char *list, const char *text);	/* how often the list has the text */
-
-struct message head_of(u32 type, u32 direction, u64 number, u32 thread);
 
 /* A ring that no program in the kernel fills. It begins anew each time that it is empty. */
 struct made_ring {

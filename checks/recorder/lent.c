@@ -4,12 +4,12 @@
 #define _GNU_SOURCE
 #include "frame.h"
 #include "kit.h"
+#include "made_frame.h"
 #include "met.h"
 #include "names.h"
 #include "parts.h"
 #include "redact.h"
 #include "window.h"
-#include <linux/android/binder.h>
 #include <stdlib.h>
 #include <string.h>
 #include <sys/random.h>
@@ -22,7 +22,6 @@ enum {
 	FRAMES = 12,		/* that come before each */
 	SIZE = 1 << 20,		/* of a file */
 	FILES = 100,
-	RECORD = 4 + sizeof(struct binder_transaction_data),
 	OBJECT = CHUNK - 4,	/* where an object begins: its handle is in the next piece */
 	THREADS = 5,
 };
@@ -65,7 +64,7 @@ static struct made_frame make(u32 direction, u32 thread)
 
 static struct message head(const struct made_frame *made, u32 type)
 {
-	struct message head = head_of(type, made->direction, made->number, made->thread);
+	struct message head = head_of(type, made->direction, made->number, 1, made->thread);
 	head.time = made->number;
 	return head;
 }
@@ -114,7 +113,7 @@ static void look(void)
 
 static void end_write(u32 thread)
 {
-	struct event event = { .head = head_of(MESSAGE_WRITTEN, DIRECTION_WRITE, waiting[thread], thread),
+	struct event event = { .head = head_of(MESSAGE_WRITTEN, DIRECTION_WRITE, waiting[thread], 1, thread),
 			       .written = { RECORD } };
 	if (waiting[thread])
 		made_ring_put(&ring, &event, sizeof event, NULL, 0);
@@ -176,7 +175,7 @@ int main(int count, char **words)
 	met_keep(SIZE);
 	names_opening(1, 1, 0, 1000, 1, "caller\0\0\0\0\0\0\0\0\0", MET_FROM_START);
 	for (u32 thread = 1; thread <= THREADS; thread++)
-		names_thread(thread, 1000 + thread, 1000, 1, "caller\0\0\0\0\0\0\0\0\0");
+		made_thread(thread, 1000 + thread, 1000, "caller");
 	for (int looks = 0; looks < LOOKS; looks++) {
 		for (int i = 0; i < FRAMES; i++)
 			play(one_of(2) ? DIRECTION_WRITE : DIRECTION_READ, 1 + one_of(THREADS));

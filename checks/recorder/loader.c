@@ -1,16 +1,20 @@
 /* loader OUT: gives the recorder's loader messages of callers that hand over as much as they can. See loader. */
+#define _GNU_SOURCE
 #include "command.h"
+#include "descriptors.h"
 #include "frame.h"
 #include "kit.h"
+#include "made_frame.h"
 #include "names.h"
 #include "parts.h"
 #include "redact.h"
 #include "side.h"
 #include "window.h"
-#include <linux/android/binder.h>
+#include <fcntl.h>
 #include <stdio.h>
 #include <stdlib.h>
 #include <string.h>
+#include <sys/resource.h>
 #include <unistd.h>
 
 enum {
@@ -20,7 +24,6 @@ enum {
 	FRAMES = 500,		/* of 1 MiB each, while another one waits */
 	KEPT = 100,		/* of these before a write ends that they wait for */
 	DATA = 1 << 20,
-	RECORD = 4 + sizeof(struct binder_transaction_data),
 	SHARING = 2000,		/* frames in as few lines as there can be, */
 	FIRST_SHARING = 1000000,
 	LATER = 1234567890,	/* each so many nanoseconds later than the one before it */
@@ -28,36 +31,31 @@ enum {
 
 static u64 last;		/* the number that was taken last */
 
+static struct message head(u32 type, u64 number, u32 thread)
+{
+	return head_of(type, DIRECTION_WRITE, number, 1, thread);
+}
+
 /* The commands of a write: oneway sends with so many bytes of data each. */
 static void hear_commands(u64 number, u32 thread, u32 records, u64 each)
 {
-	u32 bytes = records * RECORD, word = BC_TRANSACTION;
-	struct binder_transaction_data made = { .flags = TF_ONE_WAY, .data_size = each };
-	struct chunk *chunk = allocate(sizeof *chunk + bytes);
-	*chunk = (struct chunk){ .head = head_of(MESSAGE_CHUNK, DIRECTION_WRITE, number, thread), .commands = bytes,
-				 .next = bytes };
-	for (u32 i = 0; i < records; i++) {
-		memcpy((u8 *)(chunk + 1) + i * RECORD, &word, sizeof word);
-		memcpy((u8 *)(chunk + 1) + i * RECORD + sizeof word, &made, sizeof made);
-	}
-	window_hear(chunk, sizeof *chunk + bytes);
-	free(chunk);
+	for (u32 i = 0; i < records; i++)
+		made_send(BC_TRANSACTION, (struct binder_transaction_data){ .flags = TF_ONE_WAY, .data_size = each });
+	made_begun(window_hear, head(MESSAGE_CHUNK, number, thread), NULL, 0);
 }
 
 static void hear_data(u64 number, u32 thread, u32 record, u32 bytes)
 {
 	struct piece *piece = allocate(sizeof *piece + bytes);
-	*piece = (struct piece){ .head = head_of(MESSAGE_PIECE, DIRECTION_WRITE, number, thread), .record = record,
-				 .data = bytes, .bytes = bytes };
+	*piece = (struct piece){ .head = head(MESSAGE_PIECE, number, thread), .record = record, .data = bytes,
+				 .bytes = bytes };
 	window_hear(piece, sizeof *piece + bytes);
 	free(piece);
 }
 
 static void hear_written(u64 number, u32 thread, u64 consumed)
 {
-	struct event event = { .head = head_of(MESSAGE_WRITTEN, DIRECTION_WRITE, number, thread),
-			       .written = { consumed } };
-	window_hear(&event, sizeof event);
+	made_written(window_hear, head(MESSAGE_WRITTEN, number, thread), consumed);
 }
 
 /* A whole write of the second thread, and what can be written then. */
@@ -99,7 +97,7 @@ static void many_lines(void)
 	double began = processor_seconds();
 	hear_commands(++last, 1, 1, 0);
 	for (u32 i = 0; i < LINES; i++) {
-		struct event event = { .head = head_of(MESSAGE_ENDED, DIRECTION_WRITE, last, 0),
+		struct event event = { .head = head(MESSAGE_ENDED, last, 0),
 				       .ended = { .process = i + 1, .is_last = 1 } };
 		window_hear(&event, sizeof event);
 	}
@@ -150,9 +148,8 @@ static void long_settling(void)
 
 static void hear_command(u32 opening, const char *text, u32 bytes, u32 claimed)
 {
-	struct command command = { .head = head_of(MESSAGE_COMMAND, DIRECTION_WRITE, last, 0), .user = 10123,
+	struct command command = { .head = head_of(MESSAGE_COMMAND, DIRECTION_WRITE, last, opening, 0), .user = 10123,
 				   .bytes = claimed };
-	command.head.opening = opening;
 	memcpy(command.text, text, bytes);
 	window_hear(&command, sizeof command);
 }
@@ -285,6 +282,137 @@ static void command_lines(void)
 	redacted_commands();
 }
 
+/* ---- descriptors of processes that receive some */
+
+enum { RECEIVER = 20, GONE };		/* openings, each with a thread of the same number */
+
+/* Data with objects, which come with the read that the thread takes next. */
+static void hear_objects(struct message head, const void *data, u32 bytes, const u64 *offsets, u32 count)
+{
+	u32 offset_bytes = count * (u32)sizeof *offsets;
+	struct piece *piece = allocate(sizeof *piece + bytes + offset_bytes);
+	*piece = (struct piece){ .head = head, .data = bytes, .offsets = offset_bytes, .bytes = bytes + offset_bytes };
+	piece->head.type = MESSAGE_PIECE;
+	memcpy(piece + 1, data, bytes);
+	memcpy((u8 *)(piece + 1) + bytes, offsets, offset_bytes);
+	window_hear(piece, sizeof *piece + piece->bytes);
+	free(piece);
+}
+
+static struct message next_read(u32 opening)
+{
+	return head_of(MESSAGE_CHUNK, DIRECTION_READ, ++last, opening, opening);
+}
+
+/* The thread takes what was made, and the frame is written. */
+static void hear_read(struct message head)
+{
+	made_begun(window_hear, head, NULL, 0);
+	window_settle();
+	parts_flush();
+}
+
+static void hear_failure(u32 opening)
+{
+	made_code(BR_FAILED_REPLY);
+	hear_read(next_read(opening));
+}
+
+/* A reply with a handle, and an object of this type at an offset. */
+static void hear_object(u32 opening, u32 type, u64 offset)
+{
+	struct flat_binder_object objects[2] = { { .hdr = { BINDER_TYPE_HANDLE } }, { .hdr = { type } } };
+	u64 offsets[] = { 0, offset };
+	struct message head = next_read(opening);
+	struct binder_transaction_data sizes = { .data_size = sizeof objects, .offsets_size = sizeof offsets };
+	made_send(BR_REPLY, sizes);
+	hear_objects(head, objects, sizeof objects, offsets, 2);
+	hear_read(head);
+}
+
+/* How many lines tell of descriptors, for this reason or any. */
+static int looks(const char *why)
+{
+	char word[32];
+	u64 bytes;
+	char *text = whole_file(side_path(), &bytes), *line = strstr(text, " descriptors ");
+	int count = 0;
+	snprintf(word, sizeof word, " why=%s\n", why);
+	for (; line; line = strstr(line + 1, " descriptors "))
+		count += !*why || !strncmp(strchr(line, '\n') - strlen(word) + 1, word, strlen(word));
+	free(text);
+	return count;
+}
+
+/* How many are open here, with that by which one looks. */
+static u32 open_here(void)
+{
+	int next = dup(0);
+	close(next);
+	u32 open = 0;
+	for (int file = 0; file < 1024; file++)
+		open += fcntl(file, F_GETFD) >= 0;
+	return open + 1;
+}
+
+static int has_look(const char *why)
+{
+	struct rlimit limit;
+	char line[128];
+	getrlimit(RLIMIT_NOFILE, &limit);
+	snprintf(line, sizeof line, " descriptors 0 %u open=%u limit=%llu why=%s\n",
+		 names_of(RECEIVER, RECEIVER, now()).process, open_here(), (unsigned long long)limit.rlim_cur, why);
+	return has_line(line);
+}
+
+/* Who receives a descriptor is looked at then, when a call of its own fails, and at the end. No look is taken at others,
+ * whatever their objects and offsets are, and none at what has ended. */
+static void received_descriptors(void)
+{
+	static const char name[NAME_BYTES] = "receiver";
+	u32 own = (u32)getpid();
+	names_opening(RECEIVER, now(), 0, own, own_start(), name, MET_FROM_START);
+	names_thread(RECEIVER, own, own, own_start(), name);
+	made_opening(GONE, own + 1, "gone");
+	made_thread(GONE, own + 1, own + 1, "gone");
+	u64 at = sizeof(struct flat_binder_object);
+	hear_object(RECEIVER, BINDER_TYPE_BINDER, at);
+	hear_object(RECEIVER, BINDER_TYPE_FD, 2 * at - 3);
+	hear_object(RECEIVER, BINDER_TYPE_FD, ~0ull);
+	hear_failure(RECEIVER);
+	hear_object(GONE, BINDER_TYPE_FD, at);
+	should(looks("") == 0, "looks at processes that receive none, or are gone", looks(""));
+	hear_object(RECEIVER, BINDER_TYPE_FD, at);
+	should(has_look("first"), "what is open when the first descriptor came", open_here());
+	hear_object(RECEIVER, BINDER_TYPE_FDA, at);
+	hear_failure(RECEIVER);
+	should(looks("") == 1, "looks within a second", looks(""));
+	usleep(1100000);
+	hear_object(RECEIVER, BINDER_TYPE_FD, at);
+	should(looks("") == 1, "looks when one more descriptor came", looks(""));
+	int more[] = { dup(0), dup(0), dup(0) };
+	hear_failure(RECEIVER);
+	should(has_look("failed"), "what is open when a call failed", open_here());
+	close(more[0]);
+	descriptors_look();
+	should(looks("end") == 0, "looks of the end before all is written", looks("end"));
+	descriptors_tell();
+	parts_flush();
+	should(has_look("end"), "what is open at the end", open_here());
+	descriptors_tell_again();
+	parts_flush();
+	should(looks("first") == 2, "first looks, of two files", looks("first"));
+	names_closed(RECEIVER, now(), last);
+	names_settled(last + 1);
+	descriptors_look();
+	descriptors_tell();
+	descriptors_tell_again();
+	parts_flush();
+	should(looks("") == 4, "looks, with none at what has ended", looks(""));
+	close(more[1]);
+	close(more[2]);
+}
+
 /* Reads lines of frames of the side list back, from this number on. Returns how many frames follow each other, each so
  * much later than the one before it; the time of the first one is 0. */
 static u64 read_back(u64 first, u64 later)
@@ -348,13 +476,12 @@ static void lines_of_frames(void)
 
 int main(int count, char **words)
 {
-	static const char name[NAME_BYTES] = "caller";
 	if (count != 2 || parts_begin(words[1], MOST_TOGETHER, 1))
 		fail("usage: loader OUT");
 	redact_begin(0);
-	names_opening(1, now(), 0, 1000, 1, name, MET_FROM_START);
-	names_thread(1, 1001, 1000, 1, name);
-	names_thread(2, 1002, 1000, 1, name);
+	made_opening(1, 1000, "caller");
+	made_thread(1, 1001, 1000, "caller");
+	made_thread(2, 1002, 1000, "caller");
 	many_entries();
 	many_lines();
 	much_memory();
@@ -362,6 +489,7 @@ int main(int count, char **words)
 	long_settling();
 	command_lines();
 	lines_of_frames();
+	received_descriptors();
 	if (parts_end())
 		fail("the files can't be written");
 	return failed;

@@ -11,7 +11,7 @@
 # lines of its side list ever so many. If there is no room for more openings, the side lists say who has them. And that
 # names which somebody else makes in the same folder end no recording. And that a command line that the program in the
 # kernel could not read is read from its process, while nobody waits for that. And that data which is written straight
-# from the ring is the same as data that was copied.
+# from the ring is the same as data that was copied. And when the descriptors of a process are counted.
 #
 #     checks/run loader
 #

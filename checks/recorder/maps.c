@@ -4,6 +4,7 @@
 #include "code_file.h"
 #include "frame.h"
 #include "kit.h"
+#include "made_frame.h"
 #include "maps.h"
 #include "parts.h"
 #include "redact.h"
@@ -11,7 +12,6 @@
 #include "stacks.h"
 #include "window.h"
 #include <fcntl.h>
-#include <linux/android/binder.h>
 #include <stdio.h>
 #include <stdlib.h>
 #include <string.h>
@@ -102,19 +102,13 @@ static void addresses_of_files(void)
 /* A write with one command and the stack of these addresses; it is finished and written. */
 static void hear_call(u32 process, u64 start, u64 memory, const u64 *addresses, u32 count)
 {
-	struct { struct chunk chunk; u32 word; u64 address; } __attribute__((packed)) write = {
-		.word = BC_FREE_BUFFER };
-	struct stack stack = { .memory = memory, .start = start, .process = process, .count = count };
-	struct event event;
-	last++;
-	write.chunk = (struct chunk){ .head = head_of(MESSAGE_CHUNK, DIRECTION_WRITE, last, 1), .commands = 12,
-				      .next = 12 };
-	stack.head = head_of(MESSAGE_STACK, DIRECTION_WRITE, last, 1);
-	event = (struct event){ .head = head_of(MESSAGE_WRITTEN, DIRECTION_WRITE, last, 1), .written = { 12 } };
+	struct message head = head_of(MESSAGE_STACK, DIRECTION_WRITE, ++last, 1, 1);
+	struct stack stack = { .head = head, .memory = memory, .start = start, .process = process, .count = count };
 	memcpy(stack.addresses, addresses, count * sizeof *addresses);
-	window_hear(&write, sizeof write);
+	made_record(BC_FREE_BUFFER, NULL, sizeof(u64));
+	u32 bytes = made_begun(window_hear, head, NULL, 0);
 	window_hear(&stack, offsetof(struct stack, addresses) + count * sizeof *addresses);
-	window_hear(&event, sizeof event);
+	made_written(window_hear, head, bytes);
 	window_settle();
 	stacks_look();
 }
@@ -206,7 +200,7 @@ static void new_list(const char *out)
  * one whose stack was not kept. */
 static void forgotten_stacks(const char *out)
 {
-	struct stack stack = { .head = head_of(MESSAGE_STACK, DIRECTION_WRITE, last, 1), .memory = 3, .start = 1,
+	struct stack stack = { .head = head_of(MESSAGE_STACK, DIRECTION_WRITE, last, 1, 1), .memory = 3, .start = 1,
 			       .process = STRANGER, .count = 2 };
 	u32 *numbers = allocate(MANY * sizeof *numbers);
 	for (u32 i = 0; i < MANY; i++) {
@@ -227,13 +221,12 @@ static void forgotten_stacks(const char *out)
 
 int main(int count, char **words)
 {
-	static const char name[NAME_BYTES] = "caller";
 	if (count != 2 || parts_begin(words[1], MOST_TOGETHER, 0))
 		fail("usage: maps OUT");
 	redact_begin(0);
 	stacks_begin();
-	names_opening(1, now(), 0, 1000, 1, name, MET_FROM_START);
-	names_thread(1, 1001, 1000, 1, name);
+	made_opening(1, 1000, "caller");
+	made_thread(1, 1001, 1000, "caller");
 	damaged_files("/proc/self/exe");
 	addresses_of_files();
 	own_stacks();

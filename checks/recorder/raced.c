@@ -3,12 +3,11 @@
  * copy. Each is lost as broken, with its process and thread; and no frame is lost that only looks like one of them. See
  * ring. */
 #include "kit.h"
-#include "names.h"
+#include "made_frame.h"
 #include "parts.h"
 #include "redact.h"
 #include "side.h"
 #include "window.h"
-#include <linux/android/binder.h>
 #include <stdlib.h>
 #include <string.h>
 
@@ -78,9 +77,7 @@ static u64 last;		/* the number that was taken last */
 
 static struct message head(u32 type, const struct told *told, u32 opening)
 {
-	struct message head = head_of(type, told->direction, last, opening);
-	head.opening = opening;
-	return head;
+	return head_of(type, told->direction, last, opening, opening);
 }
 
 /* The first records of the frame, each of whose sends has DATA bytes of data. */
@@ -183,8 +180,8 @@ int main(int count, char **words)
 		fail("usage: raced OUT");
 	redact_begin(0);
 	for (u32 opening = HONEST; opening <= CULPRIT; opening++) {
-		names_opening(opening, now(), 0, 1000 + opening, 1, "caller\0\0\0\0\0\0\0\0\0", MET_FROM_START);
-		names_thread(opening, 1000 + opening, 1000 + opening, 1, "caller\0\0\0\0\0\0\0\0\0");
+		made_opening(opening, 1000 + opening, "caller");
+		made_thread(opening, 1000 + opening, 1000 + opening, "caller");
 	}
 	for (u32 i = 0; i < sizeof lies / sizeof *lies; i++) {
 		a_lie(lies + i);

@@ -5,7 +5,7 @@
 It builds the part of the recorder that writes frames, and gives it the captures of samples/ and made ones as if they
 were just being recorded. What must hold:
 
-- With a key that is known, the bytes are those that docs/RECORDER.md describes, by the BLAKE2s of Python.
+- With a key that is known, the bytes are those that docs/RECORD.md describes, by the BLAKE2s of Python.
 - The report on a redacted capture, and all rows of `./listing --tables`, are those of the capture, byte for byte, but
   for names of services, of which it has none. So sizes, objects and offsets stay, and each send still fits its
   delivery. Made captures have random offsets and sorts, with all causes of bad objects.

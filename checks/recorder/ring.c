@@ -8,6 +8,7 @@
 #include "frame.h"
 #include "kit.h"
 #include "live.h"
+#include "made_frame.h"
 #include "met.h"
 #include "names.h"
 #include "parts.h"
@@ -17,7 +18,6 @@
 #include "stacks.h"
 #include "window.h"
 #include <fcntl.h>
-#include <linux/android/binder.h>
 #include <sanitizer/asan_interface.h>
 #include <stdlib.h>
 #include <string.h>
@@ -86,9 +86,7 @@ static u64 most_memory;
 
 static struct message head(u32 type, u32 direction, u64 number, const struct caller *caller)
 {
-	struct message head = head_of(type, direction, number, caller->thread);
-	head.opening = caller->opening;
-	return head;
+	return head_of(type, direction, number, caller->opening, caller->thread);
 }
 
 /* Hands what is in the ring to the loader, as main.c does. */

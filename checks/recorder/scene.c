@@ -9,9 +9,8 @@
  */
 #define _GNU_SOURCE
 #include "scene.h"
-#include "kit.h"
 #include "names.h"
-#include <linux/android/binder.h>
+#include <stdio.h>
 #include <stdlib.h>
 #include <string.h>
 
@@ -19,7 +18,6 @@ enum {
 	APP = 10, CAMERA, HAL, HOSTILE, FLOOD,		/* openings */
 	CALLERS = 60,
 	CALLS_AT_A_LOOK = 20,
-	RECORD = 4 + sizeof(struct binder_transaction_data),
 };
 
 enum thread_number {
@@ -27,11 +25,11 @@ enum thread_number {
 	FLOODED, FLOODING,				/* and those after it */
 };
 
-static void (*hear)(const void *, u64);
+static hearer *hear;
 static u64 last;
 static u32 opening;				/* of the frame that is made */
-static u8 commands[1024], data[512];
-static u32 command_bytes, data_bytes;
+static u8 data[512];
+static u32 data_bytes;
 
 int scene_has(const char *part)
 {
@@ -43,21 +41,11 @@ int scene_has(const char *part)
 
 static void meet(u32 number, u32 process, const char *name, const char *line, u32 bytes)
 {
-	char its_name[NAME_BYTES] = { 0 };
-	struct command command = { .head = head_of(MESSAGE_COMMAND, 0, 0, 0), .user = 10123, .bytes = bytes };
-	memcpy(its_name, name, strnlen(name, NAME_BYTES - 1));
-	names_opening(number, now(), 0, process, 1, its_name, MET_FROM_START);
-	command.head.opening = number;
+	struct command command = { .head = head_of(MESSAGE_COMMAND, 0, 0, number, 0), .user = 10123, .bytes = bytes };
+	made_opening(number, process, name);
 	memcpy(command.text, line, bytes < COMMAND_BYTES ? bytes : COMMAND_BYTES);
 	if (bytes)
 		names_command(&command);
-}
-
-static void meet_thread(u32 number, u32 id, u32 process, const char *name)
-{
-	char its_name[NAME_BYTES] = { 0 };
-	memcpy(its_name, name, strnlen(name, NAME_BYTES - 1));
-	names_thread(number, id, process, 1, its_name);
 }
 
 #define HOSTILE_NAME "\x1b[2J\x1b]0;no\a\xff\x9b"
@@ -72,33 +60,25 @@ void scene_meet(void)
 	meet(CAMERA, 3000, "cameraserver", "/system/bin/cameraserver", 24);
 	meet(HAL, 5000, "camera-hal", "", 0);
 	meet(HOSTILE, 4000, HOSTILE_NAME, longest, sizeof longest);
-	meet_thread(APP_MAIN, 2000, 2000, "main");
-	meet_thread(APP_SECOND, 2001, 2000, "second");
-	meet_thread(APP_WORKER, 2002, 2000, "worker");
-	meet_thread(CAMERA_FIRST, 3001, 3000, "Binder:3000_1");
-	meet_thread(CAMERA_SECOND, 3002, 3000, "Binder:3000_2");
-	meet_thread(HAL_FIRST, 5001, 5000, "hal");
-	meet_thread(HOSTILE_FIRST, 4000, 4000, HOSTILE_NAME);
-	meet_thread(HOSTILE_SECOND, 4001, 4000, "\xf0\x9f\x92\xa9");
+	made_thread(APP_MAIN, 2000, 2000, "main");
+	made_thread(APP_SECOND, 2001, 2000, "second");
+	made_thread(APP_WORKER, 2002, 2000, "worker");
+	made_thread(CAMERA_FIRST, 3001, 3000, "Binder:3000_1");
+	made_thread(CAMERA_SECOND, 3002, 3000, "Binder:3000_2");
+	made_thread(HAL_FIRST, 5001, 5000, "hal");
+	made_thread(HOSTILE_FIRST, 4000, 4000, HOSTILE_NAME);
+	made_thread(HOSTILE_SECOND, 4001, 4000, "\xf0\x9f\x92\xa9");
 	meet(FLOOD, 6000, "flooded", "", 0);
-	meet_thread(FLOODED, 6001, 6000, "flooded");
+	made_thread(FLOODED, 6001, 6000, "flooded");
 	for (u32 i = 0; i < CALLERS; i++) {
 		char name[NAME_BYTES];
 		snprintf(name, sizeof name, "caller-%02u", i);
 		meet(FLOOD + 1 + i, 7000 + i, name, "", 0);
-		meet_thread(FLOODING + i, 7000 + i, 7000 + i, name);
+		made_thread(FLOODING + i, 7000 + i, 7000 + i, name);
 	}
 }
 
 /* ---- frames */
-
-static void command(u32 word, const void *payload, u32 bytes)
-{
-	memcpy(commands + command_bytes, &word, sizeof word);
-	if (bytes)
-		memcpy(commands + command_bytes + sizeof word, payload, bytes);
-	command_bytes += (u32)sizeof word + bytes;
-}
 
 /* Data that begins with the token of an interface, and ends with a number. */
 static void token(const char *interface, u32 number)
@@ -115,35 +95,16 @@ static void token(const char *interface, u32 number)
 
 static void carry(u32 word, u32 handle, u32 code, u32 flags, u32 sender, u64 buffer)
 {
-	struct binder_transaction_data made = { .target.handle = handle, .code = code, .flags = flags,
-						.sender_pid = (int)sender, .sender_euid = 10123, .data_size = data_bytes,
-						.data.ptr.buffer = buffer };
-	command(word, &made, sizeof made);
+	made_send(word, (struct binder_transaction_data){ .target.handle = handle, .code = code, .flags = flags,
+							  .sender_pid = (int)sender, .sender_euid = 10123,
+							  .data_size = data_bytes, .data.ptr.buffer = buffer });
 }
 
 /* The frame of the commands; the last one carries the data, if there is any. */
 static void hear_frame(u32 direction, u32 thread)
 {
-	u64 message[512] = { 0 }, bytes = sizeof(struct chunk) + command_bytes, at = MULTIPLE_OF_8(bytes);
-	struct chunk *chunk = (void *)message;
-	*chunk = (struct chunk){ .head = head_of(MESSAGE_CHUNK, direction, ++last, thread), .commands = command_bytes,
-				 .next = direction == DIRECTION_WRITE ? command_bytes : 0 };
-	chunk->head.opening = opening;
-	memcpy(chunk + 1, commands, command_bytes);
-	if (data_bytes) {
-		struct piece *piece = (void *)((u8 *)message + at);
-		*piece = (struct piece){ .head = chunk->head, .record = command_bytes - RECORD, .data = data_bytes,
-					 .bytes = data_bytes };
-		piece->head.type = MESSAGE_PIECE;
-		memcpy(piece + 1, data, data_bytes);
-		bytes = at + sizeof *piece + data_bytes;
-	}
-	hear(message, bytes);
-	struct event event = { .head = chunk->head, .written = { command_bytes } };
-	event.head.type = MESSAGE_WRITTEN;
-	if (direction == DIRECTION_WRITE)
-		hear(&event, sizeof event);
-	command_bytes = data_bytes = 0;
+	made_frame(hear, head_of(MESSAGE_CHUNK, direction, ++last, opening, thread), data, data_bytes);
+	data_bytes = 0;
 }
 
 static void send(u32 from, u32 thread, u32 handle, const char *interface, u32 code, u32 flags, u32 number)
@@ -154,15 +115,15 @@ static void send(u32 from, u32 thread, u32 handle, const char *interface, u32 co
 	hear_frame(DIRECTION_WRITE, thread);
 	if (!flags)
 		return;
-	command(BR_NOOP, NULL, 0);
-	command(BR_TRANSACTION_COMPLETE, NULL, 0);
+	made_code(BR_NOOP);
+	made_code(BR_TRANSACTION_COMPLETE);
 	hear_frame(DIRECTION_READ, thread);
 }
 
 static void get(u32 to, u32 thread, const char *interface, u32 code, u32 flags, u32 number, u32 sender, u64 buffer)
 {
 	opening = to;
-	command(BR_NOOP, NULL, 0);
+	made_code(BR_NOOP);
 	token(interface, number);
 	carry(BR_TRANSACTION, 0, code, flags, sender, buffer);
 	hear_frame(DIRECTION_READ, thread);
@@ -171,19 +132,19 @@ static void get(u32 to, u32 thread, const char *interface, u32 code, u32 flags, 
 static void free_buffer(u32 process, u32 thread, u64 buffer)
 {
 	opening = process;
-	command(BC_FREE_BUFFER, &buffer, sizeof buffer);
+	made_record(BC_FREE_BUFFER, &buffer, sizeof buffer);
 	hear_frame(DIRECTION_WRITE, thread);
 }
 
 static void answer(u32 process, u32 thread, u32 caller, u32 calling, u64 buffer)
 {
 	opening = process;
-	command(BC_FREE_BUFFER, &buffer, sizeof buffer);
+	made_record(BC_FREE_BUFFER, &buffer, sizeof buffer);
 	carry(BC_REPLY, 0, 0, 0, 0, 0);
 	hear_frame(DIRECTION_WRITE, thread);
 	opening = caller;
-	command(BR_NOOP, NULL, 0);
-	command(BR_TRANSACTION_COMPLETE, NULL, 0);
+	made_code(BR_NOOP);
+	made_code(BR_TRANSACTION_COMPLETE);
 	carry(BR_REPLY, 0, 0, 0, 0, 0x9000);
 	hear_frame(DIRECTION_READ, calling);
 }
@@ -191,7 +152,7 @@ static void answer(u32 process, u32 thread, u32 caller, u32 calling, u64 buffer)
 static void enter_pool(u32 process, u32 thread)
 {
 	opening = process;
-	command(BC_ENTER_LOOPER, NULL, 0);
+	made_code(BC_ENTER_LOOPER);
 	hear_frame(DIRECTION_WRITE, thread);
 }
 
@@ -213,8 +174,8 @@ static void begin_hang(void)
 	get(CAMERA, CAMERA_SECOND, camera, 9, TF_ONE_WAY, 0, 0, 0x2000);
 	opening = APP;
 	send(APP, APP_WORKER, 99, camera, 4, 0, 1);
-	command(BR_NOOP, NULL, 0);
-	command(BR_FAILED_REPLY, NULL, 0);
+	made_code(BR_NOOP);
+	made_code(BR_FAILED_REPLY);
 	hear_frame(DIRECTION_READ, APP_WORKER);
 	send(APP, APP_SECOND, 7, camera, 4, 0, 1);
 }
@@ -239,7 +200,7 @@ static void disturb(void)
 	answer(HOSTILE, HOSTILE_SECOND, HOSTILE, HOSTILE_FIRST, 0x6000);
 }
 
-u64 scene_play(void (*heard_by)(const void *, u64), u64 from, u32 look)
+u64 scene_play(hearer *heard_by, u64 from, u32 look)
 {
 	hear = heard_by;
 	last = from;

@@ -6,6 +6,7 @@
 #   NAME scene RELEASE HOW SECONDS ROLE.. starts the roles of the small system one after another, and ends the recording
 #                                         after so many seconds, when all of them are alive. ROLE=N works N seconds, and
 #                                         rests
+#   NAME session RELEASE recorded SECONDS STEP..  plays a session of a blind test set: blind.py has its steps
 # shellcheck shell=dash source=checks/recorder/guest/init.sh disable=SC2046,SC2086,SC2119,SC2154
 . /guest.sh
 add_driver
@@ -46,6 +47,29 @@ play_scene() { # HOW SECONDS ROLE..
 	return $status
 }
 
+play_session() { # HOW SECONDS STEP..
+	begin_recording
+	seconds=$2
+	shift 2
+	servicemanager &
+	sleep 0.5
+	for step; do
+		case $step in
+		@*) sleep ${step#@};;
+		!*) kill -KILL $(pidof ${step#!});;
+		*)
+			# By its path: a role may be called like an applet of busybox.
+			$programs/$(echo $step | tr : ' ') &
+			sleep 0.2;;
+		esac
+	done
+	sleep $seconds
+	end_recording
+	status=$?
+	cat $here/record.txt
+	return $status
+}
+
 # Ends what a line has left, so that the next one begins anew.
 end_all() {
 	for process in /proc/[0-9]*; do
@@ -58,7 +82,8 @@ end_all() {
 
 play() { # WHAT RELEASE HOW WORD..
 	what="$1 $3" kind=$1
-	export PATH=/bin:/android-$2 LD_LIBRARY_PATH=/android-$2:/lib
+	programs=/android-$2
+	export PATH=/bin:$programs LD_LIBRARY_PATH=$programs:/lib
 	shift 2
 	play_$kind "$@"
 	status=$?

@@ -18,7 +18,7 @@ import sys
 
 from checks.kit.checking import FLAG
 from checks.kit.programs import CHECKS, ROOT
-from checks.recorder.aosp import judge, store
+from checks.recorder.aosp import blind, judge, store
 from checks.recorder.guest.boot import Guest, boot
 from checks.recorder.guest.image import Files, Link
 from checks.recorder.guest.kept import kept, needs, run, say, stop
@@ -34,6 +34,8 @@ HOWS = ("unrecorded", "recorded", "--redact", "--stacks")
 OF_RUST = ("lib-10", "driver-14", "visitors-10", "dead-listeners-14", "full-pool-10", "two-locks-14",
            "leak-that-rests-14")
 LIBRARY = ("libbinder.so", "servicemanager")
+# The programs that are called by the name of a role.
+OF_ROLES = ("system", "set")
 # Libraries of Debian that Android 10 takes, and one that they take.
 OF_10 = [*(f"usr/lib/x86_64-linux-gnu/android/lib{name}.so.0"
            for name in ("utils", "cutils", "log", "base", "backtrace")),
@@ -79,17 +81,19 @@ def sources_of(android: str) -> dict[str, pathlib.Path]:
             "GOOGLETEST": googletest / "usr/src/googletest"}
 
 
-def built(android: str, programs: list[str], log: pathlib.Path) -> pathlib.Path:
-    """A folder with libbinder and servicemanager of a release, and these programs."""
+def built(android: str, programs: list[str], log: pathlib.Path, of: pathlib.Path | None = None,
+          room: str | None = None) -> pathlib.Path:
+    """A folder with libbinder and servicemanager of a release, and these programs: of the small system, of a blind test
+    set, or of a room that has its own Makefiles."""
     sources = sources_of(android)
     parts: list[str | pathlib.Path] = [*map(str, sources.values()), run("clang++", "--version"),
                                        AOSP / f"Makefile.{android}", *files_in(AOSP / "stubs")]
 
-    def make(to: pathlib.Path, targets: list[str]) -> None:
+    def make(to: pathlib.Path, targets: list[str], makefile: str = f"Makefile.{android}") -> None:
         words = [f"{name}={path}" for name, path in sources.items()]
         try:
-            run("make", "-s", "-j", os.cpu_count(), "-f", AOSP / f"Makefile.{android}", *words, f"OUT={to}",
-                *(to / target for target in targets), log=log)
+            run("make", "-s", "-j", len(os.sched_getaffinity(0)), "-f", AOSP / makefile, *words, f"SET={of}",
+                f"OUT={to}", *(to / target for target in targets), log=log)
         except subprocess.CalledProcessError:
             stop(f"the build failed: see {log}")
 
@@ -98,10 +102,11 @@ def built(android: str, programs: list[str], log: pathlib.Path) -> pathlib.Path:
 
     def make_programs(to: pathlib.Path) -> None:
         run("cp", "-a", f"{library}/.", to)
-        make(to, programs)
+        make(to, programs, f"{room}/Makefile.{android}" if room else f"Makefile.{'set' if of else android}")
         for name in ("objects", "made"):
             shutil.rmtree(to / name, ignore_errors=True)
-    return kept(f"android-{android}", [*parts, *files_in(AOSP / "system"), *programs], make_programs,
+    made_of = [AOSP / "Makefile.set", *blind.sources_in(of)] if of else files_in(AOSP / (room or "system"))
+    return kept(f"android-{android}", [*parts, *made_of, *programs], make_programs,
                 f"build {' '.join(programs)} of Android {android}")
 
 
@@ -126,10 +131,10 @@ def files_of(android: str, folder: pathlib.Path, room: pathlib.Path) -> Files:
             shutil.copy(sources_of("10")["PACKAGES"] / name, to)
     files: Files = {f"lib/{path.name}": path for program in to.iterdir() for path in linked_libraries(program, [to])}
     files[to.name] = to
-    if (to / "system").exists():
-        said = subprocess.run([to / "system"], env={"LD_LIBRARY_PATH": str(to)}, stdout=subprocess.PIPE,
+    for name in (name for name in OF_ROLES if (to / name).exists()):
+        said = subprocess.run([to / name], env={"LD_LIBRARY_PATH": str(to)}, stdout=subprocess.PIPE,
                               stderr=subprocess.DEVNULL, encoding="utf-8").stdout
-        files |= {f"{to.name}/{line.split()[0]}": Link("system") for line in said.splitlines() if line}
+        files |= {f"{to.name}/{line.split()[0]}": Link(name) for line in said.splitlines() if line}
     return files
 
 
@@ -149,6 +154,13 @@ def play(given: argparse.Namespace, series: str, files: Files, lines: list[list[
     return wrong
 
 
+def files_for(given: argparse.Namespace) -> Files:
+    """What each guest has, without a plan and what it plays."""
+    return {**first_files(X86_64, AOSP / "init.sh", given.limit), **dynamic_files(X86_64),
+            "with-manager": (AOSP / "with-manager.sh").read_text("utf-8"),
+            "record": given.recorder or recorder_for(X86_64, given.room)}
+
+
 def check(given: argparse.Namespace) -> list[str]:
     check_tools(X86_64)
     needs({"clang++": "clang libstdc++-12-dev", "make": "make"})
@@ -156,13 +168,15 @@ def check(given: argparse.Namespace) -> list[str]:
                           stderr=subprocess.DEVNULL)
     if test.returncode:
         stop("clang has no libc++: apt-get install libc++-14-dev libc++abi-14-dev")
+    if given.blind:
+        given.blind = given.blind.resolve()
+        return blind.play(given, {**files_for(given), **files_of("14", built(
+            "14", ["set"], given.room / "build-14.log", given.blind), given.room)})
     if not (lines := lines_of(given)):
         return ["the plan has no such line"]
     symbols = {android: built(android, programs, given.room / f"build-{android}.log") for android in RELEASES
                if (programs := programs_of(lines, android))}
-    files: Files = {**first_files(X86_64, AOSP / "init.sh", given.limit), **dynamic_files(X86_64),
-                    "with-manager": (AOSP / "with-manager.sh").read_text("utf-8"), "plan": plan_text(lines),
-                    "record": given.recorder or recorder_for(X86_64, given.room)}
+    files = {**files_for(given), "plan": plan_text(lines)}
     for android, folder in symbols.items():
         files |= files_of(android, folder, given.room)
     all_series = [*given.kernel, *["rust"] * given.rust] or ["6.1", "newest"]
@@ -180,5 +194,8 @@ if __name__ == "__main__":
                                   " there is none: rust_kernel.sh"},
             only={**NAMES, "help": "only this line of the plan; only what it runs is built"},
             how={**NAMES, "choices": HOWS, "help": "only recordings made so"}, accel=ACCEL,
+            blind={"type": pathlib.Path, "metavar": "FOLDER",
+                   "help": "records the sessions of a blind test set on Android 14, which this folder has, instead, and"
+                           " judges nothing: aosp/blind.py"},
             store={**FLAG, "help": "also renews samples/aosp from what the newest kernel gave, and with --rust those"
                                    " of it that are stored, as NAME-RELEASE-rust"})

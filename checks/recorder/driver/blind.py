@@ -4,8 +4,9 @@ Nothing is judged, and nothing of it is stored.
 
 A set has C sources, which with raw.c, send.c and processes.c of ../scenarios make a program that plays a session, by
 the words SESSION FOLDER SEED, and a plan.txt with a line for each session: NAME HOW SESSION SEED. HOW is `blind`,
-`blind-live` or `blind-before`: see the head of ../scenarios/init.sh. A folder `clients` beside them is put into the
-guest, for sessions of programs that are not compiled here.
+`blind-live` or `blind-before`: see the head of ../scenarios/init.sh. With `blind-live` main.c calls was_recorded()
+before end_all(), so that its processes are alive when the driver's books are copied. A folder `clients` beside them is
+put into the guest, for sessions of programs that are not compiled here.
 
 Its only complaints are of a recording that is none: a status other than 0, frames that were lost, events that were
 missed. What the kernel had to say of a session is in its `dmesg`, and is part of some sessions."""
@@ -65,8 +66,7 @@ def play(given: argparse.Namespace, of: "Play") -> list[str]:
             continue
         played += 1
         to = given.room / f"{sessions.name}-{series}"
-        guest = Guest(X86_64, kernel, files, accelerated(given, OWN_TIME), "4G",
-                      f"security=selinux selinux=1 {given.append}")
+        guest = Guest(X86_64, kernel, files, accelerated(given, OWN_TIME), "4G", "security=selinux selinux=1")
         wrong += filter(None, [boot(guest, to.name, len(lines), to)])
         for name, *_ in lines:
             say(f"{name}: {told(to / name)}")

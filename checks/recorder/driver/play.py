@@ -120,7 +120,7 @@ def refusals(room: pathlib.Path, recorder: pathlib.Path) -> Iterator[str]:
             run("cp", "-R", ROOT / name, here / "foreign")
         shutil.rmtree(here / "foreign/recorder/out", ignore_errors=True)
         run("chown", "-R", "nobody", here / "foreign")
-        came = said_by([here / "foreign/record", "--help"])
+        came = said_by([here / "foreign/record", "--check"])
         if not re.fullmatch(r"record: root builds nothing in a folder of the user nobody, .*", came):
             yield f"a build by root in a folder of another user: {came}"
 
@@ -166,16 +166,15 @@ class Play:
             lines = self.lines(series, [name for name in plans if name.endswith("-four") == bool(ending)])
             if lines:
                 guest = Guest(self.machine, kernel, {**self.files, "plan": plan_text(lines)},
-                              accelerated(self.given, processors), "4G",
-                              f"security=selinux selinux=1 {words} {self.given.append}")
+                              accelerated(self.given, processors), "4G", f"security=selinux selinux=1 {words}")
                 self.wrong += filter(None, [boot(guest, out + ending, len(lines), to)])
         return to if to.exists() else None
 
     def try_plans(self, kernel: Kernel, series: str, plans: list[str], out: str, words: str = "", whole: bool = False
                   ) -> None:
         if to := self.play(kernel, series, plans, out, words):
-            (to / "words").write_text(f"{words} {self.given.append}".strip() + "\n", "utf-8")
-            if not compare.compared(self.given.auditor, to, whole):
+            (to / "words").write_text(f"{words}\n", "utf-8")
+            if not compare.compared(AUDITOR, to, whole):
                 self.wrong.append(f"{out}: see above")
 
 
@@ -194,7 +193,7 @@ def play_series(play: Play, series: str, first: bool) -> None:
         play.try_plans(kernel, series, ["plan-preempt-four"], f"preempt-{series}", "preempt=full")
     if given.store and series in ("newest", "rust"):
         names = ("-rust", *OF_RUST) if series == "rust" else ()
-        store.main(given.auditor, given.room / f"out-{series}", ROOT / "samples/driver", *names)
+        store.main(AUDITOR, given.room / f"out-{series}", ROOT / "samples/driver", *names)
 
 
 def play_all_series(given: argparse.Namespace) -> list[str]:
@@ -223,8 +222,17 @@ def play_arm64(given: argparse.Namespace) -> list[str]:
     return play.wrong
 
 
+def check_compiler_of_32() -> None:
+    made = subprocess.run([*X86_64.compiler_of_32, "-static", "-x", "c", "-o", "/dev/null", "-"],
+                          input=b"int main(void) { return 0; }", stderr=subprocess.DEVNULL)
+    if made.returncode:
+        stop("gcc makes no 32-bit programs: apt-get install gcc-multilib, or gcc-12-multilib beside a compiler for"
+             " arm64")
+
+
 def judge(given: argparse.Namespace) -> list[str]:
     check_tools(X86_64)
+    check_compiler_of_32()
     given.series = ["rust"] if given.rust else given.kernel or list(SERIES)
     if given.blind:
         return blind.play(given, Play(given, X86_64))
@@ -238,9 +246,8 @@ def judge(given: argparse.Namespace) -> list[str]:
     return wrong
 
 
-OPTIONS = {
+OPTIONS: dict[str, dict] = {
     "recorder": {"type": pathlib.Path, "metavar": "FILE", "help": "a recorder that is already built"},
-    "auditor": {"type": pathlib.Path, "metavar": "FILE", "default": AUDITOR, "help": "a built auditor for the reports"},
     "kernel": {**NAMES, "metavar": "SERIES",
                "help": "only 5.10, 6.1, 6.12 or newest, which is Debian sid's; may be given several times"},
     "rust": {**FLAG, "help": "only a kernel with the driver in Rust; it is built if there is none: rust_kernel.sh"},
@@ -250,7 +257,6 @@ OPTIONS = {
     "flight": {"type": int, "default": 20, "metavar": "SECONDS", "help": "how long the flight recorder runs"},
     "redact": {**FLAG, "help": "records all scenarios with --redact, but for those of stacks"},
     "stacks": {**FLAG, "help": "records all scenarios with --stacks, but for those with --redact"},
-    "append": {"default": "", "metavar": "WORDS", "help": "more words for the kernel's command line"},
     "rename": {"metavar": "WORD", "help": "adds it to the names of the functions binder_open and binder_release of the"
                                           " driver in C, as compilers do that optimize the whole kernel: the recorder"
                                           " finds them with .llvm.1234, and else looks at all files that are opened"},

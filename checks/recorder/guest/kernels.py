@@ -77,12 +77,14 @@ def booting(machine: Machine, of: Release, packages: list[str]) -> pathlib.Path:
         whole = kernel_in(to / "whole") if (to / "whole/boot").exists() else kernel_below(to / "whole")
         for folder in ("boot", "modules"):
             (to / folder).mkdir()
-        image = unpacked(whole.image.read_bytes()) if machine.name == "x86_64" else None
-        (to / "boot" / whole.image.name).write_bytes(image or whole.image.read_bytes())
+        packed, image = whole.image.read_bytes(), to / "boot" / whole.image.name
+        if machine.name != "x86_64" or not unpack(packed, image):
+            image.write_bytes(packed)
         for module in whole.modules:
             (to / "modules" / module.name.removesuffix(".xz")).write_bytes(content_of(module))
         run("rm", "-rf", to / "whole")
-    return kept(f"kernel-{machine.architecture}", of.sums("download", *packages), pick, f"fetch {packages[0]}")
+    return kept(f"kernel-{machine.architecture}", [*of.sums("download", *packages), "unpacked"], pick,
+                f"fetch {packages[0]}")
 
 
 def kernel_below(folder: pathlib.Path) -> Kernel:
@@ -94,18 +96,18 @@ def kernel_below(folder: pathlib.Path) -> Kernel:
     return kernel_in(folder)
 
 
-def unpacked(image: bytes) -> bytes | None:
-    """The kernel that an image has packed, if QEMU can begin with that (by the note PHYS32_ENTRY): a translated
-    processor unpacks an image longer than it does all the rest."""
+def unpack(image: bytes, to: pathlib.Path) -> bool:
+    """Writes the kernel that an image has packed, and returns whether QEMU can begin with that (by the note
+    PHYS32_ENTRY): a translated processor unpacks an image longer than it does all the rest."""
     for magic, command in ((b"\xfd7zXZ\0", ["xz", "-dc", "--single-stream"]), (b"\x28\xb5\x2f\xfd", ["zstd", "-dc"])):
         at = image.find(magic)
         if at >= 0:
-            whole = subprocess.run(command, input=image[at:], stdout=subprocess.PIPE, stderr=subprocess.DEVNULL).stdout
-            notes = subprocess.run(["readelf", "-n", "/dev/stdin"], input=whole, stdout=subprocess.PIPE,
-                                   stderr=subprocess.DEVNULL).stdout
+            with to.open("wb") as out:
+                subprocess.run(command, input=image[at:], stdout=out, stderr=subprocess.DEVNULL)
+            notes = subprocess.run(["readelf", "-n", to], stdout=subprocess.PIPE, stderr=subprocess.DEVNULL).stdout
             if b"(0x00000012)" in notes:
-                return whole
-    return None
+                return True
+    return False
 
 
 # ---- with the driver in Rust

@@ -3,6 +3,7 @@
 import argparse
 import os
 import pathlib
+import subprocess
 import sys
 import tempfile
 from typing import Callable, Iterator
@@ -44,6 +45,8 @@ def command(name: str, doc: str | None, play: Callable[[argparse.Namespace], lis
             wrong = play(given)
         except (Missing, ValueError) as error:
             wrong = [str(error)]
+        except subprocess.CalledProcessError as error:
+            wrong = [f"{error.cmd} ended with status {error.returncode}: {error.output.strip()}"]
     for what in wrong:
         print(f"checks/{name}: {what}", file=sys.stderr)
     sys.exit(1 if wrong else 0)

@@ -1,0 +1,5 @@
+package speech;
+
+interface IEar {
+    void hear(String text);
+}
