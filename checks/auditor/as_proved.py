@@ -14,8 +14,9 @@ The made-up prover ends a proof with the line that it is told, and takes no time
   none of sources that were removed or renamed; and none that was copied with its notes from another machine. What it
   takes from the cache again, it does not prove again. `--version` has the sum of the program.
 - The first build in a clone takes what another clone has proved, and proves nothing. A library or a program that was
-  changed in the cache is refused by name. Two clones that build at once prove each crate once. What was kept for a
-  clone that is gone, by an older version of crates/build, is removed.
+  changed in the cache is refused by name. Two clones that build at once prove each crate once. What `rt ci` has proved
+  is kept while another clone proves it, and stays what is kept, though the prover says something else there. What was
+  kept for a clone that is gone, by an older version of crates/build, is removed.
 """
 
 import argparse
@@ -25,6 +26,7 @@ import pathlib
 import shutil
 import subprocess
 import tarfile
+import time
 from concurrent.futures import ThreadPoolExecutor
 from typing import Callable
 
@@ -212,6 +214,31 @@ def both_at_once(room: Room) -> None:
     compare("two builds at once: proved", sorted(room.kit.proved()), ["little", "low"], room.fail)
 
 
+def noted_beside_a_build(room: Room) -> None:
+    """`rt ci` has passed in a clone, and is noted while a build in another one proves the same library."""
+    waits = room.folder / "waits"
+    noting, other = room.clone("cache of a note"), room.clone("cache of a note")
+    waits.touch()
+    slow = {"WAITS": str(waits), "SAYS": "statements low: modules loaded=1 checked=0\n"}
+    build = subprocess.Popen(["crates/build", "little"], cwd=other.folder, env=other.environment | slow,
+                             stdout=subprocess.DEVNULL, stderr=subprocess.DEVNULL)
+    while not room.kit.proved():
+        time.sleep(0.05)
+    for path, text in (noting.library.parents[1] / "out/rlib/low.rlib/statements", LIBRARY), (noting.made, PROGRAM):
+        path.parent.mkdir(parents=True)
+        path.write_text(text, "utf-8")
+    compare("the note", noting.said("crates/build", "--note", str(time.time()), "little"), (0, ""), room.fail)
+    for when in "beside the build", "after it":
+        logs = [it for it in (noting.cache / "binder-audit/proved").glob("*/low.log") if it.parent.suffix != ".new"]
+        compare(f"what is kept {when}", [it.read_text("utf-8") for it in logs], ["proved by rt ci\n"], room.fail)
+        waits.unlink(missing_ok=True)
+        build.wait()
+    room.kit.proved()
+    clone, text = room.clone("cache of a note"), PROGRAM.replace("_number", "_seven")
+    clone.program.write_text(text, "utf-8")
+    room.run(clone, "another program over what is kept", text, ["little"])
+
+
 def forgets(room: Room) -> None:
     clone = room.built()
     gone = clone.cache / "binder-audit/crates-of-another"
@@ -224,7 +251,7 @@ def forgets(room: Room) -> None:
 
 PLAYS: tuple[Callable[[Room], None], ...] = (
     judge_lines, by_hand, older_sources, from_another_machine, version, second_clone, changed_in_the_cache,
-    both_at_once, forgets)
+    both_at_once, noted_beside_a_build, forgets)
 
 # ---- by the toolchain's own prover
 

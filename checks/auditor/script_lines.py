@@ -21,6 +21,8 @@ from typing import Iterator
 from checks.kit.checking import Fail, compare
 from checks.kit.programs import LISTING, ROOT, TABLES, linked
 from checks.kit.runs import answer, at_once
+from commands.listing import LISTING as LISTING_TABLE
+from viewer.listing import OF_VIEWER, TIMES
 
 # So many command lines of random words are tried with each script.
 RANDOM = 50
@@ -97,6 +99,8 @@ def packed(folder: pathlib.Path, auditor: pathlib.Path) -> pathlib.Path:
     (scripts / "crates").mkdir(parents=True)
     for name in ("audit", "listing", "crates/run", "crates/words.sh"):
         shutil.copy(ROOT / name, scripts / name)
+    for name in ("commands", "viewer"):
+        shutil.copytree(ROOT / name, scripts / name, ignore=shutil.ignore_patterns("*.c", "*.h", "out", "__pycache__"))
     (folder / "lib").mkdir()
     linked(folder / "lib/binder-audit", {"binder_audit": auditor, "binder_listing": LISTING, "binder_tables": TABLES})
     return scripts
@@ -191,11 +195,10 @@ class Scripts:
         compare(f"{words} on a full disk", full, (4, b"", b"fault Write\n"), self.fail)
 
     def check_options(self) -> None:
-        """The options that the script `listing` knows are those that the program names."""
-        valued = re.search(r"^valued='([^']*)'", (ROOT / "listing").read_text("utf-8"), re.MULTILINE)
-        named = set(re.findall(r"\[--(\w+)|--(tables?) ", answer([LISTING, "--help"])[1].decode()))
-        due = {one or other for one, other in named} - {"objects"}
-        compare("the options with a value in listing", set(valued[1].split() if valued else ()), due, self.fail)
+        """The options of the script `listing` are those of the program's usage, and what the script takes."""
+        usage = answer([LISTING])[2].decode()
+        due = set(re.findall(r"--[a-z]+", usage)) - {"--help"} | {*OF_VIEWER, *TIMES, "--version"}
+        compare("the options of listing", {option.name for option in LISTING_TABLE.options()}, due, self.fail)
 
 
 def check_scripts(room: pathlib.Path, auditor: pathlib.Path, fail: Fail) -> None:

@@ -10,7 +10,8 @@ import sqlite3
 from contextlib import closing, suppress
 from typing import Callable, Iterator, NamedTuple
 
-from checks.hostile.mutations import WORDS, changed_bytes, changed_capture, changed_lines, changed_source, encoded
+from checks.hostile.mutations import (
+    WORDS, changed_attachments, changed_bytes, changed_capture, changed_lines, changed_source, encoded)
 from checks.hostile.plays import Play, Player
 from checks.kit.programs import CHECKS, DRIVER, ROOT, SMALL
 from checks.kit.side_lists import LONGEST as LONGEST_LINE, packed
@@ -34,6 +35,8 @@ def sessions() -> list[pathlib.Path]:
 
 
 SESSIONS = sessions()
+# Of these the interfaces are in samples/interfaces.
+OF_INTERFACES = [folder for folder in sorted(DRIVER.glob("hello-*")) if (folder / "capture-1.cap").exists()]
 CAPTURES = [*SMALL, *(folder / "capture-1.cap" for folder in SESSIONS)]
 
 
@@ -101,6 +104,25 @@ def captures(chance: random.Random, _: Stock, room: pathlib.Path) -> Iterator[Pl
         yield Play("./listing", ("--tables", "tables", "hostile.cap"))
 
 
+def arguments(chance: random.Random, _: Stock, room: pathlib.Path) -> Iterator[Play]:
+    """Data that lie, by the declarations of their methods. These may be changed too."""
+    folder = chance.choice(OF_INTERFACES)
+    capture = changed_attachments(chance, (folder / "capture-1.cap").read_bytes())
+    if chance.random() < 0.2:
+        capture = changed_capture(chance, capture, chance.choice(CAPTURES).read_bytes())
+    (room / "hostile.cap").write_bytes(capture)
+    shutil.copytree(ROOT / "samples/interfaces", room / "sources")
+    if chance.random() < 0.3:
+        source = chance.choice(sorted((room / "sources").rglob("*.aidl")))
+        source.write_bytes(changed_source(chance, source.read_bytes()))
+    named = chance.choice((("--aidl", "sources"), ("--aidl", "sources"), ()))
+    yield Play("./view", ("hostile.cap", "--arguments", *named, *chance.choice((
+        ("-o", "page.html"), ("--groups", "--database", "made.db")))))
+    if chance.random() < 0.3:
+        place = str(chance.randrange(len(capture) or 1))
+        yield Play("./listing", ("hostile.cap", "--at", place, "--arguments", *named), in_full=True)
+
+
 def session_in(chance: random.Random, room: pathlib.Path) -> None:
     """Copies a session: its capture, its side list and its books, of which some say more than at its end."""
     folder = chance.choice(SESSIONS)
@@ -112,9 +134,17 @@ def session_in(chance: random.Random, room: pathlib.Path) -> None:
             shutil.copyfile(folder / what, room / f"capture.end.{what}")
 
 
+def with_descriptors(text: str) -> str:
+    """A side list that has what the list of an earlier recorder lacks: how many descriptors a process has open."""
+    found = re.search(r"^(\d+) process (\d+ \d+) .*\n", text, re.MULTILINE)
+    return text[:found.end()] + "".join(f"{found[1]} descriptors {found[2]} open={count} limit=64 why={why}\n"
+                                        for count, why in ((9, "first"), (64, "failed"), (60, "end"))) \
+        + text[found.end():] if found else text
+
+
 def in_some_form(chance: random.Random, side: bytes) -> bytes:
-    """A side list as it is, or with many frames in a line."""
-    text = side.decode("utf-8", "surrogateescape")
+    """A side list as it is, or as one of today, with many frames in a line."""
+    text = with_descriptors(side.decode("utf-8", "surrogateescape"))
     return packed(text, chance.choice((40, LONGEST_LINE))).encode("utf-8", "surrogateescape") \
         if chance.random() < 0.5 else side
 
@@ -303,6 +333,6 @@ def sessions_of_lab(chance: random.Random, stock: Stock, room: pathlib.Path) -> 
     yield Play("make", ("-s", "-k", "-f", str(ROOT / "lab/Makefile"), "LAB=lab"))
 
 
-KINDS: dict[str, Kind] = {"captures": captures, "sides": sides, "books": books, "methods": methods,
-                          "databases": databases, "results": results, "labs": labs, "names": names,
+KINDS: dict[str, Kind] = {"captures": captures, "arguments": arguments, "sides": sides, "books": books,
+                          "methods": methods, "databases": databases, "results": results, "labs": labs, "names": names,
                           "sessions": sessions_of_lab}

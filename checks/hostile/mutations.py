@@ -6,7 +6,7 @@ import struct
 from typing import Callable, TypeVar
 
 from checks.kit.captures import HEADER_2, frame, u32
-from checks.kit.frames import Frame, frames_of, records_of
+from checks.kit.frames import Frame, entries_of, frames_of, records_of
 
 Thing = TypeVar("Thing")
 
@@ -148,6 +148,27 @@ def changed_capture(chance: random.Random, capture: bytes, other: bytes) -> byte
     if how == 1:
         return capture[:chance.randint(0, len(capture))] + other[chance.randint(0, len(other)):]
     return joined(frames_of(capture) + frames_of(other)) if how == 2 else changed_frames(chance, capture)
+
+
+# Lengths, sizes and markers that data may say of themselves.
+SAID = (0, 1, 2, 3, 4, 8, 16, 24, 1000, 2**30, 2**31 - 1, 2**32 - 4, 2**32 - 2, 2**32 - 1)
+
+
+def changed_data(chance: random.Random, one: Frame) -> Frame:
+    """With other numbers in the data of its transactions, or in their lists of offsets, and no more or fewer bytes."""
+    attached = b""
+    for record, data, offsets in entries_of(one.attached):
+        whole = bytearray(data + offsets)
+        for _ in range(chance.choice(TIMES) if len(whole) >= 4 else 0):
+            at = chance.randrange(len(whole) // 4) * 4
+            whole[at:at + 4] = u32(chance.choice((*SAID, at, len(whole) - at, chance.randrange(2**32))))
+        attached += u32(record) + u32(len(data)) + u32(len(offsets)) + whole
+    return one._replace(attached=attached)
+
+
+def changed_attachments(chance: random.Random, capture: bytes) -> bytes:
+    """A capture of which the data are changed, and nothing else."""
+    return joined([changed_data(chance, one) if chance.random() < 0.3 else one for one in frames_of(capture)])
 
 
 # ---- lines of words

@@ -15,7 +15,9 @@ from typing import Iterator
 from checks.hostile.plays import Came, Play
 from checks.kit.programs import ROOT
 from checks.viewer.timeline.read_packets import fields
+from commands.all import command
 from viewer.page.page import script_of
+from viewer.program_names import NAMES
 
 # The most memory of a process, in KiB.
 MOST_MEMORY = 1 << 20
@@ -43,9 +45,12 @@ def text_of(data: bytes) -> str:
 
 @functools.cache
 def statuses(program: str) -> frozenset[int]:
-    """The statuses that the help of a program documents."""
+    """The statuses that the table of a command documents, or else the help of a program."""
     if program in STATUSES:
         return frozenset(STATUSES[program])
+    if program in NAMES:
+        return frozenset(int(number) for words, _ in command(NAMES[program]).statuses
+                         for number in re.findall(r"\d+", words))
     shown = subprocess.run([ROOT / program, "--help"], capture_output=True, check=True).stdout
     return frozenset({0} | {int(number) for number in re.findall(r"\b\d+(?=(?: and \d+)?[:,]\s)", shown.decode())})
 

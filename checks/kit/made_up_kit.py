@@ -1,5 +1,5 @@
 """A toolchain whose prover is made up: it takes no time, and says of the crate `low` what the environment has as SAYS,
-with LAST for the last line. Its `rt` is the real one."""
+with LAST for the last line, once no file WAITS is there any more. Its `rt` is the real one."""
 
 import pathlib
 import shutil
@@ -12,7 +12,7 @@ GOOD = "functions=1 sum=dac8208d650f15bf"
 
 PROVER = """\
 #!{python} -S
-import os, pathlib, sys
+import os, pathlib, sys, time
 words = sys.argv[1:]
 if "--help" in words:
     sys.exit()
@@ -27,6 +27,8 @@ if to.suffix == ".rlib":
 root = pathlib.Path("src/main.rt")
 made.write_text((root if root.exists() else pathlib.Path("src/lib.rt")).read_text())
 told = os.environ if name == "low" else {{}}
+while os.path.exists(told.get("WAITS", "")):
+    time.sleep(0.05)
 print(told.get("SAYS", ""), end="")
 print(told.get("LAST", {last!r}))
 """

@@ -69,7 +69,7 @@ def built_programs(room: pathlib.Path, auditor: pathlib.Path) -> pathlib.Path:
 
 def folder_of(folder: pathlib.Path, auditor: pathlib.Path) -> pathlib.Path:
     """A folder in place of the repository, with an auditor of its own."""
-    linked(folder, {"viewer": ROOT / "viewer", "lab": ROOT / "lab", "listing": ROOT / "listing", "audit": auditor})
+    linked(folder, {"audit": auditor, **{name: ROOT / name for name in ("commands", "lab", "listing", "viewer")}})
     linked(folder / "crates", {"run": ROOT / "crates/run"})
     for name, built in (("binder_audit", auditor), ("binder_listing", LISTING), ("binder_tables", TABLES)):
         (folder / "crates" / name).mkdir()

@@ -60,11 +60,11 @@ DRAWN, ERRORS = 60, 3.5
 
 
 def check_power(_: pathlib.Path, __: pathlib.Path, fail: Fail) -> None:
-    """The table of docs/FLEET.md is what is computed, and labs by chance tell as much as that."""
-    page = (ROOT / "docs/FLEET.md").read_text("utf-8")
+    """The table of docs/BUILDS.md is what is computed, and labs by chance tell as much as that."""
+    page = (ROOT / "docs/BUILDS.md").read_text("utf-8")
     table = re.findall(r"^\| (\d+) \| (\d+) \| (\d+) \| (\d+) \|$", page, re.MULTILINE)
     due = [(tests, *(str(power.needed(share, 0.05 / int(tests))) for share in power.SHARES)) for tests, *_ in table]
-    compare("the table of power in docs/FLEET.md", (len(table) > 3, table), (True, due), fail)
+    compare("the table of power in docs/BUILDS.md", (len(table) > 3, table), (True, due), fail)
     beside = [Model(f"often{number}", 0.5, 2) for number in range(4)]
     for size, share in ((5, 1.0), (14, 0.5), (40, 0.2)):
         told, expected = 0, 0.0

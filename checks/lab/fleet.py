@@ -453,7 +453,20 @@ def check_made(folder: pathlib.Path, room: pathlib.Path, fail: Fail) -> None:
     due = [("b1", "d1", 0), ("b1", "d2", 0), ("b2", "d1", 0), ("b2", "d2", 1)]
     compare("the lab of make", rows.fetchall(), due, fail)
     compare("make: scratch", list(scratch.iterdir()), [], fail)
+    check_as_one(folder, lab, room, fail)
     check_commands(folder, lab, room, fail)
+
+
+def check_as_one(folder: pathlib.Path, lab: pathlib.Path, room: pathlib.Path, fail: Fail) -> None:
+    """A result that is made in a fork of one process is that of a process of its own."""
+    for session in ("b1/d1/s", "b2/d1/s"):
+        to = room / "as-one.json"
+        fleet(folder, "one", lab / f"{session}-1.cap", "--side", lab / f"{session}.side", "--build", session[:2],
+              "--device", session[3:5], "-o", to)
+        one, forked = (json.loads(path.read_text("utf-8")) for path in (to, lab / "results" / f"{session}.json"))
+        for made in one, forked:
+            del made["capture"]["made"], made["capture"]["version"]
+        compare(f"{session}, in a process of its own and in a fork", one, forked, fail)
 
 
 def judge(given: argparse.Namespace, room: pathlib.Path, fail: Fail) -> None:

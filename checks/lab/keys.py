@@ -1,5 +1,5 @@
 """What becomes of keys in other captures. In one that begins later the same defects have the same keys, but where a
-name came before its first frame; docs/FLEET.md says which names these are. And in two recordings of one session, for
+name came before its first frame; docs/BUILDS.md says which names these are. And in two recordings of one session, for
 example on two kernels."""
 
 import pathlib

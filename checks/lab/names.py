@@ -15,9 +15,6 @@ HOSTILE = ("`touch pwned`", "a$(touch pwned)", "b&touch pwned", "y;touch pwned",
            "quo'te", 'quo"te', "$HOME", "$@", "#", "back\\slash", "line\nfeed", "tab\tstop", "\x1b]0;owned\x07",
            "\u202egnp", "é", "\udcff", "-dash", ".dot", "*")
 
-# In place of ./view: a capture that can't be viewed.
-VIEW = "#!/bin/sh\necho 'view: the side list belongs to another capture: made up' >&2\nexit 1\n"
-
 # In place of Slurm: runs the tasks one after another.
 SBATCH = """#!/bin/bash
 while [[ $1 == -* ]]; do [[ $1 != --array=1-* ]] || last=${1#--array=1-}; shift; done
@@ -34,15 +31,25 @@ def write_script(path: pathlib.Path, text: str) -> None:
 def made_up(folder: pathlib.Path, view: str) -> pathlib.Path:
     """A folder in place of the repository, with `fleet`, the lab, and this script in place of `view`."""
     folder.mkdir(parents=True)
-    (folder / "viewer").symlink_to(ROOT / "viewer")
+    for name in ("commands", "viewer"):
+        (folder / name).symlink_to(ROOT / name)
     shutil.copytree(ROOT / "lab", folder / "lab", ignore=shutil.ignore_patterns("__pycache__"))
     shutil.copy(ROOT / "fleet", folder)
     write_script(folder / "view", view)
     return folder
 
 
+def with_programs(folder: pathlib.Path) -> pathlib.Path:
+    """The same with the programs."""
+    made_up(folder, "")
+    shutil.copy(ROOT / "view", folder)
+    for name in ("crates", "crates.txt", "packager"):
+        (folder / name).symlink_to(ROOT / name)
+    return folder
+
+
 def put(lab: pathlib.Path, *names: str) -> None:
-    """Captures of these paths in a lab, no two alike."""
+    """Captures of these paths in a lab, no two alike, and none with a good header."""
     for name in names:
         path = lab / name
         path.parent.mkdir(parents=True, exist_ok=True)
@@ -98,7 +105,7 @@ def check_quoted(folder: pathlib.Path, room: pathlib.Path, fail: Fail) -> None:
 
 def check_names(room: pathlib.Path, fail: Fail) -> None:
     room.mkdir()
-    folder = made_up(room / "two words", VIEW)
+    folder = with_programs(room / "two words")
     write_script(room / "bin/sbatch", SBATCH)
     make = ["make", "-k", "-j2", "-s", "-f", folder / "lab/Makefile"]
     check_refused_names("make", make, room / "make", 2, fail)
@@ -110,6 +117,8 @@ def check_names(room: pathlib.Path, fail: Fail) -> None:
     compare("a lab of any name: status, output", (ended.returncode, ended.stdout), (0, b"1 added, 0 there already\n"),
             fail)
     check_made("a lab of any name", room, lab, {"b1/d1/good"}, ended.stdout, ended.stderr, fail)
+    made = lab / "results/b1/d1/good.json"
+    made.write_text(made.read_text("utf-8").replace('"malformed":"', '"failed":"'), "utf-8")
     ended = subprocess.run([*map(str, make), f"LAB={lab.name}", "again"], cwd=lab.parent, capture_output=True)
     check_made("a result that is forgotten", room, lab, set(), ended.stdout, ended.stderr, fail)
     check_quoted(folder, room, fail)

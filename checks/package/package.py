@@ -14,8 +14,7 @@ What must hold:
   other programs say there of the capture what they say here.
 - When the package is removed, no file or folder is left.
 - lintian has nothing to say, nor mandoc about the pages of the manual.
-- All six commands have completions. These and the manual have the options that `--help` names, and no others
-  (`checks/run options`).
+- All six commands have completions for bash, zsh and fish. `checks/run options` says what must hold of these.
 
 By hand, since it needs root, the network, and debootstrap, lintian, mandoc and zsh; for the guest also QEMU and cpio.
 It takes some 5 minutes, and 2 to 12 more for the guest, without KVM. It proves what is not proved yet. What was
@@ -35,7 +34,6 @@ from typing import Iterator
 from checks.kit.checking import FLAG, Fail, check, compare
 from checks.kit.programs import PACKAGED, ROOT, linked
 from checks.kit.runs import output_of
-from checks.package.options import check_options
 from checks.pages.pages import commands_in
 from checks.recorder.driver.play import SOURCES
 from checks.recorder.guest.boot import Guest, boot
@@ -253,11 +251,13 @@ def check_lint(package: pathlib.Path, fail: Fail) -> None:
 # ---- completions
 
 
-def check_completions(system: pathlib.Path, room: pathlib.Path, fail: Fail) -> None:
-    there = {it.name for it in (system / "usr/share/bash-completion/completions").glob("binder-*")}
-    compare("completions for bash", sorted(there), sorted(PACKAGED), fail)
-    check_options(room / "options", fail)
-    output_of(["zsh", "-n", ROOT / "packager/completions.zsh"])
+def check_completions(system: pathlib.Path, fail: Fail) -> None:
+    share = system / "usr/share"
+    compare("completions for bash", sorted(it.name for it in (share / "bash-completion/completions").glob("binder-*")),
+            sorted(PACKAGED), fail)
+    compare("completions for fish", sorted(it.stem for it in (share / "fish/vendor_completions.d").glob("binder-*")),
+            sorted(PACKAGED), fail)
+    output_of(["zsh", "-n", share / "zsh/vendor-completions/_binder-audit"])
 
 
 # ---- all of it
@@ -278,7 +278,7 @@ def check_system(room: pathlib.Path, kept: pathlib.Path, files: list[pathlib.Pat
     check_answers("the package", asked_inside(system, "installed", "/usr/bin:/bin"), due, fail)
     check_commands(system, fail)
     check_pages(system, fail)
-    check_completions(system, room, fail)
+    check_completions(system, fail)
     if guest:
         output_of(["cp", "-a", system, room / "guest"])
         check_guest(room / "guest", room, fail)

@@ -1,13 +1,13 @@
-"""The options that pages name: each is one that its program names in `--help`, or one of a check of `checks/run`."""
+"""The options that pages name: each is one of its program, or one of a check of `checks/run`."""
 
 import functools
 import pathlib
 import re
 from typing import Iterator
 
-from checks.kit.programs import PACKAGED, ROOT
-from checks.kit.runs import output_of
-from checks.package.options import options_in, programs
+from checks.kit.programs import ROOT
+from checks.package.options import names_of, options_in
+from commands.all import NAMES, command
 from viewer.program_names import PROGRAMS
 
 # A command in a page: the program, or nothing if the options stand alone, and all that follows.
@@ -17,12 +17,10 @@ CODE = re.compile(r"`([^`]+)`|^    (.*)$", re.MULTILINE)
 
 
 class Options:
-    """The options of each program of the package, by what its `--help` says."""
+    """The options of each program of the package, by its table."""
 
-    def __init__(self, room: pathlib.Path) -> None:
-        room.mkdir()
-        folder = programs(room)
-        self.of = {name: options_in(output_of([folder / name, "--help"])) | {"--help"} for name in PACKAGED}
+    def __init__(self) -> None:
+        self.of = {f"binder-{name}": names_of(command(name)) for name in NAMES}
 
     def named(self, program: str | None) -> set[str] | None:
         """Those of a program, by the name that a page has for it; of all programs without a name; None for others."""

@@ -149,7 +149,7 @@ def judge(given, room, _):
             asked[heading] = [ROOT / "samples" / name for name in heading.split(" and ")]
     answers = {name: answer([program, "report", *parts], encoding="utf-8")[1] for name, parts in asked.items()}
     reports = {name: text for name, text in answers.items() if text.startswith(TITLE)}
-    options = named_options.Options(room / "options")
+    options = named_options.Options()
     for page in pages():
         for number, what in (*wrong_reports(page, reports), *wrong_answers(page, program, room),
                              *wrong_changes(page, program), *named_options.wrong(page, options)):

@@ -11,20 +11,22 @@ What must hold:
 - The files of sources that a page names are there, and docs/ARCHITECTURE.md names every crate.
 - Each crate's page begins with a caller: lines of code that stand in a file of a crate above, or in a file of the crate
   itself if no other crate uses it.
-- The wrong bodies in a crate's page are those stored for it, each of which names the goal at which it is refused.
+- Each wrong body that is stored for a crate names the one goal at which it is refused.
 - docs/PROMISES.md names each wrong body of each crate and no others, in its tables only names that are in the sources,
   the libraries of the toolchain that the auditor stands on, and the sizes of what is trusted, up to a tenth.
   docs/TRUST.md has the number of wrong bodies.
 - README.md has the figures that docs/MEASURED.md has on the blind test, and docs/TRUST.md those on the second recorder.
 - docs/DEFINITIONS.md and docs/TABLE-DEFINITIONS.md are the pages that checks/run definitions makes.
-- What stands in several sources, as the most bytes of a capture, has one value in all of them (owners.py).
+- What stands in several sources, as the most bytes of a capture, has one value in all of them; and what is told on one
+  page, as which kernels were tried, stands on no other (owners.py).
+- No page, decision or sentence is too long (lengths.py).
 """
 
 import re
 
 from checks.kit.checking import check
 from checks.kit.programs import ROOT, edits_of
-from checks.pages import callers, codes, definitions, figures, owners, promises, sources, tables
+from checks.pages import callers, codes, definitions, figures, lengths, owners, promises, sources, tables
 
 
 def pages():
@@ -57,23 +59,11 @@ def wrong_links(page):
             yield text.count("\n", 0, link.start()) + 1, f"no {target}"
 
 
-def wrong_bodies(page):
-    """The wrong bodies in a crate's page that do not exist, each with its line; those that the page leaves out; and
-    those that name no goal."""
-    edits = {it.stem: it.read_text("utf-8") for it in edits_of(page.parent)}
-    there, told, section = edits.keys(), set(), ""
-    for number, line in enumerate(page.read_text("utf-8").splitlines(), 1):
-        section = line if line.startswith("## ") else section
-        for name in re.findall(r"`([a-z0-9]+(?:-[a-z0-9]+)+)`", line.split(" | ")[0]) if line.startswith("| `") else ():
-            if section.startswith("## Wrong bodies"):
-                told.add(name)
-                if name not in there:
-                    yield number, f"no {name}.edit"
-    for name in sorted(there - told):
-        yield 1, f"nothing of {name}.edit"
-    for name, text in sorted(edits.items()):
-        if len(re.findall(r"^# goal: \S+ of \S+$", text, re.MULTILINE)) != 1:
-            yield 1, f"{name}.edit does not name one goal: `checks/run wrong -- --fill` writes it"
+def goalless(page):
+    """The wrong bodies of the crate of this page that name no goal, or several."""
+    for edit in edits_of(page.parent):
+        if len(re.findall(r"^# goal: \S+ of \S+$", edit.read_text("utf-8"), re.MULTILINE)) != 1:
+            yield 1, f"{edit.name} does not name one goal: `checks/run wrong -- --fill` writes it"
 
 
 def stale_lines(page):
@@ -84,10 +74,12 @@ def stale_lines(page):
 
 def judge(*_):
     yield from owners.wrong()
+    yield from owners.wrong_pages(pages())
+    yield from lengths.wrong_sums(pages())
     for page in pages():
-        for number, what in (*wrong_links(page), *wrong_bodies(page), *callers.wrong(page), *promises.wrong(page),
+        for number, what in (*wrong_links(page), *goalless(page), *callers.wrong(page), *promises.wrong(page),
                              *sources.wrong(page), *tables.wrong(page), *codes.wrong(page), *figures.wrong(page),
-                             *stale_lines(page)):
+                             *lengths.wrong(page), *stale_lines(page)):
             yield f"{page.relative_to(ROOT)}:{number}: {what}"
 
 

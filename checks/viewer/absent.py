@@ -126,7 +126,7 @@ CASES = (
     Case("from before the first file that is left", quiet, "not known: ", "only from 0.000 s",
          between=("00:00:00", "00:00:00.02"), lines=lambda lines: [lines[0], "1 file 2\n", *lines[1:]]),
     Case("the report counts more", quiet, "not known: ", "and the tables have",
-         then="UPDATE report SET text = replace(text, 'BC_TRANSACTION ', 'BC_TRANSACTION 1')"),
+         then="UPDATE report SET count = count + 10 WHERE name = 'BC_TRANSACTION'"),
     Case("it ends at a fault", quiet, "not known: ", "ends at its first fault",
          then="UPDATE capture SET value = 'AttachSize at 1234' WHERE key = 'malformed'"),
     Case("another device alone was recorded", quiet, "not known: ", "only a part was recorded: --device vndbinder",

@@ -1,5 +1,5 @@
-"""docs/RULES.md: its tables are those that the files of rules make, the sessions that it names get their rules, and it
-says what missing frames make of a rule.
+"""docs/RULES.md: its tables are those that the files of rules make. And the sessions that these files name get their
+rules.
 
     checks/run rule_page                says which lines of the page are not those that the files of rules make
     checks/run rule_page -- --print     writes the tables of the page anew, and prints what changed"""
@@ -13,7 +13,7 @@ from checks.kit.checking import FLAG, check
 from checks.kit.programs import DRIVER, ROOT
 from checks.viewer.page.common import VERDICTS, verdicts
 from checks.viewer.sessions.cases import Case
-from viewer.rules.catalogue import FOLDER, Called, Rule, catalogue_of, read
+from viewer.rules.catalogue import FOLDER, Rule, catalogue_of
 from viewer.rules.thresholds import TABLE, in_words, value_of
 from viewer.rules.verdicts import RANKS
 
@@ -21,14 +21,15 @@ PAGE = ROOT / "docs/RULES.md"
 # Real whatever is missing: one record shows it.
 SHOWN_BY_ONE = {"O1"}
 NAMED = re.compile(r"`([^`]+)`")
+# A session, as the files of rules name it: a capture, or a small session.
+SESSION = re.compile(r"`([\w-]+)(\(\))?`")
 
 # ---- the tables
 
 # A table is made of what the line before it says.
-MADE = re.compile(r"^<!-- (rules|thresholds|kinds)((?: [A-Z])*) -->\n(?:\|.*\n)*", re.MULTILINE)
-OF_RULES = ("rule", "verdict", "the page says", "look next at", "thresholds", "a session that meets it")
+MADE = re.compile(r"^<!-- (rules|thresholds)((?: [A-Z])*) -->\n(?:\|.*\n)*", re.MULTILINE)
+OF_RULES = ("rule", "verdict", "the page says", "missing")
 OF_THRESHOLDS = ("name", "value", "meaning")
-OF_KINDS = ("a line says", "rules of its own", "section")
 
 
 def table_of(head: Iterable[str], rows: Iterable[Iterable[str]]) -> Iterator[str]:
@@ -46,9 +47,7 @@ def rules_in(letters: Iterable[str]) -> list[Rule]:
 
 def cells_of(rule: Rule) -> list[str]:
     """The row of a rule."""
-    names = filter(None, rule.fields.get("rests on", "").split(", "))
-    return [rule.id, rule.verdict, rule.said, rule.fields.get("next", ""), ", ".join(f"`{name}`" for name in names),
-            rule.fields.get("met by", "")]
+    return [rule.id, rule.verdict, rule.said, rule.fields.get("where frames are missing", "")]
 
 
 def threshold_rows() -> Iterator[list[str]]:
@@ -56,39 +55,11 @@ def threshold_rows() -> Iterator[list[str]]:
                 if threshold.meaning)
 
 
-def headings_of(text: str) -> dict[str, str]:
-    """The heading above the table of the rules of each letter, and above the order of the rules of each section."""
-    found, heading = {}, ""
-    for line in text.splitlines():
-        heading = line.removeprefix("## ") if line.startswith("## ") else heading
-        names = re.findall(r"[A-Z]", line) if line.startswith("<!-- rules") else line.split()[:1]
-        found.update((name, heading) for name in names if line.startswith(("<!-- rules", "    ")))
-    return found
-
-
-def kind_rows(text: str) -> Iterator[list[str]]:
-    """The kinds of findings, as lines of groups have them: which rules give a kind of their own, and where they are."""
-    catalogue, headings = catalogue_of(FOLDER), headings_of(text)
-    letters = {rule.file: rule.letter for rule in catalogue.rules}
-    own = [(title, rule.id, headings.get(rule.letter)) for rule in catalogue.rules for _, title in rule.titles()]
-    others = [(one.title, "", headings.get(letters.get(file, one.section))) for file, one in called_by_file()]
-    for title in sorted({title for title, *_ in (*own, *others)}):
-        rules = dict.fromkeys(rule for kind, rule, _ in own if kind == title)
-        heading = next(heading for kind, _, heading in (*others, *own) if kind == title) or ""
-        yield [title, ", ".join(rules), f"[{heading}](#{heading.lower().replace(' ', '-')})"]
-
-
-def called_by_file() -> Iterator[tuple[str, Called]]:
-    """What findings of a section are called, each with the file that says it."""
-    for path in sorted(FOLDER.glob("*.sql")):
-        yield from ((path.name, one) for one in read(path) if isinstance(one, Called))
-
-
 def made(text: str) -> str:
     """The page with the tables that it has to have."""
     def table_in(found: re.Match) -> str:
         head, rows = {"rules": (OF_RULES, map(cells_of, rules_in(found[2].split()))),
-                      "thresholds": (OF_THRESHOLDS, threshold_rows()), "kinds": (OF_KINDS, kind_rows(text))}[found[1]]
+                      "thresholds": (OF_THRESHOLDS, threshold_rows())}[found[1]]
         return found[0].partition("\n")[0] + "\n" + "".join(table_of(head, rows))
     return MADE.sub(table_in, text)
 
@@ -133,16 +104,6 @@ def wrong_thresholds(text: str) -> Iterator[str]:
     yield from (f"nothing of the threshold {name}" for name in TABLE if name not in told)
 
 
-def wrong_missing(text: str) -> Iterator[str]:
-    """Rules of which the page says something else than their files: what missing frames make of them."""
-    due = {rule.id: rule.fields["where frames are missing"] for rule in catalogue_of(FOLDER).rules
-           if "where frames are missing" in rule.fields}
-    told = {rule: becomes for becomes, named in re.findall(r"^  - (\w+) in place of (.*)$", text, re.MULTILINE)
-            for rule in re.findall(r"[A-Z]\d+", named.partition(", and where")[0].partition(". ")[0])}
-    yield from (f"{rule}: missing frames make it {due.get(rule, rule)}, not {told.get(rule, rule)}"
-                for rule in sorted(due.keys() | told.keys()) if due.get(rule) != told.get(rule))
-
-
 def wrong_orders(text: str) -> Iterator[str]:
     """Rules that the page gives no place in the order of their section. Those of all sections have several, or none."""
     placed = set(re.findall(r"\b[A-Z]\d+\b", "".join(re.findall(r"^    .*\n", text, re.MULTILINE))))
@@ -161,7 +122,7 @@ def wrong_sessions(cases: Iterable[Case]) -> Iterator[str]:
     stored = stored_rules()
     for rule in catalogue_of(FOLDER).rules:
         session = rule.fields.get("met by", "")
-        found = re.match(r"`([\w-]+)(\(\))?`", session)
+        found = SESSION.match(session)
         if found is None or (found[1], rule.id) not in (small if found[2] else stored):
             yield f"viewer/rules/{rule.file}: {rule.id}: not the rule of {session or 'a session'}"
         elif not found[2] and not (DRIVER / found[1]).is_dir():
@@ -174,7 +135,7 @@ def faults_of_page(cases: Iterable[Case]) -> Iterator[str]:
     if wrong := list(wrong_rules(catalogue_of(FOLDER).rules)):
         yield from wrong
         return
-    for what in (*stale(text), *wrong_thresholds(text), *wrong_missing(text), *wrong_orders(text)):
+    for what in (*stale(text), *wrong_thresholds(text), *wrong_orders(text)):
         yield f"docs/RULES.md: {what}"
     yield from wrong_sessions(cases)
     for scenario, why, *group in verdicts():

@@ -5,7 +5,7 @@
                                    reads timelines by the importer of chrome://tracing, in Debian's chromium, and prints
                                    what that finds, and what each timeline says of itself; by hand
     checks/run trace -- --picture TRACE_VIEWER PICTURE.png
-                                   makes the picture in docs/VIEW.md; by hand
+                                   makes the picture in docs/PAGE.md; by hand
     checks/run trace -- --cost BYTES [TIMES]
                                    prints what the timelines of so many bytes of traffic take, TIMES one after another;
                                    by hand
@@ -584,7 +584,7 @@ def parts() -> Iterator[Part]:
 
 
 def picture_of_sample(room: pathlib.Path, viewer: str, picture: pathlib.Path) -> None:
-    """The picture in docs/VIEW.md."""
+    """The picture in docs/PAGE.md."""
     view(built_programs(room, AUDITOR), room, *stored(PICTURED.name), "--trace", "out.json.gz")
     make_picture(room, viewer, room / "out.json.gz", PICTURED, picture)
 

@@ -6,7 +6,7 @@ another capture to compare with, and what means harm.
                                      pdftotext; by hand
     checks/run viewing -- --large    checks and prints how many bytes large pages have, and what of the processor it
                                      takes chromium to open them; by hand
-    checks/run viewing -- --pictures makes the pictures of the page in docs/VIEW.md anew; by hand
+    checks/run viewing -- --pictures makes the pictures of the page in docs/PAGE.md anew; by hand
     checks/run viewing -- --edits [EDIT]
                                      tries wrong templates of the page: each edit of page/edits.txt must be refused, and
                                      a line says by which check; by hand. EDIT is a part of the names of some, or
@@ -51,6 +51,7 @@ What must hold:
   of 32 bits are named and counted.
 - Of calls whose data name an interface, page, database, groups and timeline have that, and the methods of a table of
   `viewer/methods/table.py`. A table changes no verdict, and nothing of a capture without names. A wrong one is refused.
+- With --arguments, page, database and listing have what transactions say, and without it nothing of that.
 - Of a side list with stacks the page shows that of the first record of a group, and how many have the same; the
   functions after the first twelve, and other stacks, are folded. It says which function tells the stacks of what was
   not freed from those of what was. Files with the same build-id name functions.
@@ -88,6 +89,7 @@ from checks.viewer.page.files import (check_again, check_beside, check_changing,
 from checks.viewer.page.growth import check_growth
 from checks.viewer.page.large import check_large
 from checks.viewer.page.methods import check_methods, check_unnamed
+from checks.viewer.page.said import check_arguments
 from checks.viewer.page.moments import check_moments
 from checks.viewer.page.packed import check_broken, check_packed, check_timing
 from checks.viewer.page.sections import check_filled, check_sections
@@ -113,10 +115,11 @@ OTHERS = parts_of(
     check_malformed, check_pipes, check_names, check_changing, check_again, check_whole, check_terminal, check_beside,
     check_side, check_forms, check_narrowed, check_no_lists, check_list_of_loader, check_packed_lists, check_renames,
     check_last_names, check_files, check_secrets, check_told, check_untimed, check_late, check_hostile, check_methods,
-    check_unnamed, check_services, check_manager, check_times, check_loader, check_packed, check_broken, check_timing,
-    check_agreement, check_copies, check_bad_books, check_long_books, check_commands, check_sections, check_filled,
-    check_packages, check_bits, check_stacks, check_growth, check_against, check_moments, check_windows, check_fillers,
-    check_losers, check_power, check_parts, check_bars, check_strip, check_kept, check_floors, check_why_kept)
+    check_arguments, check_unnamed, check_services, check_manager, check_times, check_loader, check_packed,
+    check_broken, check_timing, check_agreement, check_copies, check_bad_books, check_long_books, check_commands,
+    check_sections, check_filled, check_packages, check_bits, check_stacks, check_growth, check_against, check_moments,
+    check_windows, check_fillers, check_losers, check_power, check_parts, check_bars, check_strip, check_kept,
+    check_floors, check_why_kept)
 
 
 def names() -> list[str]:

@@ -1,5 +1,5 @@
-"""The names of interfaces and services that payloads hold: docs/DATABASE.md#names-of-interfaces and the section below
-it."""
+"""The names of interfaces and services that payloads hold: viewer/database/schema.sql, above raw_record, and the forms
+in docs/DATABASE.md#names-of-interfaces."""
 
 import re
 

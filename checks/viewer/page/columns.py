@@ -10,7 +10,10 @@ from checks.kit.checking import Fail, compare
 from checks.kit.programs import ROOT
 
 PAGE = ROOT / "docs/DATABASE.md"
-HEADER = "| column | type | meaning |"
+# The line under the head of a table of columns.
+HEAD = "|---|---|---|\n"
+# The section with the columns that many tables have. A column without a type has the type that stands there.
+COMMON = "Columns that many tables have"
 NAMED = re.compile(r"(\*\*)?`(\w+)`")
 
 
@@ -24,23 +27,27 @@ class Told(NamedTuple):
 
 
 def told_by(section: str) -> Told:
-    """The rows of the first table of a section. A row may have several columns, with a type for each or one for all."""
+    """The rows of the first table of a section. A row may have several columns, with a type for each, one for all, or
+    none."""
     names, key, types = [], [], {}
-    table = section.partition(HEADER)[2].partition("\n\n")[0]
-    for row in re.findall(r"^\| (.*?) \| (.*?) \|", table, re.MULTILINE):
+    table = section.partition(HEAD)[2].partition("\n\n")[0]
+    for row in re.findall(r"^\| (.*?) \|(?: ([^|]*?))? \|", table, re.MULTILINE):
         found, of = NAMED.findall(row[0]), row[1].split(", ")
         for at, (bold, name) in enumerate(found):
             names.append(name)
             key += [name] if bold else []
             types[name] = of[at] if len(of) > 1 else of[0]
-    rests_on = re.match(r"\s*Rests on `(\w+)`", section)
+    rests_on = re.match(r"\s*`(\w+)`:", section)
     return Told(names, key, types, rests_on[1] if rests_on else None)
 
 
 def tables_of_page() -> dict[str, Told]:
     """Each table of the page, by its name."""
     sections = re.split(r"^###? (.*)\n", PAGE.read_text("utf-8"), flags=re.MULTILINE)
-    return {name: told_by(text) for name, text in zip(sections[1::2], sections[2::2]) if re.fullmatch(r"[a-z_]+", name)}
+    found = {name: told_by(text) for name, text in zip(sections[1::2], sections[2::2])}
+    common = found[COMMON].types
+    return {name: one._replace(types={column: kind or common.get(column, "") for column, kind in one.types.items()})
+            for name, one in found.items() if re.fullmatch(r"[a-z_]+", name)}
 
 
 def wrong_types(database: sqlite3.Connection, name: str, told: Told) -> list[str]:

@@ -61,7 +61,7 @@ def check_malformed(folder: pathlib.Path, room: pathlib.Path, fail: Fail) -> Non
         compare(f"{files}: what its page begins with", fault_of_page(shown),
                 f"{told.removeprefix('view: ').strip().replace(file, os.path.basename(file))}.", fail)
     check_malformed_lines(folder, room, fail)
-    kinds = re.findall(r"^\d+\. ([A-Z]\w+)", (ROOT / "docs/ENVELOPE.md").read_text("utf-8"), re.MULTILINE)
+    kinds = re.findall(r"^ {4,5}\d+  ([A-Z]\w+) ", (ROOT / "docs/ENVELOPE.md").read_text("utf-8"), re.MULTILINE)
     compare("kinds of faults that have a meaning", sorted(MEANINGS), sorted(kinds), fail)
 
 

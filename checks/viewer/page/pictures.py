@@ -1,4 +1,4 @@
-"""Makes the pictures of docs/VIEW.md anew."""
+"""Makes the pictures of docs/PAGE.md anew."""
 
 import pathlib
 import shutil

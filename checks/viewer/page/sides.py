@@ -322,7 +322,12 @@ BAD_LINES = (
     ("6 books begin\0 state from=0 after=0 bytes=0", "the line 'books' at 6 is not valid"),
     ("6 books begin\x1b]0;a\x07 state from=0 after=0 bytes=0", "the line 'books' at 6 is not valid"),
     ("6 books begin ../state from=0 after=0 bytes=0", "the line 'books' at 6 is not valid"),
-    ("6 books begin state from=0 after=0 bytes=0", ""))
+    ("6 books begin state from=0 after=0 bytes=0", ""),
+    (f"6 descriptors 0 1 open={2**64} limit=9 why=end", "the line 'descriptors' at 6 is not valid"),
+    ("6 descriptors 0 open=3 limit=9 why=end", "the line 'descriptors' at 6 is not valid"),
+    ("6 descriptors 0 1 open=-3 limit=9 why=end", "the line 'descriptors' at 6 is not valid"),
+    ("6 descriptors 0 1 open=3 why=end", "the line 'descriptors' at 6 is not valid"),
+    (f"6 descriptors 0 1 open=3 limit={2**64 - 1} why=later name=a", ""))
 
 # What may follow the time 6 and the word `frames`, and what not. The first lines have the highest number, and the first
 # and the last time.

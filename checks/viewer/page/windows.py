@@ -129,7 +129,7 @@ def check_packed_windows(folder: pathlib.Path, room: pathlib.Path, fail: Fail) -
     capture, _, side = stored("hello-stuck")
     (room / "today.side").write_text(packed(side.read_text("utf-8")), "utf-8")
     for words, *_ in WINDOWS:
-        due, came = (answer([folder / "viewer/frames_within.py", f"--side={one}", *map(str, words), "--", capture],
+        due, came = (answer([folder / "listing", f"--side={one}", *map(str, words), "--", capture],
                             cwd=room, encoding="utf-8", env={**os.environ, **ZONE}) for one in (side, "today.side"))
         compare(f"{words}, frames by lines of many frames", (came, came[0]), (due, 0), fail)
 

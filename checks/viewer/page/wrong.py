@@ -22,7 +22,8 @@ def programs_with(edit: Edit, folder: pathlib.Path, here: pathlib.Path) -> pathl
     edited(edit._replace(file=f"page/{edit.file}"), ROOT / "viewer", made / "viewer")
     for name in ("crates", "listing", "audit"):
         (made / name).symlink_to((folder / name).resolve())
-    (made / "packager").symlink_to(ROOT / "packager")  # which says what the loader takes
+    for name in ("commands", "packager"):
+        (made / name).symlink_to(ROOT / name)
     return made
 
 

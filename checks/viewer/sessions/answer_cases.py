@@ -41,20 +41,27 @@ def begins_to_answer_with_a_status(s, statuses=(*[None] * 5, *[WRONG] * 10), lat
 @case("R3:10 R2:1", other="code")
 @case("R3:10 R2:1", other="object")
 @case("R3:10 R2:1", other="way")
+@case("R3:10 R2:1", other="process")
+@case("R3:10 R2:1", other="node")
 @case("R2:12", other="code", both=6)
 @case("R2:12", other="object", both=6)
 @case("R2:12", other="way", both=6)
+@case("R2:12", other="process", both=6)
+@case("R2:12", other="node", both=6)
 def other_answers_meanwhile(s, other, both=0):
-    """Calls of one path are answered with a status from some call on. Those of another code, or to another object or
-    to objects that came another way, got one before, and good answers up to the end; or of both kinds `both` get one
-    from then on."""
+    """Calls of one path are answered with a status from some call on. Those of another code, to another object, to
+    objects that came another way, or to an object of another process at the same address, got one before, and good
+    answers up to the end; or of both kinds `both` get one from then on."""
     manager, client, server = with_server(s)
     client.main.is_given(server.main, 2, via=1, ptr=0x9000)
     client.main.is_given(server.main, 3, code=6, via=1, ptr=0x9000)
-    path = {"code": {"handle": 1, "ptr": 0x9000}, "object": {"handle": 1, "ptr": 0x9000},
-            "way": {"handle": 2, "ptr": 0x200}}[other]
-    beside = {"code": {**path, "code": 8}, "object": {"handle": 0, "ptr": 0}, "way": {"handle": 3, "ptr": 0x300}}[other]
-    of_other = manager if other == "object" else server
+    third, ptr = s.process(310, "third") if other == "process" else server, 0x9000 if other == "process" else 0x9100
+    third.main.gives(manager.main, 9, node=ptr)
+    client.main.is_given(manager.main, 9, server_handle=9)
+    path = {"handle": 2, "ptr": 0x200} if other == "way" else {"handle": 1, "ptr": 0x9000}
+    beside = {"code": {**path, "code": 8}, "object": {"handle": 0, "ptr": 0}, "way": {"handle": 3, "ptr": 0x300}}.get(
+        other, {"handle": 9, "ptr": ptr})
+    of_other = manager if other == "object" else third
     for at, status in enumerate([None] * 7 + [WRONG] * (both or 10)):
         answers(client, of_other, status if both else None if at else WRONG, **beside)
         answers(client, server, status, **path)

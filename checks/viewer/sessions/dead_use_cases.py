@@ -13,7 +13,10 @@ from checks.viewer.sessions.kept_cases import SERVER, calls_back
 @case("E3:9 H17:10", "maybe references to ended processes: 10 of 10 given by replies to code 5 of server 300 node"
       " 0x9000 H17 (held for 1.", "BR_DEAD_REPLY told so of 9 of 10)", calls=9)
 @case("H17:10", calls=0)
-@case("H17:10 H5:9", calls=0, other_holds=9)
+@case("H17:10 H5:9", "BR_DEAD_REPLY told so of 0 of 10)", calls=0, other_holds=9)
+@case("E3:1 H17:10", "BR_DEAD_REPLY told so of 1 of 10)", calls=1, used=True)
+@case("E3:12 H5:12", count=12, ways=6)
+@case("E3:14 H16:10 H5:4", "BR_DEAD_REPLY told so of 10 of 10)", count=14, ways=4)
 @case("E3:9 H5:9", count=9, calls=9, pause=1100, wait=300)
 @case("E3:10 H17:10", pause=300, wait=800, later=True)
 @case("E3:20 H16:10", again=800, wait=300)
@@ -27,13 +30,16 @@ from checks.viewer.sessions.kept_cases import SERVER, calls_back
 @case("E3:10 H16:10", let_go=1, wait=1200)
 @case("E3:10 H5:10", let_go=1, wait=900, pause=900)
 def holds_the_dead(s, count=10, calls=None, wait=1100, pause=0, answer=BR_DEAD_REPLY, asks=False, lost=None,
-                   let_go=0, other_holds=0, later=False, again=0):
+                   let_go=0, other_holds=0, later=False, again=0, used=False, ways=0):
     """A client keeps objects of a server that ends, and calls some of them once each, after a pause, and once more.
-    Another client keeps some too. `later`: another process works on when the client rests."""
+    Another client keeps some too. `later`: another process works on when the client rests. `used`: the client called
+    each when the server was there. The first `ways` came by another code."""
     manager, client, server = with_server(s)
     handles = range(2, 2 + count + let_go)
-    for handle in handles:
-        client.main.is_given(server.main, handle, **SERVER)
+    for at, handle in enumerate(handles):
+        client.main.is_given(server.main, handle, code=6 if at < ways else 5, **SERVER)
+        if used:
+            client.main.asks(server.main, 7, handle, 0x100 * handle)
         if asks:
             client.main.writes(watch(BC_REQUEST_DEATH_NOTIFICATION, handle, handle))
     if other_holds:

@@ -82,3 +82,56 @@ def gets_descriptors(s, count=60, each=3, closes_at=None, others=0, rests=0, beg
             table.open.clear()
         s.wait(5)
     works(rests)
+
+
+@case("K2:1", f"maybe {KEPT}: 1 of - code 7 at service 100 node 0x0 K2 (open are 9 when the first one came, and at the"
+      " end 30 of at most 64; 40 descriptors came, all of them so, from client 200)", "K2 by service 100: 1",
+      f"defect: {KEPT} | service on binder | code 7 at service;", "(1 defects)")
+@case("K2:1", "reply to code 7 of service 100 node 0x0 K2", "all of them so)", "K2 by client 200: 1", reply=True)
+@case("K2:1", "60 descriptors came, 40 of them so, from client 200)", others=1, count=20, kept=31)
+@case("K2:1", kept=10, count=19)
+@case("", kept=9, count=17)
+@case("", kept=20)
+@case("", kept=0)
+@case("", begins=0.6)
+@case("", stops=0.7)
+@case("", stops=0.2)
+@case("K2:1", stops=0.12)
+@case("", kept=0, elsewhere=True)
+@case("", kept=0, meanwhile=21, looks=("first", "failed", "end"))
+@case("", looks=("first", "failed"))
+@case("", looks=("failed", "end"))
+@case("K2:1", looks=("first", "failed", "end"))
+@case("K1:1", rises=True)
+def keeps_copies(s, count=40, kept=21, others=0, begins=0, stops=0, reply=False, looks=("first", "end"), rises=False,
+                 elsewhere=False, meanwhile=0):
+    """A service copies some of the descriptors that it gets, and closes what came, so their numbers do not rise. It had
+    more to do before the first one, or after the last; or it keeps some that came, too, whose numbers rise; or some
+    only meanwhile. Or more are open in a process to which none came, and in one of this number on another device."""
+    service, client = s.two()
+    receiver, sender = (client, service) if reply else (service, client)
+    table = Table()
+
+    def works(share):
+        for _ in range(int(count * share / (1 - share))):
+            client.main.asks(service.main, 9)
+            s.wait(5)
+
+    def looked(why, open_now):
+        if why in looks:
+            s.tell(f"descriptors 0 {receiver.number} open={open_now} limit=64 why={why}")
+        if elsewhere:
+            for opening in f"0 {client.number}", f"1 {receiver.number}":
+                s.tell(f"descriptors {opening} open={60 if why == 'end' else 3} limit=64 why={why}")
+
+    works(begins)
+    for at in range(count):
+        hands_over(sender.main, receiver, table, keeps=rises, reply=reply)
+        if at == 0:
+            looked("first", 9)
+        for _ in range(1 + others if others else 0):
+            hands_over(sender.main, receiver, table, 8, keeps=False, reply=reply)
+        s.wait(5)
+    works(stops)
+    looked("failed", 9 + meanwhile)
+    looked("end", 9 + kept)

@@ -31,7 +31,9 @@ def takes_back(giver, holder, handles):
 @case("H13:12", gains=(4, 3, 3, 2), when=2)
 @case("H5:12", others=0)
 @case("H5:12", others=4, code=6)
-@case("H13:12 H5:4", "of those from others it keeps 0 of 4 from other 400, 4 of 4 from other 401", left_of_more=4)
+@case("H13:12 H5:4", "of those from others it keeps 0 of 4 from other 400, 4 of 4 from other 401",
+      "real references kept: 12 of 12 given by calls of code 4 from client 200 H13",
+      "maybe references kept: 4 of 4 given by calls of code 4 from other 401 H5", left_of_more=4)
 @case("H13:12", "held by server 300; 6 held", uses=False)
 @case("H10:12", "of those from others it keeps 0 of 3 from other 400", uses=False, others=3)
 @case("M2:12", lost="server")

@@ -401,26 +401,40 @@ def one_in_ten_callbacks(s, one):
 @case("H5:24", "maybe references kept: 12 of 12 given by calls of code 4 from broker (3 processes) H5",
       "maybe references kept: 12 of 12 given by replies to code 5 of maker 350 node 0xa000 in 3 processes H5",
       "groups that are maybe: 2", names=("broker", "broker", "broker"))
-@case("H5:24", "maybe references kept: 8 of 8 given by calls of code 4 from broker (2 processes) H5",
-      "maybe references kept: 4 of 4 given by calls of code 4 from agent 402 H5",
-      "groups that are maybe: 3", names=("broker", "broker", "agent"))
+@case("H5:24", "maybe references kept: 12 of 12 given by calls of code 4 from broker, agent (3 processes) H5",
+      "defect: references kept | server on binder | given by calls of code 4 from agent;",
+      "groups that are maybe: 2", names=("agent", "broker", "broker"))
+@case("H5:48", "maybe references kept: 24 of 24 given by calls of code 4 from a, b, c, d and 2 others (6 processes) H5",
+      "groups that are maybe: 2", names=("f", "e", "d", "c", "b", "a"))
+@case("H5:40", "from a, b, c, d and 1 other (5 processes) H5", names=("a", "b", "c", "d", "e"))
+@case("H5:32", "from a, b, c, d (4 processes) H5", names=("a", "b", "c", "d"))
+@case("H5:24", "groups that are maybe: 3", names=("broker", "broker"), keeper="keeper")
+@case("H5:24", "maybe references kept: 16 of 16 given by calls of code 4 from broker (2 processes) in 2 processes H5",
+      "groups that are maybe: 2", names=("broker", "broker"), keeper="server")
 @case("H5:24", "maybe references kept: 12 of 12 given by calls of code 4 from server (3 processes) H5",
       "groups that are maybe: 2", names=("server", "server", "server"), first=3000)
-def kept_of_one_name(s, names, first=400):
-    """Three processes get objects from a maker, keep them, and hand them over to a server, which keeps them too.
-    They may have the name of the server, and numbers that begin with its own."""
+def kept_of_one_name(s, names, first=400, keeper=None):
+    """Some processes get objects from a maker, keep them, and hand them over to a server, which keeps them too, as
+    another one may. They may have the name of the server, and numbers that begin with its own."""
     manager, _, server = with_server(s)
     maker = s.process(350, "maker")
     maker.main.gives(manager.main, 4, node=0xA000)
+    keepers = [(server, 1, 0x9000)]
+    if keeper:
+        keepers.append((s.process(360, keeper), 3, 0xE000))
+        keepers[1][0].main.gives(manager.main, 5, node=0xE000)
     for number, name in enumerate(names):
         broker = s.process(first + number, name)
         broker.main.is_given(manager.main, 1, server_handle=3)
         broker.main.is_given(manager.main, 2, server_handle=4)
+        if keeper:
+            broker.main.is_given(manager.main, 3, server_handle=5)
         for handle in range(10, 14):
             node_of = 0xB000 + 0x1000 * number + 0x100 * handle
             broker.main.is_given(maker.main, handle, via=2, ptr=0xA000, node=node_of)
-            sent = broker.main.sends(1, 4, body=of_handle(2, handle), listed=offsets(0))
-            address = server.main.gets(sent, 0x9000, of_handle(2, 10 * number + handle))
-            server.main.writes(*each(BC_ACQUIRE, 10 * number + handle))
-            broker.main.answered(server.main.replies(address))
+            for one, via, ptr in keepers:
+                sent = broker.main.sends(via, 4, body=of_handle(2, handle), listed=offsets(0))
+                address = one.main.gets(sent, ptr, of_handle(2, 10 * number + handle))
+                one.main.writes(*each(BC_ACQUIRE, 10 * number + handle))
+                broker.main.answered(one.main.replies(address))
     s.wait(300)

@@ -75,31 +75,46 @@ def calls_wait(s, victims=3, took=1100, longer=0, idle=0, usual=0, free=None, lo
       " of service 100, code 2 to client 200 node 0x9700")
 @case("C4:1 C7:2 A1:4", wait=900)
 @case("C6:1 C7:2 A1:4", by="another process")
-@case("C6:1 C7:2 A1:4", active=True)
+@case("C6:1 C7:2 A1:4", active=70)
+@case("C11:2 C7:1 A1:4", active=150)
+@case("C5:1 C6:1 C7:2 A1:4", to_another=True)
+@case("A1:6 C6:1 C7:3", onward="back")
+@case("A1:6 C6:1 C7:1 C11:2", onward="main")
 @case("C11:2 C7:2 A1:4", "; in a ring with the call at 1144 of client 200, code 3 to service", times=2)
 @case("M2:2 C7:1 A1:4", lost="client")
 @case("C6:2 C7:2 A1:6", served=True)
-def calls_back_to_a_full_pool(s, wait=1100, by="another thread", active=False, times=1, lost=None, served=False):
+def calls_back_to_a_full_pool(s, wait=1100, by="another thread", active=0, times=1, lost=None, served=False,
+                              to_another=False, onward=None):
     """The only looper of a service serves a call, and calls a client meanwhile. Another thread of the client calls
     back, or another process calls the service, and no thread of the service is free. `served`: a second looper serves
-    that, and never replies."""
+    that, and never replies. `active`: the client's looper does something so long before the end. In place of that the
+    client calls another service, or does so by its looper or its main thread; that one never replies."""
     service, client = s.two()
     second = service.looper(1) if served else None
     client.main.gives(service.main, 7)
     back, other = client.looper(1), s.process(300, "other")
+    if to_another or onward:
+        late = s.process(302, "late")
+        late.main.gives(service.main, 8)
+        client.main.is_given(service.main, 8, server_handle=8)
     if lost:
         s.loses(client)
     service.main.gets(other.main.sends(0, 10))
     back.gets(service.main.sends(7, 2), 0x9700)
     for at in range(times):
-        sent = (client.thread(2 + at) if by == "another thread" else s.process(301, "late").main).sends(0, 3)
+        sent = (client.thread(2 + at) if by == "another thread" else s.process(301, "late").main).sends(
+            8 if to_another else 0, 3)
+    if onward:
+        late.main.gets((back if onward == "back" else client.main).sends(8, 4), 0x9800)
+    if to_another:
+        s.process(303, "waiting").main.sends(0, 3)
     if second:
         second.gets(sent)
         s.process(301, "late").main.sends(0, 3)
     if active:
-        s.wait(wait - 50)
+        s.wait(wait - active)
         back.writes(ENTER)
-    s.wait(50 if active else wait)
+    s.wait(active or wait)
 
 
 @case("Q2:1", "code 10 at service 100 node 0x0", more=150)
@@ -169,6 +184,33 @@ def starves(s, good=30, each=1, own=False):
             caller.answered(service.main.replies(service.main.gets(sent)))
 
 
+@case("Q2:1", "(the median is 1 ms) for its 2 loopers", "; the loopers wait for slow 302", "Q2 by slow 302: 1")
+@case("Q1:1", "(the median is 1 ms) for its 2 loopers", "Q1 by slow 302: 1", quiet=3)
+@case("Q2:1", quiet=2)
+def starved_by_its_client(s, quiet=0):
+    """Two processes each call a service by three threads at once, again and again, and its two loopers ask a slow
+    client within that. The processes delay themselves; some quiet ones call the service once, and wait too."""
+    service, client = s.two()
+    slow = s.process(302, "slow")
+    slow.main.gives(service.main, 8)
+    loopers, serving = [service.main, service.looper(1)], [slow.looper(1), slow.looper(2)]
+    users = [s.process(310 + at, "user") for at in range(2)]
+    threads = [one.thread(5 + at) for at in range(3) for one in users]
+    for _ in range(40):
+        client.main.asks(service.main)
+    waiting = [(one, one.sends(0, 10)) for one in threads]
+    waiting += [(one, one.sends(0, 10)) for one in (s.process(330 + at, "quiet").main for at in range(quiet))]
+    for again in range(9):
+        taken = [(*one, looper, serves) for one, looper, serves in zip(waiting, loopers, serving)]
+        taken = [(one, looper, looper.gets(sent), serves) for one, sent, looper, serves in taken]
+        taken = [(*one, one[3].gets(one[1].sends(8, 12), 0x9800)) for one in taken]
+        s.wait(600)
+        for one, looper, address, serves, got in taken:
+            looper.answered(serves.replies(got))
+            one.answered(looper.replies(address))
+        waiting = waiting[2:] + [(one, one.sends(0, 10)) for one, *_ in taken if one in threads and again < 5]
+
+
 @case("Q3:1", "code 10 at service 100 node 0x0 (3 calls waited up to 161 ms for its 2 loopers: 3"
       " of victim 300; 6 of client 200 kept them busy)", "Q3 by client 200: 1",
       "maybe a queue behind the calls of one process: 1", "defect: a queue behind the calls of one process | client")
@@ -184,6 +226,7 @@ def starves(s, good=30, each=1, own=False):
 @case("", by=(0, 1, 2), codes=(10, 11))
 @case("Q4:1", by=(0, 1, 2, 3, 4, 5), codes=(10, 10, 10, 10, 10, 11))
 @case("", by=(0, 1))
+@case("", by=(0, 1, 2), took=85, last=150)
 @case("Q4:1", loopers=1)
 @case("Q3:1", "9 of client 200 kept them busy", loopers=1, at_once=3)
 @case("Q4:1", loopers=1, victims=3, by=(0,))
@@ -273,12 +316,15 @@ def kept_at_two_objects(s):
 
 @case("Q2:1", "for its 2 loopers", busy=True)
 @case("", busy=False)
-def two_loopers(s, busy):
-    """Of two loopers one is in a call, and the other one, too, or in none."""
+@case("", busy=False, short=True)
+def two_loopers(s, busy, short=False):
+    """Of two loopers one is in a call, and the other one, too, or in none, or in short ones."""
     service, client = s.two()
     victim, other, second = s.process(300, "victim"), s.process(301, "other"), service.looper(1)
     address = second.gets(other.main.sends(0, 10)) if busy else None
-    waiting = waits_for_one(s, service, client, victim)
+    if short:
+        other.main.asks(second)
+    waiting = waits_for_one(s, service, client, victim, through=(lambda: other.main.asks(second)) if short else None)
     is_served(service, victim, waiting)
     if busy:
         other.main.answered(second.replies(address))
@@ -367,15 +413,56 @@ def kept_by_another_pool(s, wait):
 
 @case("Q2:1", "oneway code 7 at service 100 node 0x0", by=0)
 @case("", by=1)
-def kept_by_a_oneway_transaction(s, by):
-    """The only looper is in a oneway transaction, and frees it at its end; or another thread frees it."""
+@case("", by=0, share=0.6)
+@case("Q2:1", "oneway code 7 at service 100 node 0x0", by=0, calls=True)
+@case("Q2:1", "oneway code 7 at service 100 node 0x0", by=0, earlier=True)
+def kept_by_a_oneway_transaction(s, by, share=1, calls=False, earlier=False):
+    """The only looper is in a oneway transaction for so much of the time, and frees it at its end; or another thread
+    frees it. Meanwhile it calls another process, or an earlier call waited for a while."""
     service, client = s.two()
     victim, threads = s.process(300, "victim"), (service.main, service.thread(1))
+    third = s.process(302, "third")
+    third.main.gives(service.main, 8)
+    if earlier:
+        is_served(service, victim, waits_for_one(s, service, client, victim, 150))
     address = service.main.gets(client.main.sends(0, 7, ONE_WAY))
     waiting = victim.main.sends(0, 1)
-    s.wait(1100)
+    if calls:
+        service.main.asks(third.main, 2, 8, 0x9800, took=300)
+    s.wait((800 if calls else 1100) * share)
     threads[by].frees(address)
+    s.wait(1100 * (1 - share))
     is_served(service, victim, waiting)
+
+
+@case("", holds=True)
+@case("Q2:1", "code 10 at service 100", holds=False)
+def after_a_call_of_its_own(s, holds):
+    """The only looper of a service asks another process, and does nothing then but keep the buffer of the answer, while
+    a call waits for it; or it did so in a call that it goes on to serve."""
+    service, client = s.two()
+    victim, third = s.process(300, "victim"), s.process(302, "third")
+    third.main.gives(service.main, 8)
+    served = None if holds else service.main.gets(client.main.sends(0, 10))
+    kept = service.main.asks(third.main, 2, 8, 0x9800, free=not holds)
+    s.wait(50)
+    waiting = victim.main.sends(0, 1)
+    s.wait(1100)
+    if holds:
+        service.main.frees(kept)
+    else:
+        client.main.answered(service.main.replies(served))
+    is_served(service, victim, waiting)
+
+
+@case("Q2:1 W5:1", "for its 2 loopers")
+def keeps_a_oneway_transaction(s):
+    """One of two loopers got a oneway transaction, and has done nothing since; the other one is in a call, and another
+    call waits."""
+    service, client = s.two()
+    victim, second = s.process(300, "victim"), service.looper(1)
+    second.gets(client.main.sends(0, 7, ONE_WAY))
+    is_served(service, victim, waits_for_one(s, service, client, victim))
 
 
 @case("C7:1 A1:2 Q2:1", "it waited 1.1 s for a looper", since=50)
@@ -394,11 +481,15 @@ def still_served(s, since, usual=0, took=1100):
 
 
 @case("C7:1 Q2:1", "it waited 1.15 s for a looper")
-def waits_to_the_end(s):
-    """The only looper is in a call to nearly the end, and free then: the call that waits is not got."""
+@case("U6:1", lost=True)
+def waits_to_the_end(s, lost=False):
+    """The only looper is in a call to nearly the end, and free then: the call that waits is not got. Or it may have
+    been, in a frame that is lost."""
     service, client = s.two()
     waits_for_one(s, service, client, s.process(300, "victim"))
     s.wait(50)
+    if lost:
+        s.loses(service)
 
 
 def after_another(s):

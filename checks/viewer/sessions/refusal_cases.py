@@ -78,6 +78,23 @@ def refused_in_a_row(s, log, overrun=False, each=3):
         logs(s, client.main, errno, since=begin, until=begin + 2 if each == 2 else None)
 
 
+@case("E3:1 E5:2", "code 1 to service 100 node 0x0 (a bad object (", "code 2 to service 100 node 0x0 (a bad object (")
+@case("E3:1 E5:2", "code 1 to service 100 node 0x0 (a bad object (", "code 2 to service 100 node 0x0 (a bad object (",
+      dead_first=True)
+def refused_in_two_ways(s, dead_first=False):
+    """Two calls of a thread to one handle are refused, and one, before or after them, gets no answer as the service has
+    ended; the log has all three."""
+    service, client = s.two()
+    client.main.asks(service.main)
+    begin = s.sequence
+    ways = [(1, BR_FAILED_REPLY, BAD, FAILED), (2, BR_FAILED_REPLY, BAD, FAILED)]
+    ways.insert(0 if dead_first else 2, (3, BR_DEAD_REPLY, 0, DEAD))
+    for code, kind, _, _ in ways:
+        refused(client.main, code, kind=kind)
+    for _, _, errno, answer in ways:
+        logs(s, client.main, errno, answer=answer, since=begin)
+
+
 ALL_THREE = ("code 1 to service 100 node 0x0 (no space (-28 ENOSPC)", "code 2 to service 100 node 0x0 (denied, by ",
              "code 3 to service 100 node 0x0 (a bad object (")
 

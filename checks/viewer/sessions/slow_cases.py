@@ -108,12 +108,14 @@ def app_tells_and_asks(s):
 
 @case("A1:1 C4:1 V1:1", "ms not known, at service 100", "V1 by com.example.app 200: 1")
 @case("V1:1", "ms not known, at a server that is not known", "V1 by com.example.app 200: 1", seen=False)
-def app_waits_for_the_unknown(s, seen=True):
-    """The frame with the reply of the service is lost, or all that the service did."""
+@case("", seen=False, handle=9)
+def app_waits_for_the_unknown(s, seen=True, handle=0):
+    """The frame with the reply of the service is lost, or all that the service did. Or it is a call by a handle that
+    was there before the recording, and nothing says whose it is."""
     service, client = s.two()
     client.is_called("com.example.app")
     client.main.asks(service.main)
-    sent = client.main.sends(0, 1)
+    sent = client.main.sends(handle, 1)
     if seen:
         service.main.gets(sent)
     else:
@@ -145,6 +147,8 @@ def app_waits_for_the_unknown(s, seen=True):
 @case("", calls=3, slow_ones=1)
 @case("V2:1", "it takes 124 ms", calls=3, slow_ones=2)
 @case("", differ=True)
+@case("V2:2", late=2)
+@case("", calls=3, slow_ones=1, late=2)
 @case("", processes=9)
 @case("V2:1", "it takes 121 ms, half of 11 listeners 1 ms at most", "V2 by listener 310: 1",
       "oneway IListener code 1 at listener 310", oneway=11)
@@ -155,10 +159,10 @@ def app_waits_for_the_unknown(s, seen=True):
 @case("V2:1", calls=3, slow_ones=2, oneway=11)
 @case("", calls=3, slow_ones=1, oneway=11)
 def listeners(s, slow=120, count=11, usual=0, calls=1, slow_ones=1, differ=False, processes=100, oneway=0, quick=0,
-              often=None, unfreed=0):
-    """A service tells listeners, of which one is slow, or slow now and then, and else takes longer than usual. Each is
-    of a process of its own, or some processes have several; and they may be of two interfaces. The last of them are
-    told by oneway sends; the first of them are quick, or do not return."""
+              often=None, unfreed=0, late=1):
+    """A service tells listeners, of which the last one or two are slow, or slow now and then, and else take longer than
+    usual. Each is of a process of its own, or some processes have several; and they may be of two interfaces. The last
+    of them are told by oneway sends; the first of them are quick, or do not return."""
     service, _ = s.two()
     threads = [s.process(300 + at, "listener").main for at in range(min(count, processes))]
     threads += threads[:count - len(threads)]
@@ -167,7 +171,7 @@ def listeners(s, slow=120, count=11, usual=0, calls=1, slow_ones=1, differ=False
     for call in range(calls):
         for at, thread in enumerate(threads):
             body = marked("example.IOther") if differ and at % 2 else LISTENER
-            took = usual if at < count - 1 else slow if call < slow_ones else often or usual
+            took = usual if at < count - late else slow if call < slow_ones else often or usual
             took = took if at >= quick else 0
             if at < count - oneway:
                 service.main.asks(thread, 1, 10 + at, 0x9000 + at // processes, took=took, body=body)
@@ -208,6 +212,7 @@ def tell(s, teller, thread, target, code, is_oneway, took, body):
 @case("V2:2", "oneway IListener code 3 at", differ="kind", counts=(10, 10), slow=(120, 150), same=True)
 @case("V2:2", differ="interface", counts=(10, 10), slow=(120, 150))
 @case("V2:1", "it takes 124 ms", differ="teller", counts=(10, 1), slow=(120, 0), same=True, times=3)
+@case("V2:1", "it takes 124 ms", differ="teller", counts=(10, 10), slow=(120, 0), same=True, times=3)
 @case("V2:1", "it takes 124 ms", differ="code", counts=(10, 1), slow=(120, 0), same=True, times=3)
 @case("V2:1", "it takes 124 ms", differ="kind", counts=(10, 1), slow=(120, 0), same=True, times=3)
 def two_groups_of_listeners(s, differ, counts, slow, usual=(0, 0), same=False, times=1, oneway=False):
@@ -250,9 +255,13 @@ def two_groups_of_listeners(s, differ, counts, slow, usual=(0, 0), same=False, t
 @case("", has_data=False)
 @case("", seen=False)
 @case("", opens=True)
-def asks_again(s, count=20, every=60, other=None, pause=0, has_data=True, seen=True, opens=False):
+@case("V3:1", "(20 times with the same data", among=True)
+@case("", oneway=True)
+def asks_again(s, count=20, every=60, other=None, pause=0, has_data=True, seen=True, opens=False, among=False,
+               oneway=False):
     """A client asks for the same, as many milliseconds apart; one call may have other data of the same size, or come
-    later. Or it opens something each time. Another client asks so once, and both do something else."""
+    later. Or it opens something each time, or asks for longer data now and then among the others; or these are oneway
+    sends. Another client asks so once, and both do something else."""
     service, client = s.two()
     service.looper(1)
     once = s.process(300, "once")
@@ -262,6 +271,12 @@ def asks_again(s, count=20, every=60, other=None, pause=0, has_data=True, seen=T
     client.main.asks(service.main, 8, body=PACKAGES + bytes(4))
     for at in range(count):
         body = (PACKAGES + bytes([at == other, 0, 0, 0])) * has_data
+        if oneway:
+            service.main.frees(service.main.gets(client.main.sends(0, 7, ONE_WAY, body=body)))
+            s.wait(every - 1)
+            continue
+        if among and at % 7 == 3:
+            client.main.asks(service.main, 7, body=PACKAGES + bytes(8))
         if opens:
             client.main.is_given(service.main, 10 + at, 7, take=False, body=body)
             s.wait(every - 1)

@@ -5,6 +5,7 @@ from checks.kit.captures import (BC_ACQUIRE, BC_CLEAR_DEATH_NOTIFICATION, BC_REP
                                  each, each_long, node, of_handle, offsets, record, watch)
 from checks.viewer.sessions.cases import case, with_each_other
 from checks.viewer.sessions.giver_cases import giver_forgets
+from checks.viewer.sessions.lock_cases import holds_a_lock
 from checks.viewer.sessions.session import ONE_WAY, Sent, node_object
 
 
@@ -167,6 +168,13 @@ def comes_back_with_stacks(s, wait):
     s.with_stack(None)
     client.main.gets(sent, 0x9700)
     s.wait(wait)
+
+
+@case("V4:1", "finding_stack 1: 9, the call that its thread made meanwhile", "finding_stack 2: 9, the reply to it")
+def holds_a_lock_with_stacks(s):
+    """Calls wait for a call of a service within another one: that call tells first."""
+    s.with_stack(9)
+    holds_a_lock(s)
 
 
 @case("H13:12", "finding_stack 1: 7, the send that gave the handle",

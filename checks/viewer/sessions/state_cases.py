@@ -237,22 +237,44 @@ def not_acknowledged(s, then, ends, wait=200, lost=False):
         s.wait(300)
 
 
-@case("H18:3", "(handed over with code 4)", "real references never acknowledged: 3 of ")
+@case("H18:3", "node 0x901 (handed over with code 5)", "node 0x902 (handed over with code 6)",
+      "real references never acknowledged: 3 of ")
 @case("H18:4", count=5, done=1)
-@case("U4:3", count=4, done=1)
+@case("U4:3", "U4 ()", count=4, done=1)
 @case("U4:2", count=2)
 @case("M1:3", lost=True)
 @case("U4:2 U6:1", then=1)
-def nodes_not_acknowledged(s, count=3, done=0, lost=False, then=2):
-    """The driver asks for references to the objects of a client, which acknowledges some, and goes on."""
+@case("H18:3 U4:1", "node 0x901 (handed over with code 5)", other=True)
+@case("H18:3 U4:1", death=True)
+@case("U4:3", count=2, death=True)
+@case("H18:3 H4:1", "node 0x901 (handed over with code 5)", again=True)
+def nodes_not_acknowledged(s, count=3, done=0, lost=False, then=2, other=False, death=False, again=False):
+    """The driver asks for references to the objects of a client, which acknowledges some, and goes on. Another process,
+    whose object has the same address, handed it over before, and does not acknowledge it; or a death is not
+    acknowledged either. Or the client hands its first object over once more."""
     service, client = s.two()
     if lost:
         s.loses(client)
+    if other:
+        third = s.process(300, "third")
+        third.main.gives(service.main, 30, code=20, node=0x901)
+        third.main.reads(node(BR_ACQUIRE, 0x901, 0))
+        for _ in range(2):
+            third.main.writes(ENTER)
+    if death:
+        short = s.process(310, "short-lived")
+        short.main.gives(service.main, 31, node=0xA00)
+        client.main.is_given(service.main, 31, server_handle=31)
+        client.main.writes(watch(BC_REQUEST_DEATH_NOTIFICATION, 31, 0xD))
+        short.ends()
+        client.main.reads(*each_long(BR_DEAD_BINDER, 0xD))
     for at in range(1, count + 1):
-        client.main.gives(service.main, at, node=0x900 + at)
+        client.main.gives(service.main, at, code=4 + at, node=0x900 + at)
         client.main.reads(node(BR_ACQUIRE, 0x900 + at, 0))
         if at <= done:
             client.main.writes(node(BC_ACQUIRE_DONE, 0x900 + at, 0))
+    if again:
+        client.main.gives(service.main, 1, code=21, node=0x901)
     for _ in range(then):
         client.main.writes(ENTER)
     s.wait(200)
@@ -269,14 +291,16 @@ def watching(s, met="from-start", weakly=False):
 
 
 @case("T1:1", then=2, wait=60, ends=True)
+@case("T1:1", then=2, wait=60, ends=True, first=200)
 @case("U4:1", then=2, wait=150, ends=True)
 @case("U4:1", then=2, wait=200)
 @case("U6:1", then=1, wait=50)
 @case("U5:1", then=1, wait=200)
 @case("M1:1", then=2, wait=200, lost=True)
 @case("T1:1", then=2, wait=60, ends=True, thread=True)
-def clear_not_confirmed(s, then, wait, ends=False, lost=False, thread=False):
+def clear_not_confirmed(s, then, wait, ends=False, lost=False, thread=False, first=0):
     _, client = watching(s)
+    s.wait(first)
     if lost:
         s.loses(client)
     clearing = client.thread(1) if thread else client.main
@@ -291,21 +315,55 @@ def clear_not_confirmed(s, then, wait, ends=False, lost=False, thread=False):
 
 @case("T1:1", wait=900)
 @case("U4:1", wait=1100)
-@case("U4:1", wait=900, leaves=False)
-@case("U4:1", wait=900, before=True)
-def clears_and_leaves(s, wait, leaves=True, before=False):
-    """A client clears its request, and its other thread leaves the pool after that or before; then the client ends."""
-    _, client = watching(s)
-    other = client.looper(1)
-    if before:
-        other.writes(record(BC_EXIT_LOOPER))
+@case("U4:1", wait=900, leaves="")
+@case("U4:1", wait=900, leaves="before")
+@case("T1:1", wait=900, leaves="before, after")
+@case("U4:1", wait=900, of="service")
+@case("U4:1", wait=500, ends=False)
+def clears_and_leaves(s, wait, leaves="after", of="client", ends=True):
+    """A client clears its request, and its other threads, or one of the service, leave the pool after that or before;
+    then the client ends, or goes on."""
+    service, client = watching(s)
+    loopers = [(client if of == "client" else service).looper(at) for at in (1, 2)]
+    if "before" in leaves:
+        loopers[0].writes(record(BC_EXIT_LOOPER))
     client.main.writes(watch(BC_CLEAR_DEATH_NOTIFICATION, 1, 0xD))
     for _ in range(2):
         client.main.writes(ENTER)
-    if leaves and not before:
-        other.writes(record(BC_EXIT_LOOPER))
+    if "after" in leaves:
+        loopers[1].writes(record(BC_EXIT_LOOPER))
     s.wait(wait)
+    if ends:
+        client.ends()
+    s.wait(300)
+
+
+@case("U4:1")
+def death_and_leaves(s):
+    """A client does not acknowledge a death, and its other thread leaves the pool half a second before it ends."""
+    service, client = watching(s)
+    other = client.looper(1)
+    service.ends()
+    client.main.reads(*each_long(BR_DEAD_BINDER, 0xD))
+    for _ in range(2):
+        client.main.writes(ENTER)
+    other.writes(record(BC_EXIT_LOOPER))
+    s.wait(500)
     client.ends()
+    s.wait(300)
+
+
+@case("U4:1")
+def buffer_of_a_thread_that_ends(s):
+    """A thread of a service replies to a call, keeps its buffer, and ends soon after that; the service goes on."""
+    service, client = s.two()
+    other = service.looper(1)
+    sent = client.main.sends(0, 1)
+    other.gets(sent)
+    client.main.answered(other.replies())
+    client.main.asks(other, 2)
+    s.wait(50)
+    other.ends()
     s.wait(300)
 
 
