@@ -1,11 +1,10 @@
 """How long the pages are, in words: those for each kind of reader, docs/MEASURED.md, each decision, and each sentence.
 
-A word stands between spaces and has a letter: a number is none. Words of prose, headings, lists and tables count, and
-of a link its text. Code does not: neither what is in backticks, nor what ``` encloses, nor lines that begin with four
-spaces, as commands and what they print.
+A page is as long as `wc -w` says: all that stands in the file counts, also code, numbers and the bars of tables.
 
-A sentence ends with a full stop, a sign of question or exclamation, or a colon. An item of a list and a cell of a table
-end one too.
+Of a sentence the words count that have a letter, and of a link its text. Code does not: neither what is in backticks,
+nor what ``` encloses, nor lines that begin with four spaces, as commands and what they print. A sentence ends with a
+full stop, a sign of question or exclamation, or a colon. An item of a list and a cell of a table end one too.
 """
 
 import pathlib
@@ -19,10 +18,15 @@ MEASURED, DECISIONS = ROOT / "docs/MEASURED.md", ROOT / "docs/DECISIONS.md"
 MADE = "docs/DEFINITIONS.md", "docs/TABLE-DEFINITIONS.md"
 AUTHORS = tuple(f"docs/{name}.md" for name in ("REPORT", "ENVELOPE", "COMMANDS", "SIDE-LIST", "WRITING-A-RECORDER"))
 INSIDERS = "CONTRIBUTING.md", *(f"docs/{name}.md" for name in ("ARCHITECTURE", "DECISIONS", "PROMISES", "MEASURED"))
-# The most words of the pages for users, for authors of recorders, and for those who work on the repository; and of
-# those that stand beside the code.
-MOST = {"users": 29_800, "authors": 13_000, "insiders": 18_000, "crates and checks": 7_400}
-MOST_MEASURED, MOST_DECISION, MOST_SENTENCE = 5_000, 120, 35
+# The most words of the pages for users, for authors of recorders, and for those who work on the repository; of those on
+# the samples, and of those that stand beside the code.
+MOST = {"users": 39_400, "authors": 17_400, "insiders": 24_750, "samples": 3_450, "crates and checks": 10_300}
+MOST_MEASURED, MOST_DECISION, MOST_SENTENCE = 6_450, 120, 35
+
+
+def length(text: str) -> int:
+    """How many words `wc -w` finds."""
+    return len(text.split())
 
 
 def prose(text: str) -> list[str]:
@@ -33,6 +37,7 @@ def prose(text: str) -> list[str]:
 
 
 def words(text: str) -> int:
+    """How many words of prose there are."""
     plain = re.sub(r"`[^`]*`", "", " ".join(prose(text)))
     return sum(1 for word in plain.split() if re.search(r"[^\W\d_]", word))
 
@@ -44,6 +49,8 @@ def readers(page: pathlib.Path) -> str:
         return ""
     if name.startswith(("crates/", "checks/")):
         return "crates and checks"
+    if name.startswith("samples/"):
+        return "samples"
     return "authors" if name in AUTHORS else "insiders" if name in INSIDERS else "users"
 
 
@@ -52,7 +59,7 @@ def wrong_sums(pages: Iterable[pathlib.Path]) -> Iterator[str]:
     sums = dict.fromkeys(MOST, 0)
     for page in pages:
         if who := readers(page):
-            sums[who] += words(page.read_text("utf-8"))
+            sums[who] += length(page.read_text("utf-8"))
     for who, most in MOST.items():
         if sums[who] > most:
             yield f"the pages for {who} have {sums[who]:,} words, above {most:,}"
@@ -89,11 +96,11 @@ def long_sentences(text: str) -> Iterator[tuple[int, str]]:
 def wrong(page: pathlib.Path) -> Iterator[tuple[int, str]]:
     """What is too long in a page, with its line."""
     text = page.read_text("utf-8")
-    if page == MEASURED and (count := words(text)) > MOST_MEASURED:
+    if page == MEASURED and (count := length(text)) > MOST_MEASURED:
         yield 1, f"{count:,} words, above {MOST_MEASURED:,}"
     if page == DECISIONS:
         for number, decision in decisions(text):
-            if (count := words(decision)) > MOST_DECISION:
+            if (count := length(decision)) > MOST_DECISION:
                 yield number, f"a decision of {count} words, above {MOST_DECISION}"
     if readers(page):
         yield from long_sentences(text)
