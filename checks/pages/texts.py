@@ -16,6 +16,7 @@ What must hold:
   the libraries of the toolchain that the auditor stands on, and the sizes of what is trusted, up to a tenth.
   docs/TRUST.md has the number of wrong bodies.
 - README.md has the figures that docs/MEASURED.md has on the blind test, and docs/TRUST.md those on the second recorder.
+- The commits that a page names are in the repository's history.
 - docs/DEFINITIONS.md and docs/TABLE-DEFINITIONS.md are the pages that checks/run definitions makes.
 - What stands in several sources, as the most bytes of a capture, has one value in all of them; and what is told on one
   page, as which kernels were tried, stands on no other (owners.py).
@@ -26,7 +27,7 @@ import re
 
 from checks.kit.checking import check
 from checks.kit.programs import ROOT, edits_of
-from checks.pages import callers, codes, definitions, figures, lengths, owners, promises, sources, tables
+from checks.pages import callers, codes, commits, definitions, figures, lengths, owners, promises, sources, tables
 
 
 def pages():
@@ -79,7 +80,7 @@ def judge(*_):
     for page in pages():
         for number, what in (*wrong_links(page), *goalless(page), *callers.wrong(page), *promises.wrong(page),
                              *sources.wrong(page), *tables.wrong(page), *codes.wrong(page), *figures.wrong(page),
-                             *lengths.wrong(page), *stale_lines(page)):
+                             *commits.wrong(page), *lengths.wrong(page), *stale_lines(page)):
             yield f"{page.relative_to(ROOT)}:{number}: {what}"
 
 

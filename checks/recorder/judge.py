@@ -29,7 +29,7 @@ WHO names processes of which a line must have one, or as many as `2:` says. What
 the line's `kind`; of something else that the line `has`; and of the `method`, code or object that the lines of the
 fault must name, each of them if several are separated by `; `. Without these a line may have anything.
 
-The lines of `./view --groups` that are `real` or `maybe` are read. The table has a column for each recording:
+The lines of `./view --groups` that are `real` or `maybe` are read. The table has a row for each recording:
 
 - A fault is found if a line is of its kind and names the culprit; its culprit is named on the first line if that is a
   line of the fault, or of a consequence, and names the culprit; also as its process if the culprit is among the
