@@ -1,54 +1,96 @@
-"""docs/DATABASE.md: below the name of each table or view stands what it rests on, and what a row is, as the file of the
-table `about` says.
+"""docs/DATABASE.md: its tables are those that viewer/database/about.sql says, with the columns that SQLite has of the
+files that make them.
 
-    checks/run database_page                says which lines of the page are other ones, and which names it lacks
-    checks/run database_page -- --print     writes these lines anew, and prints what changed"""
+    checks/run database_page                says which lines of the page are not those that the files make
+    checks/run database_page -- --print     writes the tables of the page anew, and prints what changed"""
 
 import argparse
 import difflib
 import re
-import sqlite3
-from typing import Iterator
+import textwrap
+from typing import Iterable, Iterator
 
 from checks.kit.checking import FLAG, check
 from checks.kit.programs import ROOT
+from checks.viewer.table_catalogue import Catalogue, Column, Columns, Wrong, catalogue
 
-PAGE, ABOUT = ROOT / "docs/DATABASE.md", ROOT / "viewer/database/about.sql"
-# The heading of a table, and the line below it.
-NAMED = re.compile(r"^### ([a-z_]+)\n\n(`.*\n)", re.MULTILINE)
-
-
-def lines_due() -> dict[str, str]:
-    """The line of each name."""
-    database = sqlite3.connect(":memory:")
-    database.executescript(ABOUT.read_text("utf-8"))
-    return {name: f"`{rests_on}`: {text}\n"
-            for name, rests_on, text in database.execute("SELECT name, rests_on, text FROM about")}
+PAGE = ROOT / "docs/DATABASE.md"
+# What is made of the line before it goes to the next heading of a section, or to the end of a list.
+TABLES = re.compile(r"^(<!-- tables((?:\s\w+)+) -->\n)(?:(?!## ).*\n)*", re.MULTILINE)
+COMMON = re.compile(r"^(<!-- columns -->\n)(?:(?:- |  ).*\n)*", re.MULTILINE)
 
 
-def made(text: str, due: dict[str, str]) -> str:
-    """The page with the lines that it has to have. `about` has no row of its own."""
-    return NAMED.sub(lambda found: f"### {found[1]}\n\n{due.get(found[1], found[2])}", text)
+def wrapped(text: str) -> str:
+    return textwrap.fill(text, 120, subsequent_indent="  " * text.startswith("- "), break_long_words=False,
+                         break_on_hyphens=False) + "\n"
 
 
-def wrong(text: str, due: dict[str, str]) -> Iterator[str]:
-    for number, (line, other) in enumerate(zip(text.splitlines(), made(text, due).splitlines()), 1):
-        if line != other:
-            yield f"{number}: checks/run database_page -- --print writes {other!r}"
-    names = [found[1] for found in NAMED.finditer(text)]
-    yield from (f"nothing of {name}" for name in sorted(due.keys() - {*names}))
-    yield from (f"{name} is no table and no view" for name in sorted({*names} - due.keys() - {"about"}))
+def names_of(columns: list[Column]) -> str:
+    """The names of columns, with types. A type that all have stands after the last one."""
+    types = [column.type for column in columns]
+    is_one = len({*types}) == 1
+    return ", ".join(f"**`{column.name}`**" if column.is_key else f"`{column.name}`" for column in columns) + (
+        f" ({types[0]})" if types[0] else "") if is_one else ", ".join(
+        names_of([column]) for column in columns)
+
+
+def item_of(part: Columns) -> str:
+    """The item of a list for some columns."""
+    return wrapped(f"- {names_of(part.columns)}" + (f": {part.meaning}" if part.meaning else ""))
+
+
+def lines_of(parts: Iterable[str | Columns]) -> Iterator[str]:
+    """Sentences and columns, with a blank line between a paragraph and what is beside it."""
+    was_item = True
+    for part in parts:
+        is_item = isinstance(part, Columns) or part.startswith("- ")
+        if not (was_item and is_item):
+            yield "\n"
+        yield item_of(part) if isinstance(part, Columns) else wrapped(part)
+        was_item = is_item
+
+
+def section_of(told: Catalogue, name: str) -> str:
+    """What the page has of a table."""
+    line = wrapped(told.lines[name]) if name in told.lines else ""
+    return f"### {name}\n\n{line}" + "\n" * bool(line) + "".join(lines_of(told.said[name])).lstrip("\n") + "\n"
+
+
+def made(text: str, told: Catalogue) -> str:
+    """The page with the tables that it has to have."""
+    def tables_in(found: re.Match) -> str:
+        return found[1] + "\n" + "".join(section_of(told, name) for name in found[2].split() if name in told.said)
+
+    page = TABLES.sub(tables_in, text).rstrip("\n") + "\n"
+    return COMMON.sub(lambda found: found[1] + "".join(map(item_of, told.common)), page)
+
+
+def wrong(text: str, told: Catalogue) -> Iterator[str]:
+    """The first line that is another one, and tables that the page names never, twice, or without need."""
+    for number, (line, due) in enumerate(zip(text.splitlines(), [*made(text, told).splitlines(), ""]), 1):
+        if line != due:
+            yield f"{number}: checks/run database_page -- --print writes {due!r}"
+            break
+    names = [name for found in TABLES.finditer(text) for name in found[2].split()]
+    yield from (f"nothing of {name}" for name in sorted(told.said.keys() - {*names}))
+    yield from (f"{name} twice" for name in sorted({*names}) if names.count(name) > 1)
+    yield from (f"{name} is no table and no view" for name in sorted({*names} - told.said.keys()))
 
 
 def judge(given: argparse.Namespace, *_: object) -> Iterator[str]:
-    text, due = PAGE.read_text("utf-8"), lines_due()
+    text = PAGE.read_text("utf-8")
+    try:
+        told = catalogue()
+    except Wrong as what:
+        yield f"viewer/database/about.sql: {what}"
+        return
     if given.print:
-        new = made(text, due)
+        new = made(text, told)
         PAGE.write_text(new, "utf-8")
         print("".join(difflib.unified_diff(text.splitlines(True), new.splitlines(True), "before", "docs/DATABASE.md")),
               end="")
     else:
-        yield from (f"docs/DATABASE.md: {what}" for what in wrong(text, due))
+        yield from (f"docs/DATABASE.md: {what}" for what in wrong(text, told))
 
 
 if __name__ == "__main__":

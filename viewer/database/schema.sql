@@ -397,14 +397,14 @@ CREATE TABLE report(id INTEGER PRIMARY KEY, section TEXT NOT NULL, place INTEGER
   ptr INTEGER, cookie INTEGER, strong INTEGER, strong_low INTEGER, weak INTEGER, weak_low INTEGER,
   held_strong INTEGER, held_weak INTEGER, strong_due INTEGER, weak_due INTEGER, address INTEGER, data_size INTEGER,
   idx INTEGER, at INTEGER, code_word INTEGER, name TEXT, count INTEGER, sum INTEGER) STRICT;
--- n_all is NULL where a path is not counted: for handles that are let go of or that no delivery gave, for nodes,
--- requests, deaths, clears, frees and flags, and for replies that are sent. later counts calls no deeper than the
--- finding itself; for what is neither a call nor its buffer, it counts write frames. culprit is NULL if it is upid.
--- path is the text of code and the columns from relation to calls, which paths.sql fills; texts.sql makes it, and until
--- then it is NULL. So texts.sql makes note of said, with what note has then.
+-- about.sql has what the columns mean. n_all is NULL where a path is not counted: for handles that are let go of or that
+-- no delivery gave, for nodes, requests, deaths, clears, frees and flags, and for replies that are sent. later counts
+-- calls no deeper than the finding itself; for what is neither a call nor its buffer, it counts write frames. path is
+-- the text of code and the columns from relation to calls, which paths.sql fills; texts.sql makes it, and until then it
+-- is NULL. So texts.sql makes note of said, with what note has then.
 CREATE TABLE finding(
   id INTEGER PRIMARY KEY,
-  report INTEGER,         -- its row in report
+  report INTEGER,
   section TEXT NOT NULL,
   what TEXT NOT NULL,
   place INTEGER,
@@ -416,18 +416,18 @@ CREATE TABLE finding(
   ptr INTEGER,
   cookie INTEGER,
   generation INTEGER,
-  target INTEGER,         -- the process that its handle leads to
-  relation TEXT,          -- how it belongs to the call or the thing that it is about, by RELATIONS of paths.py
-  about INTEGER,          -- the process of the object, or with a minus that of a handle of it
-  node INTEGER,           -- the ptr of the object, or that handle; or an address, or the id of the name of a service
-  interface TEXT,         -- of the call, or of the object
-  others INTEGER,         -- 1 if some name another interface
+  target INTEGER,
+  relation TEXT,          -- by RELATIONS of paths.py
+  about INTEGER,
+  node INTEGER,
+  interface TEXT,
+  others INTEGER,
   method TEXT,
   service TEXT,
   way INTEGER,
-  giver INTEGER,          -- who handed over what came with calls
-  status INTEGER,         -- what the call was answered with
-  calls TEXT,             -- those that used up a pool
+  giver INTEGER,
+  status INTEGER,
+  calls TEXT,
   path TEXT,
   n_all INTEGER,
   n_good INTEGER,
@@ -436,11 +436,11 @@ CREATE TABLE finding(
   age_seq INTEGER,
   age INTEGER,
   later INTEGER,
-  lead INTEGER,           -- the finding with which it is one
+  lead INTEGER,
   waiting INTEGER,
   rule TEXT,
-  said TEXT,              -- the words of its note, with the names of the columns below
-  other INTEGER,          -- the place of another record
+  said TEXT,
+  other INTEGER,
   other_upid INTEGER,
   how_many INTEGER,
   of_how_many INTEGER,
