@@ -8,6 +8,7 @@
 # rust_kernel.config has all that the kernel gets: what it does not name is left out, also what is there by default.
 # The kernel is not packed: QEMU boots it so by PVH.
 set -euxo pipefail
+unset TMPDIR # such a folder need not be there in sid
 
 here=$(dirname -- "$(readlink -f -- "${BASH_SOURCE[0]}")")
 tools=(rustc rust-src bindgen clang lld llvm libclang-dev bc flex bison libelf-dev libdw-dev libssl-dev make pahole cpio
