@@ -110,7 +110,7 @@ def check_starved(room: pathlib.Path, fail: Fail) -> None:
 def check_told(room: pathlib.Path, fail: Fail) -> None:
     said: list[str] = []
     boot.say = said.append
-    told = boot.Told(Program(room, "pass"), 2)
+    told = boot.Told(Program(room, "pass"), "out", 2)
     for line in ("guest: begins", "guest: ended a status=0 seconds=1.5", "guest: wrong: b takes more than 9 s", "more"):
         told.hear(line)
     compare("what was wrong", told.wrong, ["b takes more than 9 s"], fail)

@@ -15,6 +15,7 @@ import pathlib
 import shutil
 import subprocess
 import sys
+from concurrent.futures import ThreadPoolExecutor
 
 from checks.kit.checking import FLAG
 from checks.kit.programs import CHECKS, ROOT
@@ -22,7 +23,7 @@ from checks.recorder.aosp import blind, judge, store
 from checks.recorder.guest.boot import Guest, boot
 from checks.recorder.guest.image import Files, Link
 from checks.recorder.guest.kept import kept, needs, run, say, stop
-from checks.recorder.guest.kernels import check_tools, kernel_of
+from checks.recorder.guest.kernels import Kernel, check_tools, kernel_of
 from checks.recorder.guest.machines import OWN_TIME, X86_64
 from checks.recorder.guest.packages import linked_libraries, release
 from checks.recorder.guest.plans import (
@@ -138,15 +139,34 @@ def files_of(android: str, folder: pathlib.Path, room: pathlib.Path) -> Files:
     return files
 
 
-def play(given: argparse.Namespace, series: str, files: Files, lines: list[list[str]],
-         symbols: dict[str, pathlib.Path]) -> list[str]:
-    out = given.room / f"out-{series}"
+def folder_of(given: argparse.Namespace, series: str) -> pathlib.Path:
+    """Where a guest leaves its recordings."""
+    return given.room / f"out-{series}"
+
+
+def play(given: argparse.Namespace, series: str, kernel: Kernel, files: Files, count: int) -> list[str]:
+    """Records all lines on a kernel. Returns what is wrong with its guest."""
+    out = folder_of(given, series)
     shutil.rmtree(out, ignore_errors=True)
     # servicemanager asks for the security contexts of those that call it.
-    guest = Guest(X86_64, kernel_of(series, X86_64), files, accelerated(given, OWN_TIME), "3G",
-                  "security=selinux selinux=1")
-    wrong = [why for why in [boot(guest, out.name, len(lines), out)] if why]
-    wrong += judge.judged_all(out, [words[0] for words in lines], symbols)
+    guest = Guest(X86_64, kernel, files, accelerated(given, OWN_TIME), "3G", "security=selinux selinux=1")
+    return [why for why in [boot(guest, out.name, count, out)] if why]
+
+
+def play_all(given: argparse.Namespace, all_series: list[str], files: Files, count: int) -> list[str]:
+    """The same on several kernels side by side: each guest has one processor."""
+    kernels = [kernel_of(series, X86_64) for series in all_series]
+    with ThreadPoolExecutor(len(all_series)) as pool:
+        found = pool.map(lambda series, kernel: play(given, series, kernel, files, count), all_series, kernels)
+        return [what for wrong in found for what in wrong]
+
+
+def judge_all(given: argparse.Namespace, series: str, lines: list[list[str]],
+              symbols: dict[str, pathlib.Path]) -> list[str]:
+    """What is wrong with the recordings on a kernel, which are stored if that is asked for."""
+    out = folder_of(given, series)
+    say(f"{out.name}: what came of {len(lines)} lines")
+    wrong = list(judge.judged_all(out, [words[0] for words in lines], symbols))
     if given.store and series == "newest":
         store.store(out, ROOT / "samples/aosp")
     elif given.store and series == "rust":
@@ -181,7 +201,8 @@ def check(given: argparse.Namespace) -> list[str]:
         files |= files_of(android, folder, given.room)
     all_series = [*given.kernel, *["rust"] * given.rust] or ["6.1", "newest"]
     say(f"play {len(lines)} lines on {', '.join(all_series)}")
-    return [what for series in all_series for what in play(given, series, files, lines, symbols)]
+    wrong = play_all(given, all_series, files, len(lines))
+    return [*wrong, *(what for series in all_series for what in judge_all(given, series, lines, symbols))]
 
 
 if __name__ == "__main__":

@@ -55,14 +55,13 @@ class Running:
         with self.disk.open("wb") as disk:
             disk.truncate(guest.disk)
         image.write(with_modules(guest), room / "initramfs")
-        words = [*guest.machine.emulator, *guest.processors.words, "-smp", str(guest.processors.number), "-m",
-                 guest.memory, "-nographic", "-no-reboot", "-nodefaults", "-serial", "stdio", "-kernel",
-                 str(guest.kernel.image), "-initrd", str(room / "initramfs"), "-drive",
-                 f"file={self.disk},format=raw,if=virtio", *guest.more, "-append",
-                 f"{guest.machine.words} panic=-1 quiet rdinit=/init {guest.words}"]
+        words = ["nice", "-n", str(max(0, 10 - os.nice(0))), *guest.machine.emulator, *guest.processors.words,
+                 "-smp", str(guest.processors.number), "-m", guest.memory, "-nographic", "-no-reboot", "-nodefaults",
+                 "-serial", "stdio", "-kernel", str(guest.kernel.image), "-initrd", str(room / "initramfs"),
+                 "-drive", f"file={self.disk},format=raw,if=virtio", *guest.more,
+                 "-append", f"{guest.machine.words} panic=-1 quiet rdinit=/init {guest.words}"]
         with console.open("wb") as out:
-            self.process = subprocess.Popen(words, stdin=subprocess.DEVNULL, stdout=out, stderr=subprocess.STDOUT,
-                                            preexec_fn=lambda: os.nice(max(0, 10 - os.nice(0))))
+            self.process = subprocess.Popen(words, stdin=subprocess.DEVNULL, stdout=out, stderr=subprocess.STDOUT)
 
     def lines(self) -> Iterator[str]:
         """What it said since it was asked last."""
@@ -138,10 +137,10 @@ def follow(running: Running, hear: Callable[[str], None], is_over: Callable[[], 
 
 class Told:
     """Tells how far a guest is with the lines of its plan: for each its status, and the seconds that it took in the
-    guest and of the processor."""
+    guest and of the processor. Each line begins with what the guest is called: others may run beside it."""
 
-    def __init__(self, running: Running, count: int) -> None:
-        self.running, self.count, self.done, self.is_done = running, count, 0, False
+    def __init__(self, running: Running, what: str, count: int) -> None:
+        self.running, self.what, self.count, self.done, self.is_done = running, what, count, 0, False
         self.used = 0.0
         self.wrong: list[str] = []
 
@@ -149,17 +148,17 @@ class Told:
         used = self.running.used()
         if found := re.fullmatch(r"guest: ended (\S+) status=(.*) seconds=(\S+)", line):
             self.done += 1
-            say(f"  {self.done} of {self.count}  {found[1]}: status {found[2]}, {float(found[3]):.1f} s of the guest,"
-                f" {used - self.used:.1f} s of the processor")
+            say(f"{self.what}: {self.done} of {self.count}  {found[1]}: status {found[2]}, {float(found[3]):.1f} s of"
+                f" the guest, {used - self.used:.1f} s of the processor")
             self.used = used
         elif line == "guest: begins":
-            say(f"  begun after {used:.1f} s of the processor")
+            say(f"{self.what}: begun after {used:.1f} s of the processor")
             self.used = used
         elif line == "guest: done":
             self.is_done = True
         elif line.startswith("guest: wrong: "):
             self.wrong.append(line.removeprefix("guest: wrong: "))
-            say(f"  {self.wrong[-1]}")
+            say(f"{self.what}: {self.wrong[-1]}")
 
 
 def boot(guest: Guest, what: str, count: int, to: pathlib.Path) -> str | None:
@@ -171,7 +170,7 @@ def boot(guest: Guest, what: str, count: int, to: pathlib.Path) -> str | None:
         say(f"boot {what}: {guest.kernel.version} for {guest.machine.name}, processors: {guest.processors.number}{own};"
             f" {count} to play")
         running = Running(guest, pathlib.Path(room), to / "console")
-        told = Told(running, count)
+        told = Told(running, what, count)
         try:
             why = follow(running, told.hear)
         finally:

@@ -28,8 +28,9 @@ def needs(packages: dict[str, str]) -> None:
             stop(f"{command} is missing: apt-get install {package}")
 
 
-def say(*words: object) -> None:
-    print(*words, flush=True)
+def say(what: str) -> None:
+    """A line is one write: guests may run side by side."""
+    print(f"{what}\n", end="", flush=True)
 
 
 def run(*words: object, log: pathlib.Path | None = None, **options: object) -> str:
