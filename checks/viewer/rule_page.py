@@ -1,13 +1,15 @@
-"""docs/RULES.md: its tables are those that the files of rules make. And the sessions that these files name get their
-rules.
+"""docs/RULES.md: its rules and thresholds are those that the files of rules make. And the sessions that these files
+name get their rules.
 
     checks/run rule_page                says which lines of the page are not those that the files of rules make
-    checks/run rule_page -- --print     writes the tables of the page anew, and prints what changed"""
+    checks/run rule_page -- --print     writes these lines anew, and prints what changed; what the page says of a rule
+                                        besides its sentence stays"""
 
 import argparse
 import difflib
 import re
-from typing import Iterable, Iterator
+import textwrap
+from typing import Iterable, Iterator, NamedTuple
 
 from checks.kit.checking import FLAG, check
 from checks.kit.programs import DRIVER, ROOT
@@ -24,20 +26,33 @@ NAMED = re.compile(r"`([^`]+)`")
 # A session, as the files of rules name it: a capture, or a small session.
 SESSION = re.compile(r"`([\w-]+)(\(\))?`")
 
-# ---- the tables
+# ---- what the page has of them
 
-# A table is made of what the line before it says.
-MADE = re.compile(r"^<!-- (rules|thresholds)((?: [A-Z])*) -->\n(?:\|.*\n)*", re.MULTILINE)
-OF_RULES = ("rule", "verdict", "the page says", "missing")
-OF_THRESHOLDS = ("name", "value", "meaning")
+# The items of what the line before them says: those of rules go on with what the page says besides.
+MADE = re.compile(r"^(<!-- (rules|thresholds)((?: [A-Z])*) -->\n)((?:(?:- |  ).*\n)*)", re.MULTILINE)
+OF_RULE = re.compile(r"- \*\*([A-Z]\d+)\*\* (\w+)(?: \(\w+\))?: \*([^*]*)\* ?(.*)")
 
 
-def table_of(head: Iterable[str], rows: Iterable[Iterable[str]]) -> Iterator[str]:
-    """The lines of a table."""
-    for cells in (head, ["---" for _ in head], *rows):
-        line = " | ".join(cells)
-        yield f"|{line.replace(' | ', '|')}|\n" if cells and line.startswith("---") else \
-            re.sub(r" {2,}", " ", f"| {line} |") + "\n"
+class Item(NamedTuple):
+    """What the page has of a rule: what is made, the text after it, and the lines of a list below."""
+    id: str
+    verdict: str
+    sentence: str
+    text: str
+    lines: str
+
+
+def items_in(text: str) -> Iterator[Item]:
+    """The items of rules of a list, or of a page."""
+    for item in re.findall(r"^- \*\*[A-Z]\d+\*\* .*\n(?:  .*\n)*", text, re.MULTILINE):
+        paragraph, begin, lines = item.partition("\n  - ")
+        if found := OF_RULE.fullmatch(" ".join(paragraph.split())):
+            yield Item(*found.groups(), begin[1:] + lines)
+
+
+def wrapped(text: str) -> str:
+    return textwrap.fill(" ".join(text.split()), 120, subsequent_indent="  ", break_long_words=False,
+                         break_on_hyphens=False) + "\n"
 
 
 def rules_in(letters: Iterable[str]) -> list[Rule]:
@@ -45,33 +60,36 @@ def rules_in(letters: Iterable[str]) -> list[Rule]:
     return [rule for letter in letters for rule in catalogue_of(FOLDER).rules if rule.letter == letter]
 
 
-def cells_of(rule: Rule) -> list[str]:
-    """The row of a rule."""
-    return [rule.id, rule.verdict, rule.said, rule.fields.get("where frames are missing", "")]
+def rule_item(rule: Rule, text: str = "", lines: str = "") -> str:
+    becomes = rule.fields.get("where frames are missing")
+    return wrapped(f"- **{rule.id}** {rule.verdict}{f' ({becomes})' if becomes else ''}: *{rule.said}* {text}") + lines
 
 
-def threshold_rows() -> Iterator[list[str]]:
-    yield from ([f"`{name}`", value_of(name), in_words(threshold.meaning)] for name, threshold in TABLE.items()
-                if threshold.meaning)
+def rule_items(letters: Iterable[str], there: str) -> str:
+    """The items of the rules of these letters, with what is there besides."""
+    items = {item.id: (item.text, item.lines) for item in items_in(there)}
+    return "".join(rule_item(rule, *items.get(rule.id, ())) for rule in rules_in(letters))
+
+
+def threshold_items() -> str:
+    return "".join(wrapped(f"- `{name}`, {value_of(name)}: {in_words(threshold.meaning)}")
+                   for name, threshold in TABLE.items() if threshold.meaning)
 
 
 def made(text: str) -> str:
-    """The page with the tables that it has to have."""
-    def table_in(found: re.Match) -> str:
-        head, rows = {"rules": (OF_RULES, map(cells_of, rules_in(found[2].split()))),
-                      "thresholds": (OF_THRESHOLDS, threshold_rows())}[found[1]]
-        return found[0].partition("\n")[0] + "\n" + "".join(table_of(head, rows))
-    return MADE.sub(table_in, text)
+    """The page with the items that it has to have."""
+    return MADE.sub(lambda found: found[1] + (
+        rule_items(found[3].split(), found[4]) if found[2] == "rules" else threshold_items()), text)
 
 
 def stale(text: str) -> Iterator[str]:
-    """The first line of a table that is another one than the files of rules make, and rules that no table has."""
-    for number, (line, due) in enumerate(zip(text.splitlines(), made(text).splitlines()), 1):
+    """The first line of an item that is another one than the files of rules make, and rules that the page has not."""
+    for number, (line, due) in enumerate(zip(text.splitlines(), [*made(text).splitlines(), ""]), 1):
         if line != due:
             yield f"{number}: checks/run rule_page -- --print writes {due!r}"
             break
-    there = {letter for found in MADE.finditer(text) for letter in found[2].split()}
-    yield from (f"no table has the rules {letter}" for letter in
+    there = {letter for found in MADE.finditer(text) for letter in found[3].split()}
+    yield from (f"no list has the rules {letter}" for letter in
                 sorted({rule.letter for rule in catalogue_of(FOLDER).rules} - there))
 
 

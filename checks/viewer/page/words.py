@@ -19,14 +19,14 @@ from checks.recorder.driver.kinds import SECRETS, TO_CLEAR
 from checks.viewer.page.columns import check_columns
 from checks.viewer.page.common import AT_END, stored, texts_of, view
 from checks.viewer.page.reports import check_harmless, shown_of
+from checks.viewer.rule_page import items_in
 from viewer.page.page import script_of
 
 
 def check_rules(made: pathlib.Path, fail: Fail) -> None:
     """Checks that the rules in docs/RULES.md are those of the database."""
     rows = sqlite3.connect(made).execute("SELECT id, verdict, text FROM rule").fetchall()
-    told = re.findall(r"^\| ([A-Z]\d+) \| (\w+) \| ([^|]*) \|", (ROOT / "docs/RULES.md").read_text("utf-8"),
-                      re.MULTILINE)
+    told = [(item.id, item.verdict, item.sentence) for item in items_in((ROOT / "docs/RULES.md").read_text("utf-8"))]
     compare("the rules of docs/RULES.md", sorted(told), sorted(rows), fail)
 
 
