@@ -5,14 +5,20 @@ import functools
 import pathlib
 import re
 import subprocess
-from typing import Callable, Iterable, Iterator
+from typing import Callable, Iterable, Iterator, NamedTuple
 
 from checks.kit.programs import ROOT, edits_of
+from checks.pages import lengths
 
 PAGE = ROOT / "docs/PROMISES.md"
 TRUST = ROOT / "docs/TRUST.md"
 CRATES = ROOT / "crates"
 NAMED = re.compile(r"`([^`]+)`")
+# What ends a promise: the functions with their clauses, and then the wrong bodies that are refused.
+BRACKET = re.compile(r"\(([^()]*)\)$")
+REFUSED = "refused: "
+# A part of a rung that has no promises.
+TESTS = "### What tests show"
 # What is called on this page and is no name of the sources: a lifetime.
 OTHER = re.compile(r"'\w+")
 # The rows on what proves, builds, links and runs.
@@ -32,6 +38,34 @@ def rows(text: str) -> Iterator[tuple[int, list[str]]]:
             yield number, [cell.strip() for cell in line.strip("|").split("|")]
 
 
+class Promise(NamedTuple):
+    """A promise of a rung: its line, and what its bracket has."""
+    line: int
+    clauses: str
+    refused: list[str]
+
+
+def promises(text: str) -> Iterator[Promise]:
+    """The items of the lists of the rungs."""
+    of_rung = promised = False
+    for line, piece in lengths.pieces(text):
+        if piece.startswith("## "):
+            of_rung = " rung" in piece
+        if piece.startswith("#"):
+            promised = of_rung and not piece.startswith(TESTS)
+        elif promised and piece.startswith("- "):
+            bracket = BRACKET.search(piece)
+            clauses, _, refused = (bracket[1] if bracket else "").partition(REFUSED)
+            yield Promise(line, clauses, NAMED.findall(refused))
+
+
+def without_clauses(text: str) -> Iterator[tuple[int, str]]:
+    """The promises that name neither a function nor what else has the clause."""
+    for promise in promises(text):
+        if not promise.clauses:
+            yield promise.line, "a promise without its function and clause, in brackets"
+
+
 # ---- wrong bodies
 
 
@@ -41,14 +75,11 @@ def stored() -> list[pathlib.Path]:
 
 
 def wrong_bodies(text: str) -> Iterator[tuple[int, str]]:
-    """The wrong bodies in the last column that no crate has, and those of crates that no row names."""
+    """The wrong bodies of promises that no crate has, and those of crates that no promise names."""
     there, told = {it.stem: it.parent.parent.name for it in stored()}, set()
-    for number, cells in rows(text):
-        for name in NAMED.findall(cells[-1]) if len(cells) == 3 else ():
-            if re.fullmatch(r"[a-z0-9]+(-[a-z0-9]+)+", name):
-                told.add(name)
-                if name not in there:
-                    yield number, f"no {name}.edit"
+    for promise in promises(text):
+        told.update(promise.refused)
+        yield from ((promise.line, f"no {name}.edit") for name in promise.refused if name not in there)
     for name in sorted(there.keys() - told):
         yield 1, f"nothing of {name}.edit of {there[name]}"
 
@@ -64,12 +95,11 @@ def words_of_sources() -> frozenset[str]:
 
 
 def wrong_names(text: str) -> Iterator[tuple[int, str]]:
-    """The functions, clauses and definitions in the middle column that no source names."""
-    first = text.splitlines().index("## How to read the tables")
-    for number, cells in rows(text):
-        for name in NAMED.findall(cells[1]) if number > first and len(cells) == 3 else ():
+    """The functions, clauses and definitions of promises that no source names."""
+    for promise in promises(text):
+        for name in NAMED.findall(promise.clauses):
             if not OTHER.fullmatch(name) and (lost := set(re.findall(r"\w+", name)) - words_of_sources() - {"laws"}):
-                yield number, f"no source names {' '.join(sorted(lost))}"
+                yield promise.line, f"no source names {' '.join(sorted(lost))}"
 
 
 def may_wait() -> Iterator[str]:
@@ -192,7 +222,7 @@ def wrong(page: pathlib.Path) -> Iterator[tuple[int, str]]:
         yield from wrong_count(text, "wrong bodies", r"(\d+) wrong changes of the code", len(stored()))
     if page == PAGE:
         checks: tuple[Callable[[str], Iterator[tuple[int, str]]], ...] = (
-            wrong_bodies, wrong_names, unnamed_libraries, wrong_sizes, wrong_counts)
+            without_clauses, wrong_bodies, wrong_names, unnamed_libraries, wrong_sizes, wrong_counts)
         for one in checks:
             yield from one(text)
         for file in may_wait():
