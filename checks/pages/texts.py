@@ -12,7 +12,7 @@ What must hold:
 - Each crate's page begins with a caller: lines of code that stand in a file of a crate above, or in a file of the crate
   itself if no other crate uses it.
 - Each wrong body that is stored for a crate names the one goal at which it is refused.
-- docs/PROMISES.md names each wrong body of each crate and no others, in its promises only names that are in the sources,
+- docs/PROMISES.md names each wrong body of each crate and no others, in its promises only names that the sources have,
   the libraries of the toolchain that the auditor stands on, and the sizes of what is trusted, up to a tenth.
   docs/TRUST.md has the number of wrong bodies.
 - README.md has the figures that docs/MEASURED.md has on the blind test, and docs/TRUST.md those on the second recorder.
