@@ -105,7 +105,12 @@ CREATE TABLE raw_frame(seq INTEGER PRIMARY KEY, place INTEGER NOT NULL, utid INT
 --   service      the id in raw_service of the name that comes after the interface android.os.IServiceManager in the
 --                data of a transaction; NULL without one
 -- The name of an interface is looked for in transactions whose code is one of a method: from 1 to 0x00ffffff, and for
--- HIDL also from 0x0f000000 to 0x0fffffff, where the methods of IBase are. docs/DATABASE.md has the forms of their data.
+-- HIDL also from 0x0f000000 to 0x0fffffff, where the methods of IBase are. Their data begin so, numbers with four bytes,
+-- the lowest first:
+--   Android 9 and before   the strict mode, a String16
+--   Android 10             the strict mode, the work source, a String16
+--   since Android 11       the strict mode, the work source, SYST, VNDR, RECO or UNKN as a number, a String16
+--   HIDL                   in ASCII the package with its version, two colons, the name, and a NUL
 -- A String16 is the number of its units, the units in UTF-16, a NUL unit, and zeros up to a multiple of four bytes. A
 -- name has at most 256 characters and is identifiers with dots between them, of letters, digits, _ and $. Other data
 -- may begin with a number and a text, so a name must also have a dot, and an I after the last dot, as in

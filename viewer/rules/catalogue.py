@@ -22,7 +22,7 @@ And what findings are called that no rule names otherwise, by their section and 
 
     -- calls open are called: calls without an answer
 
-Of this the tables `rule`, `title`, `if_missing` and `if_part` are made, and docs/RULES.md of it, too. The order of the
+Of this the tables `rule`, `title`, `if_missing` and `if_part` are made, and docs/RULES.md. The order of the
 files comes of their heads: of what they need of one another, and of lines `-- after: FILE, FILE`, where an order
 matters that no name shows. `-- after: the rules` is after all files with rules."""
 

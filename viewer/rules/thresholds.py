@@ -1,5 +1,5 @@
 """The thresholds of the rules, by the names that statements and sentences have for them: `:LONG` is 0.1 s. Times are in
-nanoseconds. The page says what they are by `in_words`, and docs/RULES.md has the table of those with a meaning."""
+nanoseconds. The page says what they are by `in_words`, and docs/RULES.md has those with a meaning."""
 
 import re
 from typing import NamedTuple
@@ -17,13 +17,13 @@ TABLE = {
     # Nothing younger is old or late (U2, U4, C1, H3); what is left undone so shortly before an end, or freed only then,
     # comes of that end (T1, W2); a thread that did something so shortly before it waits for no lock (C8, C9); and a
     # process that ends so shortly after another one does not end by itself (E9).
-    "LONG": Threshold(100_000_000, "a younger finding is neither old nor late; a finding in the last {LONG} before an"
-                      " end comes of that end", is_time=True),
+    "LONG": Threshold(100_000_000, "a younger finding is neither old nor late; one so short before an end comes of"
+                      " that end", is_time=True),
     # Long even for a single send or handle after the news of a death (E1, E2, H3), and for what waits for a busy pool
     # (C6, Q1, Q2). Up to here a buffer is also under way if no more frames came over it than over others (U1). A
     # process that ends in this last time of the recording ends with it (E9).
-    "VERY_LONG": Threshold(1_000_000_000, "long even for one send after the news of a death, or for a call that waits"
-                           " for a pool", is_time=True),
+    "VERY_LONG": Threshold(1_000_000_000, "long even for one send after the news of a death, or a wait for a pool",
+                           is_time=True),
     # Old is what has lasted over so many times as long as the longest completed one of its path (U2, C8), or
     # what waits for a pool so many times as long as the median (Q1).
     "OLD": Threshold(10, "an old finding has lasted over {OLD} times as long as the longest of the path"),
@@ -40,8 +40,7 @@ TABLE = {
     "NEARLY_ALL": Threshold(0.8, "this share of a path, or of a time, is nearly all of it"),
     # So many handles that one process handed over may be a leak (H5, H9), and so many that were let go of tell how long
     # one is needed (H8), or that the way is let go of still (H13, H14).
-    "MANY": Threshold(4, "so many kept handles of one way may be a leak; so many released ones show how long a handle"
-                      " is needed, or that others are let go of"),
+    "MANY": Threshold(4, "so many kept handles of a way may be a leak; so many released ones tell of the others"),
     # What was used in this last part of a time was used lately, and what grows does so in this last part (H5, H6, H8,
     # H9), by this share of what is held at its end.
     "LATELY": Threshold(0.5, "this last share of a time is lately"),
@@ -49,8 +48,8 @@ TABLE = {
     # So many are no design: sends of one thread to what has ended or is frozen (E11, E12), unused handles of one way
     # (H10, H14) and references to one object (H11) that become more to the end, and handles that their giver forgets
     # (H13).
-    "TOO_MANY": Threshold(10, "so many are no design: sends to what has ended or is frozen, unused handles of a growing"
-                          " way, references to one object"),
+    "TOO_MANY": Threshold(10, "so many are no design: sends to what has ended, unused handles, references to one"
+                          " object"),
     # So often the same request at one period is no accident: it asks for what has not changed (V3).
     "AGAIN": Threshold(20, "the same request so often, at one period, is polling"),
     # Sends that are evenly spaced and faster than they are taken wait six times as long in the last quarter as in the
@@ -61,8 +60,8 @@ TABLE = {
     # than the rest of it is not in use (H10).
     "MOST": Threshold(0.5, "the kept handles of a way are a cache if more than this share is in use"),
     # What a process took in the first quarter of its time is kept by design if nothing came for so long since (H5, H6).
-    "SETTLED": Threshold(10_000_000_000, "what a process took when it started is kept by design if for so long nothing"
-                         " more came", is_time=True),
+    "SETTLED": Threshold(10_000_000_000, "what a process took at its start is kept by design if nothing came for so"
+                         " long", is_time=True),
 
     # -- How far statements look.
     # `later` of a finding rises up to here, and so many calls, or frames, after it are looked at.

@@ -1,5 +1,5 @@
-"""The names of interfaces and services that payloads hold: viewer/database/schema.sql, above raw_record, and the forms
-in docs/DATABASE.md#names-of-interfaces."""
+"""The names of interfaces and services that payloads hold, by the forms in viewer/database/schema.sql, above
+raw_record."""
 
 import re
 
