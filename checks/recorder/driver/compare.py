@@ -12,7 +12,7 @@ import tempfile
 from collections import Counter, defaultdict
 
 from checks.recorder.driver import books as books_of
-from checks.recorder.driver.kinds import CHANGED, KINDS, OF_CHANGING, PARTIAL, lines_of, whole
+from checks.recorder.driver.kinds import CHANGED, GOES_ON, KINDS, OF_CHANGING, PARTIAL, lines_of, whole
 from checks.recorder.driver.recording import Recording, Report, report_on
 from checks.recorder.driver.sections import both
 
@@ -49,6 +49,8 @@ class Scenario:
             self.how = "narrow"
         if self.how == "stored" and self.recording.met:
             self.how = "before"
+        if self.how == "stored" and self.name in GOES_ON:
+            self.how = "beyond"
         self.books = books_of.texts(folder) if (folder / "state").exists() else None
 
     @property

@@ -324,6 +324,28 @@ RULES_BEFORE = {"P2": 5, "H7": 1, "H6": 1, "H2": 1, "H1": 1, "F2": 1, "D4": 1}
 FACTS_BEFORE = {"books_doubt": None, "books_compared": 5, "books_left_out": 0}
 
 
+# ---- sends that are refused in the recording, and go on after it
+
+GOES_ON = {"refusals"}
+NO_HANDLE, NO_SPACE = 22, 28  # errors in the log
+FEW_REFUSED = 3  # with the first one
+
+
+def reason_differences(scenario):
+    """Each refused send has its reason from the driver's log, which has others from after the recording. The driver in
+    Rust has no log."""
+    with database_of(scenario.folder) as database:
+        def count(of):
+            return database.execute(f"SELECT count(*) FROM {of}").fetchone()[0]
+        refused, logged = count("raw_send WHERE refused NOTNULL"), count("side_failed")
+        came = dict(database.execute("SELECT errno, count(*) FROM refusal GROUP BY 1"))
+    due = {} if scenario.driver == "Rust" else {NO_HANDLE: FEW_REFUSED, NO_SPACE: refused - FEW_REFUSED}
+    if came != due:
+        yield "reasons", "all", "known", came, due
+    if scenario.driver == "C" and logged <= refused:
+        yield "reasons", "all", "later", logged, refused
+
+
 # ---- a process that changes its writes under way
 
 CHANGED, CHANGING = ("changed-record", "changed-inside"), "changing"  # the scenarios, and the process
@@ -396,7 +418,7 @@ SAYS = {
 
 
 # How it is recorded if the recorder does not record all, from beginning to end.
-PARTIAL = {"late", "hidden", "before", "killed", "stopped", "full", "narrow", "flight", "hoard", "kept"}
+PARTIAL = {"late", "hidden", "before", "beyond", "killed", "stopped", "full", "narrow", "flight", "hoard", "kept"}
 MOST_AFTER = 200_000_000  # nanoseconds from the last frame to the end, if the scenario goes on after it
 MOST_CUT = 8192  # bytes of a last frame of the load that a killed recorder may leave cut
 
@@ -471,8 +493,9 @@ KINDS = [
     Kind("", played("flight"), lambda it: flight_differences(it.recording, it.folder)),
     Kind("", played("kept"), kept_differences),
     Kind("", played("hoard"), lambda it: hoard_differences(it.output, it.folder)),
-    Kind("", played("flight", "hoard", "before", "kept"), status_differences),
+    Kind("", played("flight", "hoard", "before", "beyond", "kept"), status_differences),
     Kind("view", lambda it: partial(it) and it.name == "before", lambda it: view_differences(it.folder)),
+    Kind("reasons", played("beyond"), reason_differences),
     Kind("purpose capture status names books", whole, lambda it: purpose_differences(it.name, it.report, it.recording)),
     Kind("lost", whole, lambda it: lost_differences(it.recording)),
     Kind("senders", whole, lambda it: sender_differences(it.recording)),

@@ -10,7 +10,8 @@ from checks.recorder.driver import books
 from checks.recorder.driver.recording import Recording, report_on
 
 LARGEST = 200_000  # bytes of a capture with its side list
-WAYS = ("both", "record", "redact", "narrow", "before", "stacks", "frameless", "two-drivers")  # to record a scenario
+# The ways to record a scenario of which something is stored.
+WAYS = ("both", "record", "redact", "narrow", "before", "alive", "beyond", "stacks", "frameless", "two-drivers")
 
 
 def store_symbols(program, folder):

@@ -7,7 +7,10 @@
 #   late     by a recorder that is started while the scenario is at work
 #   before   by a recorder that is started when the scenario has made the file `ready`, and stopped when it has made
 #            `rested`
-#   hidden   the same where the kernel hides its addresses
+#   alive    by a recorder that is started before the scenario, and stopped when that has made the file `rested`: so all
+#            processes are alive at the end of the recording
+#   beyond   the same, where the scenario goes on after that
+#   hidden   as `late`, where the kernel hides its addresses
 #   killed   by a recorder that is killed while the scenario is at work
 #   stopped  by a recorder that is stopped for some seconds while the scenario is at work
 #   full     the same with a small ring, so that numbers are lost for lack of room
@@ -21,8 +24,7 @@
 #   hoard    by the recorder only, which keeps the newest 4 files of 8 MiB; `memory` is how much it had at most
 #   blind    by the recorder only, a session of a blind test set: ../driver/blind.py
 #   blind-before  the same as `before`
-#   blind-live  by a recorder that is started before the session, and stopped when that has made the file `rested`: so
-#            all processes are alive at the end of the recording
+#   blind-live  the same as `alive`
 #   traced   by the recorder only, beside Perfetto's service, which traces the scheduler meanwhile into `system.pftrace`
 #   traced-long  the same, where the trace is written piece by piece, with flushes
 #   kept     by the recorder only, which keeps the newest 4 files of 1 MiB, and a set of them when a call has been open for
@@ -196,6 +198,7 @@ play() { # HOW SCENARIO [NUMBER]
 	hoard) newest_files 8388608 watch_memory;;
 	late) background TERM;;
 	before) before /scenarios.static;;
+	alive | beyond) live /scenarios.static;;
 	blind) /record $more -o $here/capture -- /blind $scenario $here $number;;
 	blind-before) before /blind;;
 	blind-live) live /blind;;

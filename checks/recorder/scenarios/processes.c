@@ -102,6 +102,12 @@ void wait_for_file(const char *name)
 	}
 }
 
+void rest_until_stopped(void)
+{
+	make_file("rested");
+	wait_for_file("stop");
+}
+
 static void add_file(const char *from, const char *to)
 {
 	static char buffer[1 << 16];

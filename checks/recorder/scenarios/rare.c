@@ -1,6 +1,5 @@
 /* The scenario rare: a client makes 500 calls a second for `scale` seconds, and in the middle of them a call of another
  * client is answered only after 12 seconds. */
-#include <sys/ioctl.h>
 #include <time.h>
 #include <unistd.h>
 #include "service.h"
@@ -16,12 +15,8 @@ static void serve_late(struct exchange *exchange, transaction *delivered)
 
 static void late_service(void)
 {
-	struct exchange *exchange = registered(serve_late);
-	uint32_t most = 4;
 	alarm(0);
-	exchange->opening->spawn = spawn_thread;
-	if (ioctl(exchange->opening->descriptor, BINDER_SET_MAX_THREADS, &most) < 0) fail("BINDER_SET_MAX_THREADS");
-	ready_to_serve(exchange);
+	serve_with_pool(serve_late);
 }
 
 static void late_manager(void) { alarm(0); manager(); }
