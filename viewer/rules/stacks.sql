@@ -42,8 +42,11 @@ UNION ALL SELECT f.id, 1, min(s.place), 'the first send that handed it over'
 FROM finding f JOIN raw_object o ON o.binder = f.ptr AND o.sort IN (:BINDER, :WEAK_BINDER)
   JOIN raw_send s ON s.place = o.place JOIN raw_thread t ON t.utid = s.utid AND t.upid = f.upid
 WHERE f.section = 'nodes' AND f.what <> 'balanced' AND EXISTS (SELECT 1 FROM side_call) GROUP BY f.id
--- The record itself.
-UNION ALL SELECT f.id, 3, f.place,
+-- The record itself. What libbinder takes as it serves a call, and writes with the reply, its own functions write alone:
+-- that stack comes after the one of the send.
+UNION ALL SELECT f.id, iif(EXISTS (SELECT 1 FROM raw_generation g JOIN raw_call c ON c.place = g.given_by AND c.served
+    JOIN raw_record a ON a.place = c.closer JOIN raw_record o ON o.place = f.place AND o.seq = a.seq
+    WHERE g.id = f.generation), 5, 3), f.place,
   iif(f.section IN ('handles', 'frees'), 'the call that wrote it, which may be a later one', 'its own call')
 FROM finding f WHERE f.what <> 'balanced' AND EXISTS (SELECT 1 FROM side_call);
 

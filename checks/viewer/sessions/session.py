@@ -65,10 +65,11 @@ class Thread:
         self.reads(delivery, attached=(0, body, listed) if seen else None)
         return address
 
-    def replies(self, free=None, body=b"", listed=b"", flags=0):
+    def replies(self, free=None, body=b"", listed=b"", flags=0, taken=()):
+        """Replies, in one write with what it has taken and the free of a buffer."""
         sent = Sent(self, 0, flags, body, listed)
-        freed = each_long(BC_FREE_BUFFER, free) if free else []
-        self.writes(*freed, sent.record(BC_REPLY), attached=(len(freed), body, listed))
+        before = [*taken, *(each_long(BC_FREE_BUFFER, free) if free else ())]
+        self.writes(*before, sent.record(BC_REPLY), attached=(len(before), body, listed))
         self.reads(DONE)
         return sent
 

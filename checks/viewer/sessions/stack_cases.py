@@ -67,16 +67,20 @@ def handle_of_reply(s):
 
 @case("H4:1", "finding_stack 1: 8, the call that wrote it, which may be a later one",
       "finding_stack 2: 7, the send that gave the handle")
-def handle_of_send(s):
-    """A client hands an object over to a service, which takes it twice."""
+@case("H4:1", "finding_stack 1: 7, the send that gave the handle",
+      "finding_stack 2: 8, the call that wrote it, which may be a later one", with_reply=True)
+def handle_of_send(s, with_reply=False):
+    """A client hands an object over to a service, which takes it twice, as it serves or with the reply."""
     service, client = s.two()
     body, listed = node_object(0x9100), offsets(0)
     s.with_stack(7)
     sent = client.main.sends(0, 4, body=body, listed=listed)
     s.with_stack(8)
     address = service.main.gets(sent, 0, of_handle(2, 1))
-    service.main.writes(*each(BC_ACQUIRE, 1, 1))
-    client.main.answered(service.main.replies(address))
+    taken = each(BC_ACQUIRE, 1, 1)
+    if not with_reply:
+        service.main.writes(*taken)
+    client.main.answered(service.main.replies(address, taken=taken if with_reply else ()))
     s.wait(300)
 
 
