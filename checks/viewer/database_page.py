@@ -15,8 +15,9 @@ from checks.kit.programs import ROOT
 from checks.viewer.table_catalogue import Catalogue, Column, Columns, Wrong, catalogue
 
 PAGE = ROOT / "docs/DATABASE.md"
-# What is made of the line before it goes to the next heading of a section, or to the end of a list.
-TABLES = re.compile(r"^(<!-- tables((?:\s\w+)+) -->\n)(?:(?!## ).*\n)*", re.MULTILINE)
+# A section that has tables: the heading, what comes before them, and they, up to the next heading. And a list that goes
+# to its end.
+TABLES = re.compile(r"^(## (.*)\n(?:(?!## |<!-- ).*\n)*<!-- tables -->\n)(?:(?!## ).*\n)*", re.MULTILINE)
 COMMON = re.compile(r"^(<!-- columns -->\n)(?:(?:- |  ).*\n)*", re.MULTILINE)
 
 
@@ -59,22 +60,23 @@ def section_of(told: Catalogue, name: str) -> str:
 def made(text: str, told: Catalogue) -> str:
     """The page with the tables that it has to have."""
     def tables_in(found: re.Match) -> str:
-        return found[1] + "\n" + "".join(section_of(told, name) for name in found[2].split() if name in told.said)
+        return found[1] + "\n" + "".join(section_of(told, name) for name in told.sections.get(found[2], []))
 
     page = TABLES.sub(tables_in, text).rstrip("\n") + "\n"
     return COMMON.sub(lambda found: found[1] + "".join(map(item_of, told.common)), page)
 
 
 def wrong(text: str, told: Catalogue) -> Iterator[str]:
-    """The first line that is another one, and tables that the page names never, twice, or without need."""
+    """The first line that is another one, and sections that the page has not, or that have no tables."""
     for number, (line, due) in enumerate(zip(text.splitlines(), [*made(text, told).splitlines(), ""]), 1):
         if line != due:
             yield f"{number}: checks/run database_page -- --print writes {due!r}"
             break
-    names = [name for found in TABLES.finditer(text) for name in found[2].split()]
-    yield from (f"nothing of {name}" for name in sorted(told.said.keys() - {*names}))
-    yield from (f"{name} twice" for name in sorted({*names}) if names.count(name) > 1)
-    yield from (f"{name} is no table and no view" for name in sorted({*names} - told.said.keys()))
+    placed = {name for names in told.sections.values() for name in names}
+    yield from (f"nothing of {name}, which is in no section" for name in sorted(told.said.keys() - placed))
+    headings = {found[2] for found in TABLES.finditer(text)}
+    yield from (f"no section {heading}" for heading in told.sections if heading not in headings)
+    yield from (f"no tables for {heading}" for heading in sorted(headings - told.sections.keys()))
 
 
 def judge(given: argparse.Namespace, *_: object) -> Iterator[str]:

@@ -8,6 +8,7 @@ A row of the table `about` says what a table or view rests on, and what a row of
       --   **seq**, place: what these columns mean
       --   direction (text): what this one means
 
+A line `-- ## HEADING` before a row begins a section of the page; `about`, which has no row of its own, comes last.
 Lines with three spaces have columns, in their order, and go on in the next line, five spaces in. In bold is the key of
 a view; a table has its own. One type, at the end, is that of all in the line. Without a type a column has that which
 the head of the file says for its name, or is an integer. Columns of which nothing more is to say have no line."""
@@ -24,6 +25,7 @@ from viewer.rules.judging import judge
 
 ABOUT = ROOT / "viewer/database/about.sql"
 COMMON = re.compile(r"^-- Columns that many tables have:\n((?:--.*\n)*)", re.MULTILINE)
+SECTION = re.compile(r"^-- ## (.*)\n((?:(?!-- ## ).*\n)*)", re.MULTILINE)
 OF_TABLE = re.compile(r"^  \('(\w+)', '\w+',\s*'(?:[^']|'')*'\)[,;]\n((?:  --.*\n)*)", re.MULTILINE)
 COLUMN = re.compile(r"(\*\*)?(\w+)(?:\*\*)?(?: \((\w+)\))?")
 # What SQLite calls the types.
@@ -52,8 +54,9 @@ class Wrong(Exception):
 
 
 class Catalogue(NamedTuple):
-    """The columns that many tables have, and for each table the line and what is said."""
+    """The columns that many tables have, for each section its tables, and for each table the line and what is said."""
     common: list[Columns]
+    sections: dict[str, list[str]]
     lines: dict[str, str]
     said: dict[str, Said]
 
@@ -173,7 +176,7 @@ def whole(said: Said, there: There) -> Iterator[str | Columns]:
 
 
 def catalogue_of(path: pathlib.Path) -> Catalogue:
-    """What the file says of each table, and of `about`, which has no row of its own."""
+    """What the file says of each table."""
     text, database = path.read_text("utf-8"), empty_database()
     found = COMMON.search(text)
     common = [part for part in said_in(found[1] if found else "") if isinstance(part, Columns)]
@@ -186,7 +189,9 @@ def catalogue_of(path: pathlib.Path) -> Catalogue:
             said[name] = list(whole(list(said_in(of_table)), There(database, name, types_in(common))))
         except Wrong as what:
             raise Wrong(f"{name}: {what}") from None
-    return Catalogue(common, lines, said)
+    sections = {heading: [name for name, _ in OF_TABLE.findall(rows)] for heading, rows in SECTION.findall(text)}
+    sections[[*sections][-1]].append("about")
+    return Catalogue(common, sections, lines, said)
 
 
 @functools.cache

@@ -24,6 +24,7 @@
 CREATE TABLE about(name TEXT PRIMARY KEY, rests_on TEXT NOT NULL
   CHECK (rests_on IN ('bytes', 'rule', 'proved', 'side', 'inferred')), text TEXT NOT NULL) STRICT;
 INSERT INTO about VALUES
+-- ## The capture, processes and threads
   ('capture', 'bytes', 'facts, by their keys'),
   --   key (text), value (any)
   --
@@ -71,6 +72,8 @@ INSERT INTO about VALUES
   --   last_record, last_write: its last record, and its last one in a write
   --   bits: 32 or 64, of its calls
   ('who', 'side', 'the name and the number of a process'),
+
+-- ## Frames and records
   ('frame', 'bytes', 'what one call wrote or read; ts is of the side list'),
   --   **seq**, place, utid, upid: `place` is that of the frame header
   --   direction (text): `write` or `read`
@@ -107,6 +110,8 @@ INSERT INTO about VALUES
   --   **place**, seq, device, process, thread, kind, handle
   --   ptr, cookie (text): hexadecimal
   --   address, interface (text): the address is hexadecimal
+
+-- ## Calls, sends and buffers
   ('call', 'rule', 'a call; place, closer and verdict are proved for the list of its thread; delivery is inferred'),
   -- A call that is made and served has two rows: `FROM call c JOIN call s ON s.place = c.delivery`.
   --   **place**, seq, utid, upid: the opener
@@ -124,8 +129,8 @@ INSERT INTO about VALUES
   --   outcome: of a call answered, failed, crossed or open; of a oneway send delivered, confirmed or unknown; of both
   --     refused
   --   error (text): the record by which it was refused or failed, for example BR_DEAD_REPLY
-  --   wait, dur (ns): to the delivery, and to the answer. `wait` may be a little below 0, as several
-  --     processors have times
+  --   wait, dur (ns): to the delivery, and to the answer. `wait` may be a little below 0: times come
+  --     from several processors
   --   device (text): for example `hwbinder`
   --   client_uid (integer), client_package (text), server_uid (integer), server_package (text): user ids of both
   --     processes, and packages of these users
@@ -229,6 +234,8 @@ INSERT INTO about VALUES
   -- `call` with the verdict `open`. Without ended ones, as on the page: `WHERE upid NOT IN (SELECT upid FROM process,
   -- capture WHERE key = 'last_seq' AND ended_after <= value)`.
   --   **upid**, **slice**
+
+-- ## Handles and nodes
   ('handle', 'inferred',
     'a generation of a handle; acquired to decrefs, strong and weak are proved for the list of its records'),
   --   **generation**, upid, handle, n: `n` counts the generations of a number
@@ -276,6 +283,8 @@ INSERT INTO about VALUES
   --   **upid**, who, uid
   --   calls, oneway, failed, bytes (integer): sends, and the bytes of their data
   --   sends_per_s, bytes_per_s (real)
+
+-- ## Names of methods and services
   ('method', 'inferred', 'a method of an interface, by --methods, or built in'),
   -- [Methods](PAGE.md#names-of-methods) of interfaces that the capture names, and of `android.os.IBinder`.
   --   source: where it is from; `-` of a table that says no more
@@ -288,6 +297,8 @@ INSERT INTO about VALUES
   --   registered: where its process registered it; NULL if the name is inferred
   --   n, others: how many sends to the manager say so, and how many another name
   --   rests_on: `bytes` if registered; `inferred` if the manager answered a request for the name with it
+
+-- ## Findings
   ('report', 'proved', 'the report, word for word'),
   --   section: `head` for the title, the totals and the heads of sections
   --   text: the row
@@ -366,6 +377,8 @@ INSERT INTO about VALUES
   --   caller, server (text)
   --   oneway, sends, failed, refused, open, bytes, buffers (integer)
   --   longest (ns)
+
+-- ## From the side list
   ('side_lost', 'side', 'a frame that was lost, and why'),
   --   seq, device, process, thread: NULL if nothing of the frame came through
   --   why: [the reason](SIDE-LIST.md#frames-and-losses)
@@ -392,6 +405,8 @@ INSERT INTO about VALUES
   --   path, build_id (text): `path` is NULL where nothing is mapped, and empty where no file is
   --   address: `pc` as the file's symbols count
   --   function, source (text): NULL without `--symbols`
+
+-- ## From the driver's books
   ('book', 'side', 'a copy of one of the driver''s books'),
   --   moment, what: `begin` or `end`; `state`, `transactions` or `stats`
   --   from_seq, after, ts: [the numbers](SIDE-LIST.md#the-recording) between which it was copied
