@@ -35,6 +35,7 @@ list, of one device and of two, in parts and malformed:
 - In Perfetto's format findings are on tracks of their own, with flows; calls have their stacks; names are told once.
 - With the names of Android each transaction and its delivery have them, and say what is called.
 - A narrowed timeline has the slices of its thread, process and frames, and the counters of the whole one.
+- A long timeline, which several processes write, has the same events in the same order as that of one process.
 - Names from a stranger are data. An existing file is not overwritten; only the owner can read a timeline; SIGTERM and
   a full disk leave nothing; a malformed capture has what comes before its fault, and status 2. The process that reads
   the database ends with the timeline, also if it was killed.
@@ -69,6 +70,7 @@ from checks.viewer.page.common import loaded, on_one_clock, stored, texts_stored
 from checks.viewer.timeline.browser import Pictured, make_picture, read_in_chromium
 from checks.viewer.timeline.compared import CERTAIN, SLICES, check_json, check_packets, places
 from checks.viewer.timeline.cost import print_cost
+from checks.viewer.timeline.in_parts import check_part_that_fails, check_parts, check_parts_killed, has_child
 from checks.viewer.timeline.perfetto import ask_perfetto
 from checks.viewer.timeline.read import Read
 from checks.viewer.timeline.read_json import ReadJson, nanoseconds
@@ -135,6 +137,7 @@ def check_sample(folder: pathlib.Path, room: pathlib.Path, files: list[pathlib.P
             check_narrow(f"{what}, {name}", database, room / name, fail)
     if files[0].parent.name in ("threads", "oneway", "hello-sessions"):
         check_android(what, database, room, fail)
+    check_parts(what, database, room, fail)
     database.close()
 
 
@@ -506,14 +509,6 @@ def check_stopped(folder: pathlib.Path, room: pathlib.Path, fail: Fail) -> None:
         compare(f"{name}, stopped at {at}", (ended.returncode, ended.stderr, left), (*due, ["tmp"]), fail)
 
 
-def has_child() -> bool:
-    try:
-        os.waitpid(-1, os.WNOHANG)
-        return True
-    except ChildProcessError:
-        return False
-
-
 def check_reader(folder: pathlib.Path, room: pathlib.Path, fail: Fail) -> None:
     """No process is left after a narrowed timeline, for which not all rows need be read, and after one of a database
     that lacks a table, which ends with an error."""
@@ -558,6 +553,17 @@ def check_killed(_: pathlib.Path, __: pathlib.Path, fail: Fail) -> None:
             (-signal.SIGKILL, False), fail)
 
 
+def check_in_parts(folder: pathlib.Path, room: pathlib.Path, fail: Fail) -> None:
+    """Times that go back, frames without one, deliveries before their sends: in parts, too. And what can fail."""
+    database = loaded(folder, room / "parts.db", *WITH_FILES["oneway"])
+    database.execute("UPDATE side_time SET ts = ts - 3000000 WHERE seq % 7 = 3")
+    database.execute("DELETE FROM side_time WHERE seq % 11 = 5")
+    check_parts("times that go back", database, room, fail)
+    check_part_that_fails(database, room, fail)
+    database.close()
+    check_parts_killed(room / "parts.db", room, fail)
+
+
 def check_remembered(folder: pathlib.Path, room: pathlib.Path, fail: Fail) -> None:
     """A timeline is the same if little is remembered of what is called, so that what was told has to be told again."""
     database = loaded(folder, room / "remembered.db", *WITH_FILES["hello-sessions"])
@@ -580,7 +586,7 @@ def parts() -> Iterator[Part]:
     yield Part("sample/ends", check_sample, ([DRIVER / "ends/capture-1.cap"], None))
     yield from parts_of(check_small, check_words, check_malformed, check_hostile, check_clock, check_early,
                         check_instants_last, check_reused, check_order, check_stopped, check_reader, check_killed,
-                        check_remembered)
+                        check_in_parts, check_remembered)
 
 
 def picture_of_sample(room: pathlib.Path, viewer: str, picture: pathlib.Path) -> None:

@@ -1,5 +1,6 @@
 """What a timeline is made of, in whatever format: tracks of threads, and what is on them."""
 
+import heapq
 from typing import Any, Mapping, NamedTuple, Protocol
 
 from viewer.timeline.tracks import Track, Tracks
@@ -50,7 +51,7 @@ class Process(Track):
     """What a process holds: the values of its counters now, and as they are shown, and its strong references by handle.
     `touched` has a bit for each counter that may not be as it is shown. `head` is how events name the process in the
     format; None if it is not shown."""
-    __slots__ = "upid", "head", "now", "shown", "touched", "strong"
+    __slots__ = "upid", "head", "now", "shown", "touched", "strong", "queued"
 
     def __init__(self, upid: int):
         super().__init__()
@@ -59,6 +60,14 @@ class Process(Track):
         self.now, self.shown = [0] * len(COUNTERS), [0] * len(COUNTERS)
         self.touched = 0
         self.strong: dict[int, int] = {}
+        # When each lane of its queue is free again, and the number of the lane.
+        self.queued: list[tuple[int, int]] = []
+
+    def lane_of_queue(self, begin: int, end: int) -> int:
+        """A lane of its queue that is free for a slice of this time."""
+        lane = heapq.heappop(self.queued)[1] if self.queued and self.queued[0][0] < begin else len(self.queued)
+        heapq.heappush(self.queued, (end, lane))
+        return lane
 
     def changed(self) -> list[tuple[int, int]]:
         """The counters that are not as they are shown, by their numbers, with their values. They are shown now."""
@@ -135,15 +144,18 @@ class Events(Protocol):
     def count(self, process: Process, ns: int) -> int:
         """The counters of a process that are not as they are shown. Returns how many these are."""
 
-    def queue(self, thread: Thread, called: Own, place: int, begin: int, end: int,
+    def queue(self, thread: Thread, called: Own, lane: int, place: int, begin: int, end: int,
               fields: Mapping[str, object]) -> None:
-        """How long a oneway transaction waited, in the process that gets it."""
+        """How long a oneway transaction waited, in the process that gets it, and in which lane of its queue."""
 
     def end_frame(self) -> None:
         """All that a frame has was told. It is called if the frame has an instant."""
 
     def flush(self) -> None:
         """Hands over what was made."""
+
+    def go_on(self) -> None:
+        """Begins a part of the file that follows others: what the first one has for all of them is not told again."""
 
     def finish(self, told: dict[str, object]) -> None:
         """The end, and what the timeline says of itself."""

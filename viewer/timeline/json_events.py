@@ -169,7 +169,7 @@ class JsonEvents:
             self.events += [f"{heads[at]}{value}{tail}" for at, value in changed]
         return len(changed)
 
-    def queue(self, thread: Thread, called: JsonCalled, place: int, begin: int, end: int,
+    def queue(self, thread: Thread, called: JsonCalled, lane: int, place: int, begin: int, end: int,
               fields: Mapping[str, object]) -> None:
         named = f'"cat":"queue","id":{place},"name":"queue {called.label}"'
         self.events.append(f'{{"ph":"b",{thread.head}{self.time(begin)},{named},'
@@ -188,6 +188,10 @@ class JsonEvents:
             self.file.add(encoded(self.between + ",\n".join(self.events)))
             self.events.clear()
             self.between = ",\n"
+
+    def go_on(self) -> None:
+        self.events.clear()
+        self.between = ",\n"
 
     def finish(self, told: dict[str, object]) -> None:
         self.end_frame()

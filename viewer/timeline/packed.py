@@ -1,26 +1,84 @@
 """The file of a timeline."""
 
-import pathlib
+import shutil
 import zlib
 from concurrent.futures import Future, ThreadPoolExecutor
-from typing import Callable
+from typing import IO, Callable, Protocol
 
-from viewer.files import for_owner
+from viewer.timeline.sums import Sum
+
+# What a file of gzip begins with: how it is packed, no name and no time, made on Unix.
+GZIP_BEGIN = b"\x1f\x8b\x08\0\0\0\0\0\0\x03"
+
+# How hard gzip packs.
+LEVEL = 2
+
+
+class Packing(Protocol):
+    """How the bytes of a file are packed. The file may have parts that other processes have packed in the same way."""
+
+    # What is packed up to now.
+    sum: Sum
+
+    # What the file begins with.
+    begin: bytes
+
+    def pack(self, data: bytes) -> bytes: ...
+
+    def end_of_part(self) -> bytes:
+        """What has to be written before a part of another process can follow."""
+
+    def end(self) -> bytes: ...
+
+
+class Gzip:
+    """As gzip does, as a whole. A part ends with whole bytes, and what follows it refers to nothing before."""
+    begin = GZIP_BEGIN
+
+    def __init__(self) -> None:
+        self.packer = zlib.compressobj(LEVEL, zlib.DEFLATED, -zlib.MAX_WBITS)
+        self.sum = Sum()
+
+    def pack(self, data: bytes) -> bytes:
+        self.sum = self.sum.with_data(data)
+        return self.packer.compress(data)
+
+    def end_of_part(self) -> bytes:
+        return self.packer.flush(zlib.Z_FULL_FLUSH)
+
+    def end(self) -> bytes:
+        crc, length = self.sum
+        return self.packer.flush() + crc.to_bytes(4, "little") + (length % 2**32).to_bytes(4, "little")
+
+
+class Pieces:
+    """Piece by piece, each by itself."""
+    begin, sum = b"", Sum()
+
+    def __init__(self, pack: Callable[[bytes], bytes]):
+        self.pack = pack
+
+    def end_of_part(self) -> bytes:
+        return b""
+
+    def end(self) -> bytes:
+        return b""
 
 
 class File:
-    """A new file, for its owner only, packed by gzip as a whole, or part by part by `pack`. It is written in a thread
-    of its own: while some events are packed, the next ones are made."""
+    """A file, or a part of one. It is written in a thread of its own: while some events are packed, the next ones are
+    made."""
 
-    def __init__(self, path: pathlib.Path, pack: Callable[[bytes], bytes] | None = None):
-        self.file = open(path, "xb", opener=for_owner)
-        self.packer = zlib.compressobj(2, zlib.DEFLATED, 31)
-        self.pack, self.is_stream = pack or self.packer.compress, pack is None
+    def __init__(self, file: IO[bytes], packing: Packing):
+        self.file, self.packing = file, packing
         self.thread = ThreadPoolExecutor(1)
         self.writing: Future[None] | None = None
 
+    def begin(self) -> None:
+        self.file.write(self.packing.begin)
+
     def write(self, data: bytes) -> None:
-        self.file.write(self.pack(data))
+        self.file.write(self.packing.pack(data))
 
     def wait(self) -> None:
         """Waits until what was handed over is written."""
@@ -31,8 +89,23 @@ class File:
         self.wait()
         self.writing = self.thread.submit(self.write, data)
 
+    def end_part(self) -> Sum:
+        """The end of a part. Returns the sum of what it has."""
+        self.wait()
+        self.file.write(self.packing.end_of_part())
+        self.file.flush()
+        return self.packing.sum
+
+    def append(self, part: IO[bytes], of: Sum) -> None:
+        """Puts in a part that another process has packed."""
+        part.seek(0)
+        shutil.copyfileobj(part, self.file, 2**20)
+        self.packing.sum = self.packing.sum.followed_by(of)
+
+    def end(self) -> None:
+        self.wait()
+        self.file.write(self.packing.end())
+
     def close(self) -> None:
         with self.file, self.thread:
             self.wait()
-            if self.is_stream:
-                self.file.write(self.packer.flush())

@@ -4,8 +4,6 @@ Messages and fields have the names that they have in `protos/perfetto/trace` of 
 """
 
 import hashlib
-import heapq
-import itertools
 import sqlite3
 import zlib
 from operator import call
@@ -56,6 +54,7 @@ COUNTER_TRACKS = (("binder buffers held", UNIT_COUNT), ("binder buffer bytes", U
 
 # The tracks above those of the processes.
 FINDINGS, OTHERS = "binder_audit: {}", "binder_audit: of no process"
+OTHER_TRACKS = FINDINGS.format("real"), FINDINGS.format("maybe"), OTHERS
 
 # The number of this sequence of packets: "BIND". Those of `traced` count from 1. Processes and threads are told on one
 # of their own: the last thread of a sequence counts as that of its events, so Perfetto would make this thread and its
@@ -94,6 +93,34 @@ def extras(tracks: list[tuple[bytes, bytes, bytes]], changed: list[tuple[int, in
     return more + zeros
 
 
+class Numbers:
+    """The numbers of the tracks of a recording: the same in each part of its trace, whatever parts tell of before."""
+
+    def __init__(self, first: int, tracks: Tracks):
+        self.processes = 1 + max((row.upid for row in tracks.processes), default=0)
+        self.threads = 1 + max(tracks.upid_of, default=0)
+        self.of_others = first
+        self.of_processes = self.of_others + len(OTHER_TRACKS)
+        self.of_threads = self.of_processes + self.processes
+        self.of_counters = self.of_threads + self.threads
+        self.of_queues = self.of_counters + self.processes * len(COUNTER_TRACKS)
+
+    def of_other(self, name: str) -> int:
+        return self.of_others + OTHER_TRACKS.index(name)
+
+    def of_process(self, upid: int) -> int:
+        return self.of_processes + upid
+
+    def of_thread(self, utid: int) -> int:
+        return self.of_threads + utid
+
+    def of_counter(self, upid: int, counter: int) -> int:
+        return self.of_counters + upid * len(COUNTER_TRACKS) + counter
+
+    def of_queue(self, upid: int, lane: int) -> int:
+        return self.of_queues + lane * self.processes + upid
+
+
 class PacketCalled:
     """What is called: the begin of a slice of each sort, with its other arguments, and its name."""
     __slots__ = "begins", "label", "called"
@@ -116,7 +143,7 @@ class Packets:
         facts = database.execute("SELECT key, value FROM capture WHERE key IN ('begin_ts', 'realtime', 'bytes',"
                                  " 'records') ORDER BY key").fetchall()
         self.recording = int.from_bytes(hashlib.blake2b(repr(facts).encode(), digest_size=8).digest(), "little")
-        self.uuids = itertools.count(self.recording % 2**BITS_OF_NUMBERS << BITS_OF_NUMBERS)
+        self.numbers = Numbers(self.recording % 2**BITS_OF_NUMBERS << BITS_OF_NUMBERS, tracks)
         self.parts: list[bytes] = []
         self.new = self.interned.new
         self.names = Known(self.name_of_event)
@@ -125,10 +152,11 @@ class Packets:
         self.processes: dict[int, int] = {}
         self.lanes: dict[tuple[int, int], bytes] = {}
         self.counters: dict[int, list[tuple[bytes, bytes, bytes]]] = {}
-        self.queues: dict[int, list[tuple[int, bytes]]] = {}
+        self.queues: dict[tuple[int, int], bytes] = {}
         self.others: dict[str, bytes] = {}
         self.seen = self.first_seen(database) if axis.timed else {}
         self.tell_clocks(axis.moments)
+        self.clear_state(number(FIRST_ON_SEQUENCE, 1))
 
     def first_seen(self, database: sqlite3.Connection) -> dict[tuple[int, int] | int, int]:
         """When each thread and each process is first seen."""
@@ -183,20 +211,28 @@ class Packets:
                       for clock, time in shown.items() if time is not None]
             first = number(PRIMARY_CLOCK, MONOTONIC if moment.boottime is None else BOOTTIME)
             self.packet(message(CLOCK_SNAPSHOT, *clocks, first))
-        defaults = message(DEFAULTS, number(CLOCK_ID, MONOTONIC)) if moments else b""
-        self.packet(number(FLAGS, STATE_CLEARED), number(FIRST_ON_SEQUENCE, 1), defaults)
+
+    def clear_state(self, *more: bytes) -> None:
+        """From here on, names are told anew."""
+        defaults = message(DEFAULTS, number(CLOCK_ID, MONOTONIC)) if self.axis.moments else b""
+        self.packet(number(FLAGS, STATE_CLEARED), *more, defaults)
+
+    def go_on(self) -> None:
+        """Clocks, processes and threads are told in the first part."""
+        self.parts.clear()
+        self.clear_state()
 
     # -- tracks
 
-    def track(self, *parts: bytes, of: tuple[int, int] | int | None = None) -> int:
-        """A new track, of a thread or a process that is first seen at its time. Numbers of processes are used again: so
-        Perfetto takes the one that has the number at the time of the packet, and without a time the one that it met
-        last, which differs by the order of the files of a joined trace."""
-        uuid = next(self.uuids)
+    def track(self, uuid: int, *parts: bytes, of: tuple[int, int] | int | None = None) -> bytes:
+        """Tells of a track, and returns how an event names it. A thread or a process is told with the time at which it
+        is first seen, because numbers of processes are used again: Perfetto takes the process that has the number at
+        the time of the packet, and without a time the one that it met last, which differs by the order of the files of
+        a joined trace."""
         time = [number(TIMESTAMP, self.seen[of]), number(CLOCK_ID, MONOTONIC)] if of in self.seen else []
         self.packet(*time, message(TRACK_DESCRIPTOR, number(UUID, uuid), *parts),
                     sequence=SEQUENCE_NUMBER if of is None else DESCRIBING)
-        return uuid
+        return number(TRACK, uuid)
 
     def process_track(self, upid: int) -> int:
         """The track of a process of the system, by one of its openings."""
@@ -205,7 +241,8 @@ class Packets:
             rows = self.system.openings[one]
             labels = [text(PROCESS_LABELS, label) for label in dict.fromkeys(map(self.label_of, rows))]
             name = next((row.name for row in rows if row.name), "process")
-            self.processes[one] = self.track(message(
+            self.processes[one] = self.numbers.of_process(one)
+            self.track(self.processes[one], message(
                 OF_PROCESS, number(PROCESS_PID, self.system.pid(rows[0])), text(PROCESS_NAME, name), *labels), of=one)
         return self.processes[one]
 
@@ -225,8 +262,8 @@ class Packets:
             name = self.system.names.get(lane)
             described = message(OF_THREAD, number(THREAD_PID, self.system.pid_of(upid)), number(THREAD_TID, tid),
                                 text(THREAD_NAME, name) if name else b"")
-            own = self.track(number(PARENT, parent), described, number(OWN_TRACK, 1), of=lane)
-            self.lanes[lane] = number(TRACK, own)
+            self.lanes[lane] = self.track(self.numbers.of_thread(thread.utid), number(PARENT, parent), described,
+                                          number(OWN_TRACK, 1), of=lane)
         return self.lanes[lane]
 
     def head_of_process(self, process: Process) -> bytes:
@@ -236,30 +273,27 @@ class Packets:
         """What comes before the value of each counter of a process: as the counter of an event, and as an extra one;
         and an extra one of 0."""
         parent, of, made = self.process_track(process.upid), self.system.opening_of(process.upid), []
-        for name, unit in COUNTER_TRACKS:
-            uuid = self.track(number(PARENT, parent), text(NAME, name + of), message(OF_COUNTER, number(UNIT, unit)))
+        for at, (name, unit) in enumerate(COUNTER_TRACKS):
+            uuid = self.numbers.of_counter(process.upid, at)
+            head = self.track(uuid, number(PARENT, parent), text(NAME, name + of),
+                              message(OF_COUNTER, number(UNIT, unit)))
             extra = number(EXTRA_TRACKS, uuid) + key(EXTRA_VALUES, VARINT)
-            made.append((COUNTER + number(TRACK, uuid) + key(COUNTER_VALUE, VARINT), extra, extra + LAST[0]))
+            made.append((COUNTER + head + key(COUNTER_VALUE, VARINT), extra, extra + LAST[0]))
         self.counters[process.upid] = made
         return made
 
     def other_track(self, name: str) -> bytes:
         """A track above those of the processes."""
         if name not in self.others:
-            self.others[name] = number(TRACK, self.track(text(NAME, name)))
+            self.others[name] = self.track(self.numbers.of_other(name), text(NAME, name))
         return self.others[name]
 
-    def queue_track(self, process: Process, begin: int, end: int) -> bytes:
-        """A track of a process that is free for a slice of this time. All of them have one name, so Perfetto shows them
-        as one."""
-        free = self.queues.setdefault(self.system.process_of[process.upid], [])
-        if free and free[0][0] < begin:
-            _, head = heapq.heappop(free)
-        else:
-            head = number(TRACK, self.track(number(PARENT, self.process_track(process.upid)),
-                                            text(NAME, "binder queue")))
-        heapq.heappush(free, (end, head))
-        return head
+    def queue_track(self, upid: int, lane: int) -> bytes:
+        """A track for a lane of the queue of a process. All of them have one name, so Perfetto shows them as one."""
+        if (upid, lane) not in self.queues:
+            self.queues[upid, lane] = self.track(self.numbers.of_queue(upid, lane),
+                                                 number(PARENT, self.process_track(upid)), text(NAME, "binder queue"))
+        return self.queues[upid, lane]
 
     # -- what the walk hands over
 
@@ -335,9 +369,9 @@ class Packets:
             self.takes_more = False
         return len(changed)
 
-    def queue(self, thread: Thread, called: PacketCalled, place: int, begin: int, end: int,
+    def queue(self, thread: Thread, called: PacketCalled, lane: int, place: int, begin: int, end: int,
               fields: Mapping[str, object]) -> None:
-        head = self.queue_track(thread.process, begin, end)
+        head = self.queue_track(thread.upid, lane)
         self.event(begin, BEGIN + head + self.name("queue", f"queue {called.label}") +
                    self.fields({"place": place, **fields}))
         self.event(end, END + head)

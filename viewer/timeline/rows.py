@@ -1,7 +1,9 @@
 """The rows of which a timeline is made, in the order of the capture."""
 
+import math
 import operator
-from typing import Iterator
+import sqlite3
+from typing import Iterator, NamedTuple
 
 from viewer.database.sqlite import named_numbers, open_beside
 from viewer.piped import Send
@@ -43,9 +45,21 @@ SELECT f.place, :what, f.seq, x.ts, f.utid, u.verdict, g.title, f.section, f.pat
   coalesce(f.lead, f.id)
 FROM finding f JOIN rule u ON u.id = f.rule JOIN finding_head h ON h.id = f.id JOIN finding_group g ON g.grp = h.grp
   LEFT JOIN side_time x ON x.seq = f.seq
-WHERE f.utid NOTNULL AND f.place NOTNULL AND u.verdict <> 'normal' ORDER BY f.place, f.id"""
+WHERE f.utid NOTNULL AND f.place >= :begin AND u.verdict <> 'normal' ORDER BY f.place, f.id"""
 
 BY_PLACE = operator.itemgetter(0)
+
+
+class Range(NamedTuple):
+    """The places from one on, up to another one."""
+    begin: int = 0
+    end: float = math.inf
+
+    def is_last(self) -> bool:
+        return self.end == math.inf
+
+
+WHOLE = Range()
 
 
 class Ahead:
@@ -61,16 +75,31 @@ class Ahead:
             self.next = next(self.rows, None)
 
 
-def read(path: str, send: Send) -> None:
-    """Reads the rows from the database and sends them, stretch after stretch."""
-    database = open_beside(path)
+def last_place(database: sqlite3.Connection) -> int:
+    return database.execute("SELECT coalesce(max(place), 0) FROM raw_record").fetchone()[0]
+
+
+def read(database: sqlite3.Connection, queries: dict[int, str], places: Range) -> Iterator[list[tuple]]:
+    """The rows of a range of the capture, stretch after stretch."""
     numbers = named_numbers(database)
-    findings = Ahead(database.execute(FINDINGS, {"what": FINDING}))
-    last, = database.execute("SELECT coalesce(max(place), 0) FROM raw_record").fetchone()
-    for begin in range(0, last + 1, STRETCH):
+    findings = Ahead(database.execute(FINDINGS, {"what": FINDING, "begin": places.begin}))
+    end = int(min(places.end, last_place(database) + 1))
+    for begin in range(places.begin, end, STRETCH):
+        until = min(begin + STRETCH, end)
         rows: list[tuple] = []
-        for what, query in QUERIES.items():
-            rows += database.execute(query, {**numbers, "what": what, "begin": begin, "end": begin + STRETCH})
-        rows += findings.before(begin + STRETCH)
+        for what, query in queries.items():
+            rows += database.execute(query, {**numbers, "what": what, "begin": begin, "end": until})
+        rows += findings.before(until)
         rows.sort(key=BY_PLACE)  # rows of one place stay in this order
+        yield rows
+
+
+def row_at(database: sqlite3.Connection, what: int, place: int) -> tuple:
+    """The row of one send or delivery."""
+    return database.execute(QUERIES[what], {"what": what, "begin": place, "end": place + 1}).fetchone()
+
+
+def send_rows(path: str, queries: dict[int, str], places: Range, send: Send) -> None:
+    """Reads the rows of a range and sends them."""
+    for rows in read(open_beside(path), queries, places):
         send(rows)

@@ -6,9 +6,8 @@ has not come yet was sent. docs/PAGE.md says what the events mean.
 
 import functools
 import heapq
-import math
 import sqlite3
-from typing import Callable, Iterator
+from typing import Any, Callable, Iterator
 
 from viewer.database.sqlite import named_numbers
 from viewer.rules.names import Names
@@ -16,7 +15,7 @@ from viewer.timeline.ends_and_gaps import Mark, ends_of, gaps_of, lost_of, misse
 from viewer.timeline.events import (ALL_COUNTERS, ASYNC, BUFFERS, BUSY, BYTES, CALL, CALLS, CAME, COUNTERS,
                                     REFERENCES, SENT, SERVED, Called, Drawn, Events, Finding, Lane, Open,
                                     Process, Thread)
-from viewer.timeline.rows import BY_PLACE, DELIVERY, FINDING, MARK, RECORD, SEND, Ahead
+from viewer.timeline.rows import BY_PLACE, DELIVERY, FINDING, MARK, RECORD, SEND, WHOLE, Ahead, Range
 from viewer.timeline.tracks import Axis, Tracks, Window
 
 VERDICTS = ("open", "answered", "replied", "failed", "crossed")
@@ -30,14 +29,17 @@ ONEWAY_HELD = HELD | 1 << ASYNC
 # Of so much that is called it is remembered what was made of it.
 REMEMBERED = 4096
 
+# What a walk through a later range goes on with.
+STATE = "processes", "lanes", "threads", "sent", "oneways", "freed", "frees", "live", "entered"
+
 
 class Walk:
-    """Walks through a capture and hands its events over."""
+    """Walks through a capture, or a range of it, and hands its events over."""
 
     def __init__(self, database: sqlite3.Connection, rows: Iterator[list[tuple]], out: Events, axis: Axis,
-                 tracks: Tracks, window: Window, drawn: Drawn):
+                 tracks: Tracks, window: Window, drawn: Drawn, places: Range = WHOLE):
         self.database, self.rows, self.out, self.axis, self.window = database, rows, out, axis, window
-        self.tracks = tracks
+        self.tracks, self.places = tracks, places
         self.names = Names(database)
         self.called = functools.lru_cache(REMEMBERED)(self.called_of)
         numbers = named_numbers(database)
@@ -92,7 +94,8 @@ class Walk:
               ) -> None:
         """How long a oneway transaction waited, in the process that gets it."""
         if thread.head is not None:
-            self.out.queue(thread, called, place, begin, max(begin, end), fields)
+            end = max(begin, end)
+            self.out.queue(thread, called, thread.process.lane_of_queue(begin, end), place, begin, end, fields)
             self.told["queue_slices"] += 1
 
     # -- what a thread is in
@@ -381,11 +384,13 @@ class Walk:
     def with_marks(self) -> Iterator[list[tuple]]:
         """The rows with the marks, which come first among those of one place."""
         marks = Ahead(self.marks())
+        for _ in marks.before(self.places.begin):
+            pass
         for rows in self.rows:
             if rows and (new := [*marks.before(rows[-1][0] + 1)]):
                 rows = sorted(new + rows, key=BY_PLACE)
             yield rows
-        yield [*marks.before(math.inf)]
+        yield [*marks.before(self.places.end)]
 
     def walk_rows(self) -> None:
         """Goes through the rows, up to the end of the window."""
@@ -405,13 +410,48 @@ class Walk:
                 handlers[row[1]](thread, row)
             self.out.flush()
 
-    def walk(self) -> None:
+    def walk_range(self) -> None:
         self.walk_rows()
         self.end_instants()
         self.count(self.axis.ns)
-        if not self.live and self.window.begins_within(self.axis.last):
-            self.enter()
-        end = max(self.axis.ns, self.axis.end)
+
+    def walk(self) -> None:
+        """Walks through the range, and ends what is open at the end of the last one."""
+        self.walk_range()
+        if self.places.is_last():
+            if not self.live and self.window.begins_within(self.axis.last):
+                self.enter()
+            end = max(self.axis.ns, self.axis.end)
+            for lane in self.lanes.values():
+                while lane.stack:
+                    self.pop(lane, self.at_end, end)
+        self.out.flush()
+
+    # -- range after range
+
+    def state(self) -> dict[str, Any]:
+        """What the walk through the next range goes on with."""
+        return {"ns": self.axis.ns, **{name: getattr(self, name) for name in STATE}}
+
+    def go_on(self, state: dict[str, Any], drawn: Drawn, row_of: Callable[[int, int], tuple]) -> None:
+        """Goes on with the state of a walk that writes nothing, so that it does not know what events name. `row_of`
+        reads the row of a send or of a delivery."""
+        self.axis.ns = state["ns"]
+        for name in STATE:
+            setattr(self, name, state[name])
+        for upid, process in self.processes.items():
+            process.head = drawn.processes[upid].head
+        for utid, thread in self.threads.items():
+            thread.head = drawn.threads[utid].head
         for lane in self.lanes.values():
-            while lane.stack:
-                self.pop(lane, self.at_end, end)
+            for entry in lane.stack:
+                sends = entry.sort == CALL
+                entry.called = self.called_by(entry.thread, sends, row_of(SEND if sends else DELIVERY, entry.place))
+
+    def called_by(self, thread: Thread, sends: bool, row: tuple) -> object:
+        """What a send is for, or a delivery."""
+        if not sends:
+            return self.call_of(row[6], thread.upid, row[9], row[-1])
+        _, _, _, _, _, code, _, handle, *_, node, _, ptr, interface, _ = row
+        return self.call_of(code, -thread.upid, handle, interface) if node is None else \
+            self.call_of(code, node, ptr, interface)
