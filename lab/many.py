@@ -179,7 +179,7 @@ def read_once(root: pathlib.Path) -> Maker:
     build_programs(root)
     raw_tables.loader()
     raw_tables.schema()
-    judging.plan_of(judging.FOLDER, judging.run)
+    judging.plan_of(judging.FOLDER)
     version(root)
     return Maker(root, basis_of(root))
 

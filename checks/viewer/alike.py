@@ -1,5 +1,5 @@
-"""Checks that the rules find the same, however their statements are run: all of them; without those of which the plan
-says that they find nothing; and with other processes that find rows, beside tables that are packed.
+"""Checks that the rules find the same, however their statements are run: by one process; and with other processes that
+find rows, beside tables that are packed.
 
     checks/run alike                plays a share of the stored captures, and what is made for the sums
     checks/run alike -- CASE..      plays these alone, as `leaks`
@@ -30,7 +30,6 @@ from viewer.database.programs import build_programs
 from viewer.database.sqlite import open_database
 from viewer.rules import judging
 from viewer.rules.plan import Statement, plan_of
-from viewer.timing import Timing
 
 CASES = {path.name: ([str(path / "capture-1.cap")], str(path / "capture.side"))
          for path in sorted(DRIVER.iterdir()) if path.is_dir()}
@@ -62,11 +61,6 @@ MADE_IN_PART = "data_hash"
 Rows = dict[str, list[tuple]]
 
 
-def judge_all(database: sqlite3.Connection, timing: Timing | None, finders: finders.Finders | None,
-              hash_of: judging.HashOf) -> None:
-    judging.judge(database, timing=timing, finders=finders, hash_of=hash_of, whole=True)
-
-
 def rows_of(made: pathlib.Path) -> Rows:
     """The rows of the tables that a database has beside the raw ones."""
     with closing(open_database(made)) as database:
@@ -89,46 +83,42 @@ def files_of(folder: pathlib.Path, name: str) -> tuple[list[str], str | None]:
 def sums_of(name: str, made: pathlib.Path) -> Iterator[str]:
     """The sums over packed tables that do not have the rows of their views, in the same order. Frames whose sequences
     fall are not packed, and then the sums are views: but not in what is made for them."""
-    plan = plan_of(judging.FOLDER, judging.run)
+    plan = plan_of(judging.FOLDER)
     with closing(open_database(made)) as database:
         for view, table in zip(plan.statements, judging.with_sums(database, plan).statements):
             if view.file == judging.SUMS and (view.text == table.text and name in SESSIONS
                                               or rows_by(database, view) != rows_by(database, table)):
-                yield view.effect.to
+                yield view.name
 
 
 def rows_by(database: sqlite3.Connection, statement: Statement) -> list[str]:
     """The rows of the view, or of the table, that a statement makes."""
     database.execute(statement.text)
-    rows = database.execute(f"SELECT * FROM {statement.effect.to}").fetchall()
-    kind, = database.execute("SELECT type FROM temp.sqlite_schema WHERE name = ?", (statement.effect.to,)).fetchone()
-    database.execute(f"DROP {kind} temp.{statement.effect.to}")
+    rows = database.execute(f"SELECT * FROM {statement.name}").fetchall()
+    kind, = database.execute("SELECT type FROM temp.sqlite_schema WHERE name = ?", (statement.name,)).fetchone()
+    database.execute(f"DROP {kind} temp.{statement.name}")
     return list(map(repr, rows))
 
 
-def judged(room: pathlib.Path, name: str, how: str) -> tuple[Rows, list[str]]:
-    """The rows that come of a capture; and the sums that are wrong, where they are packed."""
-    folder = room / f"{name}-{how}"
+def judged(room: pathlib.Path, name: str, beside: bool) -> tuple[Rows, list[str]]:
+    """The rows that come of a capture, with other processes or without; and the sums that are wrong, where they are
+    packed."""
+    folder = room / f"{name}-{beside}"
     folder.mkdir()
     files, side = files_of(folder, name)
     made = folder / "capture.db"
-    all_of_them = mock.patch.object(loading, "judge", judge_all) if how == "all" else mock.patch.object(
-        finders, "LEAST_RECORDS", 0 if how == "beside" else 2**63)
-    with all_of_them, mock.patch.object(loading, "LEAST_PACKED", 0):
-        loading.database_of(ROOT, files, side, made, lambda _: None, kept=how != "beside")
-    return rows_of(made), list(sums_of(name, made)) if how == "beside" else []
+    least = mock.patch.object(finders, "LEAST_RECORDS", 0 if beside else 2**63)
+    with least, mock.patch.object(loading, "LEAST_PACKED", 0):
+        loading.database_of(ROOT, files, side, made, lambda _: None, kept=not beside)
+    return rows_of(made), list(sums_of(name, made)) if beside else []
 
 
 def compared(room: pathlib.Path, name: str) -> list[str]:
     """What differs of a capture."""
-    due, _ = judged(room, name, "all")
-    wrong = []
-    for how in ("needed", "beside"):
-        came, sums = judged(room, name, how)
-        wrong += [f"{name}, {how}: {table} has other rows" for table in sorted(due.keys() | came.keys())
-                  if came.get(table) != due.get(table) and (how, table) != ("beside", MADE_IN_PART)]
-        wrong += [f"{name}: {sum} has other rows than the view" for sum in sums]
-    return wrong
+    (due, _), (came, sums) = judged(room, name, False), judged(room, name, True)
+    wrong = [f"{name}: {table} has other rows" for table in sorted(due.keys() | came.keys())
+             if came.get(table) != due.get(table) and table != MADE_IN_PART]
+    return wrong + [f"{name}: {sum} has other rows than the view" for sum in sums]
 
 
 def names(given: argparse.Namespace) -> Iterator[str]:

@@ -19,9 +19,8 @@ from viewer.database import raw_tables
 from viewer.database.sqlite import statements_in
 from viewer.rules import judging
 from viewer.rules.catalogue import files_in_order
-from viewer.rules.idle import beside_of
 from viewer.rules.judging import LOADING
-from viewer.rules.plan import texts_of
+from viewer.rules.plan import beside_of, texts_of
 
 VIEWER = ROOT / "viewer"
 ORDER = files_in_order(judging.FOLDER)
@@ -225,7 +224,7 @@ def faults_of_heads() -> Iterator[str]:
     for statement, path in watched.files.items():
         if path.parent == raw_tables.FOLDER:
             watched.execute(statement)
-    judging.judge(watched, whole=True)  # type: ignore[arg-type]
+    judging.judge(watched)  # type: ignore[arg-type]
     for statement, path in watched.files.items():
         if path.parent == QUERIES:
             watched.execute(statement, {str(at): 0 for at in range(1, 9)})

@@ -3,7 +3,7 @@ as on a session without freeze notifications; and so none of them need be played
 
 from typing import Iterator, NamedTuple
 
-from viewer.rules.sql import Clause, Group, Item, Token, clauses, items_of, split
+from checks.viewer.wrong_rules.sql import Clause, Group, Item, Token, clauses, items_of, split
 
 AGGREGATES = ("COUNT", "SUM", "MIN", "MAX", "AVG", "TOTAL", "GROUP_CONCAT")
 # By these a term says which findings it takes.

@@ -9,7 +9,7 @@ import sqlite3
 import zlib
 from typing import Callable
 
-from viewer.rules.sql import tokens_of
+from checks.viewer.wrong_rules.sql import tokens_of
 from viewer.rules import judging
 
 # The rows of a database, by table, in little room: a process that has much is slow to copy.
@@ -84,7 +84,7 @@ class Judged:
         self.statements: dict[str, None] = {}
         self.first: list[str] = []
         self.is_made = False
-        judging.judge(self, whole=True)  # type: ignore[arg-type]
+        judging.judge(self)  # type: ignore[arg-type]
         for statement in self.first:
             self.database.execute(statement)
         self.is_made = True
@@ -123,4 +123,4 @@ class Judged:
         for table, of in pickle.loads(zlib.decompress(rows)).items():
             self.database.executemany(f"INSERT INTO {table} VALUES ({', '.join('?' * len(of[0]))})", of)
         self.database.execute("COMMIT")
-        judging.judge(self, whole=True)  # type: ignore[arg-type]
+        judging.judge(self)  # type: ignore[arg-type]
