@@ -1,16 +1,15 @@
 """What `./listing` does: from its words to the proved program that answers them."""
 
-import errno
 import os
 import pathlib
 import re
-import stat
 import sys
-from typing import Iterator, NamedTuple, NoReturn
+from typing import NamedTuple, NoReturn
 
 from commands.listing import LISTING
 from commands.reading import Given, Refused, read
 from viewer.files import Stopped, quoted
+from viewer.listing_words import TABLES as OF_TABLES, doubts_of_files, doubts_of_options, is_text
 from viewer.started import Started
 from viewer.terminal import tell, tell_fault, write
 from viewer.whole_python import need_whole_python
@@ -28,50 +27,10 @@ SIGN = re.compile(b"[\x00-\x08\x0b-\x1f\x7f]|\xc2[\x80-\x9f]|\xd8\x9c|\xe2(?:\x8
 PIECE = 2**20
 
 
-# ---- what the program won't take, or can't open
-
-
-def why_not(file: str) -> str | None:
-    """Why a file can't be opened. What can be opened is not, so that nothing is taken from a pipe."""
-    try:
-        mode = os.stat(file).st_mode
-        if stat.S_ISFIFO(mode) or os.access(file, os.R_OK) and not stat.S_ISSOCK(mode):
-            return None
-        os.close(os.open(file, os.O_RDONLY | os.O_NONBLOCK))
-    except OSError as error:
-        return os.strerror(error.errno or errno.EIO)
-    return None
-
-
-def doubts(given: Given) -> Iterator[str]:
-    """What the program will say without a name: files that it can't open, or can't read."""
-    sides = given.values("--side")
-    is_of_tables = given.asks("--table", "--tables")
-    for folder in given.values("--tables"):
-        if not os.path.isdir(folder):
-            yield f"{quoted(folder)} is no folder"
-    for file in [*([] if is_of_tables else sides), *given.files]:
-        if why := why_not(file):
-            yield f"{quoted(file)}: {why}"
-    # What comes after a malformed part is not read.
-    for file in given.files if is_of_tables else given.files[:1]:
-        if os.path.isdir(file):
-            yield f"{quoted(file)}: {os.strerror(errno.EISDIR)}"
-
-
-def is_text(word: str) -> bool:
-    """Whether a word is UTF-8. The programs take no other, not even as the name of a file."""
-    try:
-        word.encode()
-    except UnicodeEncodeError:
-        return False
-    return True
-
-
 # ---- a time
 
 
-def with_frames(words: list[str], given: Given) -> list[str]:
+def with_frames(given: Given) -> list[str]:
     """The words with the frames of a time, by --from and --to, in place of the time."""
     need_whole_python("listing")
     import argparse
@@ -89,7 +48,7 @@ def with_frames(words: list[str], given: Given) -> list[str]:
     except argparse.ArgumentTypeError as error:
         raise Refused(f"{name}: {error}") from error
     first, last = frames_within(name, read_values, given.values("--side"), given.files)
-    return ["--from", str(first), "--to", str(last), *words_but(given, TIMES)]
+    return ["--from", str(first), "--to", str(last), *words_but(given, (*TIMES, *OF_VIEWER))]
 
 
 def words_but(given: Given, options: tuple[str, ...]) -> list[str]:
@@ -106,7 +65,7 @@ def refuse_arguments(given: Given) -> None:
     """Arguments are those of a record that is shown whole."""
     if not given.asks("--arguments"):
         raise Refused("--aidl goes with --arguments")
-    if given.asks("--table", "--tables") or not given.asks("--at"):
+    if given.asks(*OF_TABLES) or not given.asks("--at"):
         raise Refused("--arguments goes with --at")
 
 
@@ -176,31 +135,22 @@ class Asked(NamedTuple):
 
 
 def asked_by(words: list[str]) -> Asked:
-    """What the words ask for. Says what is wrong with them, if something is; the program then says it once more,
-    without a name."""
-    options = words[:words.index("--")] if "--" in words else words
-    if any(word.startswith(("--help", "-h")) for word in options):
-        return Asked(LINES, words)
-    asks_time = any(word.partition("=")[0] in TIMES for word in options)
-    try:
-        for word in words:
-            if not is_text(word):
-                raise Refused(f"{quoted(word)} is not UTF-8")
-        given = read(LISTING, words)
-        if of_viewer := given.asks(*OF_VIEWER):
-            refuse_arguments(given)
-            words = words_but(given, OF_VIEWER)
-        if asks_time:
-            words = with_frames(words, read(LISTING, words))
-        for doubt in doubts(given):
-            raise Refused(doubt)
-    except Refused as refused:
-        tell("listing", str(refused))
-        if asks_time:
-            raise Stopped(64, "") from refused
-        of_tables = any(word.partition("=")[0] in ("--table", "--tables") for word in options)
-        return Asked(TABLES if of_tables else LINES, words)
-    if given.asks("--table", "--tables"):
+    """What the words ask for. If a file can't be opened, a line says which: the program then says it without a name."""
+    for word in words:
+        if not is_text(word):
+            raise Refused(f"{quoted(word)} is not UTF-8")
+    given = read(LISTING, words)
+    if of_viewer := given.asks(*OF_VIEWER):
+        refuse_arguments(given)
+        words = words_but(given, OF_VIEWER)
+    for doubt in doubts_of_options(given):
+        raise Refused(doubt)
+    if given.asks(*TIMES):
+        words = with_frames(given)
+    for doubt in doubts_of_files(given):
+        tell("listing", doubt)
+        break
+    if given.asks(*OF_TABLES):
         return Asked(TABLES, words)
     return Asked(LINES, words, next(iter(given.values("--side")), None), given if of_viewer else None)
 
@@ -216,9 +166,13 @@ def main(root: pathlib.Path) -> int:
         run = [os.fspath(root / "crates/run"), "listing", asked.program, "--", *asked.words]
         if asked.given:
             return run_with_arguments(root, run, asked.given)
+    except Refused as refused:
+        from commands.help import usage_of
+        tell("usage", usage_of(LISTING))
+        tell("listing", str(refused))
+        return 64
     except Stopped as stopped:
-        if stopped.line:
-            tell("listing", stopped.line)
+        tell("listing", stopped.line)
         return stopped.status
     except OSError as error:
         tell("listing", f"{error.filename or 'standard output'}: {error.strerror}")

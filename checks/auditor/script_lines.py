@@ -3,10 +3,11 @@ won't take, and which file it can't open. The scripts are those of a package, so
 
 What must hold:
 
-- Standard output, the status, and the line of the program are those of the program alone.
+- Standard output and the status are those of the program alone. So is its line; but what is wrong with the words,
+  `listing` says in its place, after its usage.
 - `audit` says one line more if the program does not take the words, or can't open or read a file, and else none.
-- `listing` says one line more only if the program does not take the words, or can't open, read or make a file; and
-  always if it can't open one. Its options are those of `--help`.
+- `listing` says one line more if the program does not take the words, or can't open a file, and else only if it can't
+  read or make one. Its options are those of `--help`.
 - No line has a sign that a terminal obeys. A FIFO is opened once, by the program.
 - What `listing` writes has a ? for each such sign of a side list.
 """
@@ -21,11 +22,13 @@ from typing import Iterator
 from checks.kit.checking import Fail, compare
 from checks.kit.programs import LISTING, ROOT, TABLES, linked
 from checks.kit.runs import answer, at_once
+from commands.help import usage_of
 from commands.listing import LISTING as LISTING_TABLE
 from viewer.listing import OF_VIEWER, TIMES
+from viewer.program_names import as_packed
 
 # So many command lines of random words are tried with each script.
-RANDOM = 50
+RANDOM = 80
 
 # A name that a terminal would take for a title and a colour.
 HOSTILE = "\x1b]0;owned\x07\x1b[31mred.cap"
@@ -40,7 +43,9 @@ AUDIT_WORDS = [
     "--=", "--help", "reply.cap", "reply.cap", "reply.cap", "good side.side", "no-such.cap", "folder", "", "\u0663",
     b"\xff.cap", HOSTILE]
 LISTING_WORDS = [
-    "--at", "--at=156", "--frame", "--process", "--code", "--code=", "--form", "--form=tab", "--objects", "--objects=1",
+    "--at", "--at=156", "--frame", "--frame=156", "--process", "--process=x", "--handle=0x", "--cookie=1_0",
+    "--larger=18446744073709551616", "--direction=up", "--flag=TF_ONE_WAY", "--flag=TF", "--code", "--code=",
+    "--code=0x40406300", "--code=BC", "--form", "--form=tab", "--objects", "--objects=1",
     "--side", "--side=no-such.side", "--table", "--table=record", "--table=no", "--tables", "--tables=folder",
     "--tables=no-folder", "--kind", "--kind=X", "-x", "-", "--", "--", "100", "0x64", "tab", "BC_REPLY", "record",
     "folder", "reply.cap", "reply.cap", "reply.cap", "good side.side", "no-such.cap", "--help", "-h", "--help=", "",
@@ -78,6 +83,15 @@ LISTING_LINES = [
     (["folder", "reply.cap"], "folder: Is a directory"),
     (["--table", "record", "reply.cap", "folder"], "folder: Is a directory"),
     (["--tables", "no-folder", "reply.cap"], "no-folder is no folder"),
+    (["--at", "5", "--frame", "5", "reply.cap"], "--frame does not go with --at"),
+    (["--form", "tab", "--objects", "reply.cap"], "--form does not go with --objects"),
+    (["--handle", "x", "reply.cap"], "--handle takes a number, not x"),
+    (["--direction", "up", "reply.cap"], "--direction takes write or read, not up"),
+    (["--code", "BC", "reply.cap"], "--code takes the name of a record, or its code word, not BC"),
+    (["--flag", "TF", "reply.cap"], "--flag takes the name of a flag, not TF"),
+    (["--side=a", "--side=b", "reply.cap"], "--side is there twice"),
+    (["--table", "calls", "reply.cap"], "there is no table calls"),
+    (["--table", "call", "--tables=folder", "reply.cap"], "--tables does not go with --table"),
 ]
 
 # A side list of samples/reply.cap, with these names of the process and of the thread.
@@ -87,6 +101,9 @@ SIDE_LIST = """binder side list 2
 2 frame 1
 3 frame 2
 """
+
+# What `listing` says first of wrong words, as in a package.
+USAGE = as_packed(f"usage: {usage_of(LISTING_TABLE)}\n").encode()
 
 # Each is read to its end by the program: a FIFO that the script opened would lose its writer.
 PIPES = ('cat reply.cap | "$@" report /dev/stdin', 'cat reply.cap >one.fifo & timeout 60 "$@" report one.fifo',
@@ -147,9 +164,11 @@ class Scripts:
         alone, both = self.alone(script, words), self.answer(self.folder / script, words)
         what = f"{script} {words}"[:300]
         compare(f"{what}: status and standard output", both[:2], alone[:2], self.fail)
-        if not both[2].endswith(alone[2]):
-            self.fail(f"{what}: {alone[2]!r} is not what it says last: {both[2]!r}")
-        said = both[2].removesuffix(alone[2])
+        is_usage = script == "listing" and alone[0] == 64
+        before, after = (USAGE, b"") if is_usage else (b"", alone[2])
+        if not (both[2].startswith(before) and both[2].endswith(after)):
+            self.fail(f"{what}: {before or after!r} is not what it says beside its own line: {both[2]!r}")
+        said = both[2].removeprefix(before).removesuffix(after)
         if said and not re.fullmatch(rf"{script}: [ -~]+\n".encode(), said):
             self.fail(f"{what}: not one plain line: {said!r}")
         return alone[0], alone[2], said
@@ -165,7 +184,8 @@ class Scripts:
 
     def check_listing(self, words: list) -> None:
         status, told, said = self.line("listing", words)
-        if said and status not in (4, 64) or told == b"fault Open\n" and not said:
+        is_due = status == 64 or told == b"fault Open\n"
+        if said and status not in (4, 64) or is_due and not said:
             self.fail(f"listing {words}: it says {said!r}, and the program {told!r}, with status {status}")
 
     def check_pipes(self) -> None:

@@ -1,0 +1,121 @@
+"""What is wrong with the words of `./listing`. Its programs say it without a name."""
+
+import errno
+import os
+import pathlib
+import re
+import stat
+from typing import Iterator
+
+from commands.listing import LISTING
+from commands.reading import Given
+from viewer.files import quoted
+
+OPTIONS = {option.name: option for option in LISTING.options()}
+TABLES = ("--table", "--tables")
+# Of these one is taken, and with one of them --form shows neither a record whole nor objects.
+PLACES, NO_COLUMNS = ("--at", "--frame", "--call"), ("--at", "--objects")
+NUMBERS = (*PLACES, "--process", "--thread", "--device", "--from", "--to", "--handle", "--cookie", "--node",
+           "--address", "--larger")
+# In which table of numbers.sql the names of an option stand. A code may also be a number.
+NAMED = {"--code": "kind", "--flag": "flag"}
+DATABASE = pathlib.Path(__file__).resolve().parent / "database"
+# The numbers of the programs have so many bits.
+BITS = 64
+
+
+# ---- options
+
+
+def is_number(word: str) -> bool:
+    """Whether it is a number as the programs read it: in decimal, or in hexadecimal after 0x."""
+    digits, base = (word[2:], 16) if word[:2] in ("0x", "0X") else (word, 10)
+    try:
+        return digits.isascii() and digits.isalnum() and int(digits, base) < 2**BITS
+    except ValueError:
+        return False
+
+
+def names_of(table: str) -> list[str]:
+    """The names in a table of numbers.sql."""
+    _, _, after = (DATABASE / "numbers.sql").read_text("utf-8").partition(f"INSERT INTO {table} VALUES ")
+    return re.findall(r"'(\w+)'", after.partition(";")[0])
+
+
+def why_no_value(name: str, value: str) -> str | None:
+    """What an option takes, if it does not take this value."""
+    if name in NUMBERS and not is_number(value):
+        return "a number"
+    if name in NAMED and value not in names_of(NAMED[name]) and not (name == "--code" and is_number(value)):
+        return "the name of a record, or its code word" if name == "--code" else "the name of a flag"
+    offers = OPTIONS[name].offers
+    if isinstance(offers, tuple) and value not in offers:
+        return " or ".join(offers)
+    return None
+
+
+def doubts_of_options(given: Given) -> Iterator[str]:
+    """What is wrong with the options that are given."""
+    return doubts_of_tables(given) if given.asks(*TABLES) else doubts_of_lines(given)
+
+
+def doubts_of_lines(given: Given) -> Iterator[str]:
+    asked = dict.fromkeys(name for name, _ in given.options)
+    first, *others = [name for name in asked if name in PLACES] or [""]
+    yield from (f"{other} does not go with {first}" for other in others)
+    yield from (f"--form does not go with {name}" for name in NO_COLUMNS if {"--form", name} <= asked.keys())
+    if len(given.values("--side")) > 1:
+        yield "--side is there twice"
+    for name, values in given.options:
+        for value in values:
+            if takes := why_no_value(name, value):
+                yield f"{name} takes {takes}, not {quoted(value)}"
+
+
+def doubts_of_tables(given: Given) -> Iterator[str]:
+    names = [name for name, _ in given.options if name in TABLES]
+    if len(names) > 1:
+        yield f"{names[1]} does not go with {names[0]}" if len(set(names)) > 1 else f"{names[0]} is there twice"
+    schema = (DATABASE / "schema.sql").read_text("utf-8")
+    for table in given.values("--table"):
+        if f"CREATE TABLE raw_{table}(" not in schema:
+            yield f"there is no table {quoted(table)}"
+
+
+def is_text(word: str) -> bool:
+    """Whether a word is UTF-8. The programs take no other, not even as the name of a file."""
+    try:
+        word.encode()
+    except UnicodeEncodeError:
+        return False
+    return True
+
+
+# ---- files
+
+
+def why_not(file: str) -> str | None:
+    """Why a file can't be opened. What can be opened is not, so that nothing is taken from a pipe."""
+    try:
+        mode = os.stat(file).st_mode
+        if stat.S_ISFIFO(mode) or os.access(file, os.R_OK) and not stat.S_ISSOCK(mode):
+            return None
+        os.close(os.open(file, os.O_RDONLY | os.O_NONBLOCK))
+    except OSError as error:
+        return os.strerror(error.errno or errno.EIO)
+    return None
+
+
+def doubts_of_files(given: Given) -> Iterator[str]:
+    """Which files and folders can't be opened, or can't be read."""
+    is_of_tables = given.asks(*TABLES)
+    for folder in given.values("--tables"):
+        if not os.path.isdir(folder):
+            yield f"{quoted(folder)} is no folder"
+    for file in [*([] if is_of_tables else given.values("--side")), *given.files]:
+        if why := why_not(file):
+            yield f"{quoted(file)}: {why}"
+    # What comes after a malformed part is not read.
+    for file in given.files if is_of_tables else given.files[:1]:
+        if os.path.isdir(file):
+            yield f"{quoted(file)}: {os.strerror(errno.EISDIR)}"
