@@ -189,6 +189,8 @@ def catalogue_of(path: pathlib.Path) -> Catalogue:
             said[name] = list(whole(list(said_in(of_table)), There(database, name, types_in(common))))
         except Wrong as what:
             raise Wrong(f"{name}: {what}") from None
+    if unread := "".join(OF_TABLE.sub("", rows) for _, rows in SECTION.findall(text)).strip():
+        raise Wrong(f"not read: {unread.splitlines()[0]}")
     sections = {heading: [name for name, _ in OF_TABLE.findall(rows)] for heading, rows in SECTION.findall(text)}
     sections[[*sections][-1]].append("about")
     return Catalogue(common, sections, lines, said)

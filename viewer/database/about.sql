@@ -8,16 +8,18 @@
 --   upid, utid: own numbers of processes and threads; a process on two devices has two
 --   process, thread: the numbers in the frames
 --   pid, tid: the numbers of the system
---   ts, dur (ns): a time and a duration of `CLOCK_MONOTONIC`; NULL without a side list
+--   ts, dur, since, ended, age, longest, how_long, usually (ns): a time or a duration of `CLOCK_MONOTONIC`; NULL
+--     without a side list
 --   generation: a span in which the number of a handle means one object, the key of `handle`
 --   depth: 1 is the outermost call
---   oneway, certain (flag): `certain`: as in [send](#send)
+--   oneway, is_open, certain (flag): `certain`: as in [send](#send)
 --   interface (text): the interface of a call, as [its data name it](#names-of-interfaces)
 --   service (text): the name under which a node is [registered](#names-of-services)
 --   method, call (text): `call` is interface, method and code, as far as they are known
 --   who, client, server, owner (text): name and number of a process
---   kind, name, what, why, section, verdict, title, path, rules, note, outcome, source, driver, moment, text,
---     rests_on (text): a name, a word, or a sentence
+--   kind, name, what, why, section, verdict, title, path, rules, note, said, outcome, source, driver, moment, side,
+--     met, command, sender, receiver, called, called_interface, called_method, called_call, client_package,
+--     server_package, arguments, defect, text, rests_on (text): a name, a word, or a sentence
 -- needs: nothing
 -- makes: tables: about
 
@@ -46,8 +48,8 @@ INSERT INTO about VALUES
   -- - `books_doubt`: which copies of the driver's books are left out, and why
   -- - `packages_doubt`: why [the file of packages](PAGE.md#files-and-options) is not taken, or NULL
   -- - `books_compared`, `books_left_out`: openings compared with the books of the end, and others there
-  -- - `books_went_on`, `books_lossy`, `books_in_use`: of the others, those with frames after the copy; that lack frames;
-  -- that had frames when the books of the beginning were copied, or are not in these
+  -- - `books_went_on`, `books_lossy`, `books_in_use`: of the others, those with frames after the copy; that lack
+  -- frames; that had frames when the books of the beginning were copied, or are not in these
   -- - `methods`: how many methods the given tables and `--aidl` have
   -- - `arguments`: with `./view --arguments`: `taken`, or why there are none
   -- - `prints`: the version of [the keys of defects](#keys)
@@ -59,15 +61,15 @@ INSERT INTO about VALUES
   -- Processes with a call in `book_open` and no frame have 0 `frames`.
   --   **upid**, device, process, pid
   --   name: the last one of its first thread, cut at 256 characters, or a [longer one](PAGE.md#files-and-options)
-  --   opening (integer), met (text): as in [the side list](SIDE-LIST.md#devices-processes-and-threads)
+  --   opening, met: as in [the side list](SIDE-LIST.md#devices-processes-and-threads)
   --   opened (ns): when it got its number, at its first call
-  --   ended_after (integer), ended (ns): when it closed its last descriptor or ended, after which sequence
+  --   ended_after, ended: when it closed its last descriptor or ended, after which sequence
   --   first_seq, last_seq, frames: the first and the last frame, and how many
-  --   command (text), uid (integer): the last command line, and the effective user id
+  --   command, uid: the last command line, and the effective user id
   ('thread', 'side', 'a thread of a process; tid, name, end and bits are of the side list'),
   --   **utid**, upid, device, process, thread, tid
   --   name: the last one
-  --   ended_after (integer), ended (ns), why (text): its end; `ended`, or `left` for `BINDER_THREAD_EXIT`
+  --   ended_after, ended, why: its end; `ended`, or `left` for `BINDER_THREAD_EXIT`
   --   first_seq, last_seq, frames: as of `process`
   --   last_record, last_write: its last record, and its last one in a write
   --   bits: 32 or 64, of its calls
@@ -96,7 +98,7 @@ INSERT INTO about VALUES
   --   value: the code word of an `OPAQUE` record, the number of BR_ERROR and the like, `is_frozen` of BR_FROZEN_BINDER
   --   interface, service: of a transaction; and an interface that is all data of a reply
   --   data_hash: of a transaction: equal data have one number, also when redacted
-  --   arguments (text): what a transaction or reply [says](PAGE.md#arguments), with `./view --arguments`
+  --   arguments: what a transaction or reply [says](PAGE.md#arguments), with `./view --arguments`
   ('object', 'bytes', 'an object of an attachment, up to the first bad one'),
   --   **place**, **idx**, offset: the record, the number in the list of offsets, and the offset
   --   sort (text): BINDER, WEAK_BINDER, HANDLE, WEAK_HANDLE, FD, FDA or PTR; NULL for a bad object
@@ -115,7 +117,7 @@ INSERT INTO about VALUES
   ('call', 'rule', 'a call; place, closer and verdict are proved for the list of its thread; delivery is inferred'),
   -- A call that is made and served has two rows: `FROM call c JOIN call s ON s.place = c.delivery`.
   --   **place**, seq, utid, upid: the opener
-  --   side (text): `made` or `served`
+  --   side: `made` or `served`
   --   depth, parent: `parent` is the call around it, the last one before it on its thread that is not closed before it
   --   code, flags, handle, generation, ptr, cookie, sender_pid, data_size: of the opener
   --   verdict: answered, replied, failed, crossed or open, as in the report
@@ -132,13 +134,13 @@ INSERT INTO about VALUES
   --   wait, dur (ns): to the delivery, and to the answer. `wait` may be a little below 0: times come
   --     from several processors
   --   device (text): for example `hwbinder`
-  --   client_uid (integer), client_package (text), server_uid (integer), server_package (text): user ids of both
+  --   client_uid, client_package, server_uid, server_package: user ids of both
   --     processes, and packages of these users
   --   arguments, returned (text): what the call and its reply [say](PAGE.md#arguments), with `./view --arguments`
   ('send_time', 'inferred', 'where the time of a transaction went'),
   -- `queue`, `work`, `below`, `back` and `unknown` add up to `dur`, to the nanosecond.
   --   **place**, seq, ts: the send
-  --   oneway, is_open (flag): `is_open`: it has no end in the capture, and `dur` is the time so far
+  --   oneway, is_open: `is_open`: it has no end in the capture, and `dur` is the time so far
   --   parent: the call that its thread served when it made this one
   --   client_upid, client_utid, server_upid, server_utid, delivery: who sent it, and who got it
   --   dur: until the caller read the answer; of a oneway send, until its buffer was freed, as libbinder does when the
@@ -152,19 +154,17 @@ INSERT INTO about VALUES
   --     order`; else NULL
   --   certain: NULL without a delivery
   ('call_tree', 'inferred', 'all calls that were made within a call'),
-  -- `WHERE root = PLACE` takes one call. `own` of all its rows add up to its `dur`, as [./view
-  -- --call](PAGE.md#one-call) shows.
+  -- `WHERE root = PLACE` takes one call: `own` of its rows add up to its `dur`, as [./view --call](PAGE.md#one-call)
+  -- shows.
   --   **root**, **n**: the call of which it is asked, and the order of the rows
   --   level: 0 of the call itself, 1 of calls that its server made for it
   --   place: the call
   --   is_unknown (flag): 1 of a row that has what is not known of the call
-  --   since (ns): from the send of the root to that of the call
+  --   since: from the send of the root to that of the call
   --   own (ns): `queue`, `work` and `back` together, or what is not known
   --   queue, work, below, back, dur (ns): as in `send_time`
-  --   why (text), is_open (flag), certain (flag)
   ('queue_holder', 'inferred', 'what the threads of a server were in while a send waited'),
-  -- `WHERE place = PLACE` takes one send. A thread that was in nothing has no row; waits outside of Binder are in no
-  -- capture.
+  -- `WHERE place = PLACE` takes one send. A thread that was in nothing has no row.
   --   place: the send that waited
   --   upid, utid: the server, and its thread
   --   holder, send: what the thread was in, and the send of it
@@ -198,7 +198,6 @@ INSERT INTO about VALUES
   ('fd_sent', 'inferred', 'descriptors that were sent: from whom, to whom, with which call'),
   --   sent, received, idx: the send and the delivery, NULL if not known; the number in the list of offsets
   --   ts: of the delivery, or else of the send
-  --   sender_upid (integer), sender (text), receiver_upid (integer), receiver (text)
   --   reply (flag): 1 if it went with a reply
   --   interface, code, method, call: of the call, also if it went with the reply
   --   count: 1, or how many descriptors an FDA object has
@@ -223,16 +222,14 @@ INSERT INTO about VALUES
   --   entered: where it last said so; NULL if it was only seen to serve
   --   spawned (flag): 1 if the driver had asked for it (BC_REGISTER_LOOPER)
   --   serving, seq: the innermost call that it serves, or a oneway transaction after which it did nothing
-  --   ts, age (ns): when that came, and for how long it is served
+  --   ts, age: when that came, and for how long it is served
   --   client_upid, client, send: who sent it
   --   calling: the call that it makes meanwhile, without an answer
-  --   called_upid (integer), called (text), called_ptr (integer): whom, and the node; if not known, its own `upid` with
+  --   called_upid, called, called_ptr: whom, and the node; if not known, its own `upid` with
   --     a minus, and the handle
-  --   called_interface (text), called_code (integer), called_method (text), called_call (text)
   ('level', 'rule', 'the most that a process held in each of 16 slices'),
   -- What a process held at the end, also an ended one, is in `delivery` with `freed_by IS NULL`, `handle.strong`, and
-  -- `call` with the verdict `open`. Without ended ones, as on the page: `WHERE upid NOT IN (SELECT upid FROM process,
-  -- capture WHERE key = 'last_seq' AND ended_after <= value)`.
+  -- `call` with the verdict `open`. The page leaves out those with `ended_after` of `process` before the last frame.
   --   **upid**, **slice**
 
 -- ## Handles and nodes
@@ -258,7 +255,7 @@ INSERT INTO about VALUES
   --   generation: the last one; NULL if only the books of the beginning have the handle
   --   strong, weak: references, with those in the books of the beginning
   --   buffers: references of buffers that are not freed
-  --   given_by (integer), held_since (integer), since (ns): as in `handle`, and the time
+  --   given_by, held_since, since: as in `handle`, and the time
   --   owner_upid, owner, ptr, interface, service: whose object it is; NULL if not known
   ('death_request', 'inferred', 'who asked for whose death, and what came of it'),
   -- A row for each BC_REQUEST_DEATH_NOTIFICATION, as `linkToDeath` of libbinder writes it.
@@ -267,7 +264,7 @@ INSERT INTO about VALUES
   --   owner_upid, owner, ptr, interface, service: whose death is asked for; NULL if not known
   --   outcome: `waiting`, `notified`, `cleared`, or `unread`: the process of the object ended, and nobody can read of
   --     that ([D12, D13](RULES.md#deaths))
-  --   ended_by (integer), ended (ns): the BR_DEAD_BINDER or the clear
+  --   ended_by, ended: the BR_DEAD_BINDER or the clear
   ('traffic', 'inferred', 'who sends what to whom, and how much'),
   -- A row for each generation and code, for calls and for oneway sends.
   --   sends: all; a call that is neither failed nor open was answered, or crossed
@@ -277,7 +274,7 @@ INSERT INTO about VALUES
   --   buffers, buffers_peak: those not freed, and the most of this path, of all senders, that the receiver held
   --   longest_seq: the most sequences that a closed call took
   --   node_upid, ptr, cookie: the node, if known
-  --   longest (ns): the longest time that one took
+  --   longest: the longest time that one took
   ('sender', 'inferred', 'how much a process sends'),
   -- `traffic` in sum. Rates are of the whole capture, and NULL without a side list.
   --   **upid**, who, uid
@@ -333,16 +330,15 @@ INSERT INTO about VALUES
   --   path: the columns above, of which groups are made, as a text
   --   n_all, n_good: how many took the path, and how many [completed](RULES.md#words-of-the-rules); of a held handle,
   --     how many its process was given so by one other. NULL where a path is not counted
-  --   longest_seq (integer), longest (ns): the longest that a completed one took
-  --   age_seq (integer), age (ns): to the end of the process or of the capture, for a call of its thread; NULL without
+  --   longest_seq, longest: the longest that a completed one took
+  --   age_seq, age: to the end of the process or of the capture, for a call of its thread; NULL without
   --     a record
   --   later: how many things the thread began afterwards, up to 4
   --   lead: the finding with which it is shown, as the call of a buffer
   --   waiting: how many calls and sends wait for it, directly or not
   --   rule (text): the `id` of its rule
-  --   said (text), other (integer), other_upid (integer), how_many (integer), of_how_many (integer), how_long (ns),
-  --     usually (ns): words of a note, and the record, process, counts and times that they name in braces; NULL of a
-  --     longer note
+  --   said, other, other_upid, how_many, of_how_many, how_long, usually: words of a note, and the record, process,
+  --     counts and times that they name in braces; NULL of a longer note
   --   note: what follows the sentence of the rule, in brackets
   --   culprit: who [causes it](RULES.md#who-causes-it), if another process
   ('way', 'inferred', 'a way by which handles came'),
@@ -372,11 +368,9 @@ INSERT INTO about VALUES
   --   kind, who, path, call (text): who causes it; the call on the path, if `who` makes or serves it
   ('finding_defect', 'inferred', 'the defect of a finding'),
   -- Each finding that is not `normal` and has no `lead`.
-  --   finding (integer), defect (text)
   ('talk', 'inferred', 'traffic by names that are the same in each capture'),
   --   caller, server (text)
   --   oneway, sends, failed, refused, open, bytes, buffers (integer)
-  --   longest (ns)
 
 -- ## From the side list
   ('side_lost', 'side', 'a frame that was lost, and why'),
@@ -425,7 +419,7 @@ INSERT INTO about VALUES
   --   address: below 2^30 if the kernel shows only the distance from the beginning of the mapping
   --   data_size, offsets_size, unread: `unread`: on its way
   ('book_call', 'side', 'an open call there'),
-  --   side (text): `made` or `served`
+  --   side: `made` or `served`
   --   number, code: `number` is the driver's own, NULL of an error on its way
   --   server_pid, server_tid: of a call that was made: who has or should get it, and the thread that has it, or NULL
   ('book_process', 'side', 'a process without a frame, with a call that was open throughout'),
@@ -434,8 +428,8 @@ INSERT INTO about VALUES
   --   server, server_utid, server_tid, delivery (integer): the server; `server_tid` is NULL if no thread got it.
   --     `place` and `delivery` are below 0, and rise with the calls of a thread
   ('book_stats', 'side', 'threads and free oneway space of an opening'),
-  -- By BR_SPAWN_LOOPER the driver asks a process for threads that take calls.
-  --   requested, started, most: threads that have not come yet, that have come, and the most
+  --   requested, started, most: threads asked for by BR_SPAWN_LOOPER that have not come yet, that have come, and the
+  --     most
   --   oneway_free: free bytes of the space for oneway sends; NULL before the device is mapped
   ('package', 'side', 'a package of the device, and the user id of its processes'),
   -- From [the file beside the side list](PAGE.md#files-and-options). An id is 100,000 times the number of the user and
