@@ -55,7 +55,7 @@ INSERT INTO about VALUES
   -- - `prints`: the version of [the keys of defects](#keys)
   ('device', 'side', 'a Binder device'),
   --   device: the number in the frames
-  --   name: for example `binder`
+  --   name: as `binder`
   --   driver: `C` or `Rust`; NULL if the side list does not say it
   ('process', 'side', 'a device and a process number; the rest is of the side list'),
   -- Processes with a call in `book_open` and no frame have 0 `frames`.
@@ -130,10 +130,10 @@ INSERT INTO about VALUES
   --   data_size, offsets_size, reply_size: bytes; `reply_size` is of the reply that the caller got
   --   outcome: of a call answered, failed, crossed or open; of a oneway send delivered, confirmed or unknown; of both
   --     refused
-  --   error (text): the record by which it was refused or failed, for example BR_DEAD_REPLY
+  --   error (text): the record by which it was refused or failed, as BR_DEAD_REPLY
   --   wait, dur (ns): to the delivery, and to the answer. `wait` may be a little below 0: times come
   --     from several processors
-  --   device (text): for example `hwbinder`
+  --   device (text): as `hwbinder`
   --   client_uid, client_package, server_uid, server_package: user ids of both
   --     processes, and packages of these users
   --   arguments, returned (text): what the call and its reply [say](PAGE.md#arguments), with `./view --arguments`
