@@ -258,7 +258,7 @@ INSERT INTO about VALUES
   --   given_by, held_since, since: as in `handle`, and the time
   --   owner_upid, owner, ptr, interface, service: whose object it is; NULL if not known
   ('death_request', 'inferred', 'who asked for whose death, and what came of it'),
-  -- A row for each BC_REQUEST_DEATH_NOTIFICATION, as `linkToDeath` of libbinder writes it.
+  -- A row for each BC_REQUEST_DEATH_NOTIFICATION (`linkToDeath`).
   --   **place**, seq, ts
   --   upid, who, handle, cookie, generation: who asks
   --   owner_upid, owner, ptr, interface, service: whose death is asked for; NULL if not known
@@ -266,7 +266,7 @@ INSERT INTO about VALUES
   --     that ([D12, D13](RULES.md#deaths))
   --   ended_by, ended: the BR_DEAD_BINDER or the clear
   ('traffic', 'inferred', 'who sends what to whom, and how much'),
-  -- A row for each generation and code, for calls and for oneway sends.
+  -- A row for each generation, code and `oneway`.
   --   sends: all; a call that is neither failed nor open was answered, or crossed
   --   failed, refused: those that an error reply ended, and of these those that the driver did not take
   --   open: calls without an answer
