@@ -18,14 +18,16 @@ LISTING = Command(
     " it is enough to fit one of its values.",
     (Part("Where", "REPORT.md#from-a-row-to-its-record", (
         Option("--at", "PLACE", "the record that has the byte at PLACE, or whose attachment has it: all its fields"
-               " with their places, its objects, and a dump of its bytes in hexadecimal", many=True),
+               " with their places, its objects, and a dump of its bytes in hexadecimal", many=True,
+               one_of="place"),
         Option("--arguments", "", "with --at also what the transaction or reply of the record says: each value with"
                " its place. The proved program has no part in these lines"),
         Option("--aidl", "SOURCE", "names the values of --arguments: a file or a folder of .aidl; without one there"
                " are the texts in the data", FILE, many=True),
-        Option("--frame", "PLACE", "the records of the frame that has the byte at PLACE", many=True),
+        Option("--frame", "PLACE", "the records of the frame that has the byte at PLACE", many=True,
+               one_of="place"),
         Option("--call", "PLACE", "the records of a thread from the opener of a call to its closer; the opener has the"
-               " byte at PLACE", many=True))),
+               " byte at PLACE", many=True, one_of="place"))),
      Part("Who", "REPORT.md#from-a-row-to-its-record", (
          Option("--process", "P", "records of this process", many=True),
          Option("--thread", "T", "records of this thread", many=True),
@@ -63,8 +65,9 @@ LISTING = Command(
                 FILE))),
      Part("Tables", "DATABASE.md#raw-tables", (
          Option("--tables", "FOLDER", "writes each raw table of docs/DATABASE.md to FOLDER/NAME.rows, and of a"
-                " malformed capture what comes before its first fault to FOLDER/before-fault.cap", FOLDER),
-         Option("--table", "NAME", "writes the raw table NAME to standard output"),
+                " malformed capture what comes before its first fault to FOLDER/before-fault.cap", FOLDER,
+                one_of="table"),
+         Option("--table", "NAME", "writes the raw table NAME to standard output", one_of="table"),
          VERSION))),
     (("0", "listed"),
      ("1", "nothing is at PLACE, or the recording has nothing of the time"),

@@ -9,14 +9,13 @@ from typing import NamedTuple, NoReturn
 from commands.listing import LISTING
 from commands.reading import Given, Refused, read
 from viewer.files import Stopped, quoted
-from viewer.listing_words import TABLES as OF_TABLES, doubts_of_files, doubts_of_options, is_text
+from viewer.listing_words import TABLES as OF_TABLES, TIMES, doubts_of_files, doubts_of_options, is_text
 from viewer.started import Started
 from viewer.terminal import tell, tell_fault, write
 from viewer.whole_python import need_whole_python
 
 # The program of lines, and that of tables.
 LINES, TABLES = "binder_listing", "binder_tables"
-TIMES = ("--last", "--between", "--around")
 # The options that the viewer takes, and no program.
 OF_VIEWER = ("--arguments", "--aidl")
 
@@ -36,10 +35,7 @@ def with_frames(given: Given) -> list[str]:
     import argparse
     from viewer.frames_within import frames_within
     from viewer.window import READ_BY as READ
-    times = [(name, values) for name, values in given.options if name in TIMES]
-    name, values = times[0]
-    if len(times) > 1:
-        raise Refused(f"{times[1][0]} does not go with {name}")
+    name, values = next((name, values) for name, values in given.options if name in TIMES)
     for other in ("--from", "--to"):
         if given.asks(other):
             raise Refused(f"{other} does not go with {name}")

@@ -12,9 +12,10 @@ from commands.reading import Given
 from viewer.files import quoted
 
 OPTIONS = {option.name: option for option in LISTING.options()}
-TABLES = ("--table", "--tables")
-# Of these one is taken, and with one of them --form shows neither a record whole nor objects.
-PLACES, NO_COLUMNS = ("--at", "--frame", "--call"), ("--at", "--objects")
+PLACES, TIMES, TABLES = (tuple(name for name, option in OPTIONS.items() if option.one_of == group)
+                         for group in ("place", "time", "table"))
+# With --form a record is not shown whole, and has no lines of objects.
+NO_COLUMNS = ("--at", "--objects")
 NUMBERS = (*PLACES, "--process", "--thread", "--device", "--from", "--to", "--handle", "--cookie", "--node",
            "--address", "--larger")
 # In which table of numbers.sql the names of an option stand. A code may also be a number.
@@ -59,13 +60,20 @@ def doubts_of_options(given: Given) -> Iterator[str]:
     return doubts_of_tables(given) if given.asks(*TABLES) else doubts_of_lines(given)
 
 
+def doubts_of_group(given: Given, group: tuple[str, ...]) -> Iterator[str]:
+    """Of the options of a group one is taken."""
+    first, *others = [name for name, _ in given.options if name in group] or [""]
+    for other in others:
+        if other != first:
+            yield f"{other} does not go with {first}"
+        elif not OPTIONS[other].many:
+            yield f"{other} is there twice"
+
+
 def doubts_of_lines(given: Given) -> Iterator[str]:
-    asked = dict.fromkeys(name for name, _ in given.options)
-    first, *others = [name for name in asked if name in PLACES] or [""]
-    yield from (f"{other} does not go with {first}" for other in others)
-    yield from (f"--form does not go with {name}" for name in NO_COLUMNS if {"--form", name} <= asked.keys())
-    if len(given.values("--side")) > 1:
-        yield "--side is there twice"
+    for group in (PLACES, TIMES, ("--side",)):
+        yield from doubts_of_group(given, group)
+    yield from (f"--form does not go with {name}" for name in NO_COLUMNS if given.asks("--form") and given.asks(name))
     for name, values in given.options:
         for value in values:
             if takes := why_no_value(name, value):
@@ -73,9 +81,7 @@ def doubts_of_lines(given: Given) -> Iterator[str]:
 
 
 def doubts_of_tables(given: Given) -> Iterator[str]:
-    names = [name for name, _ in given.options if name in TABLES]
-    if len(names) > 1:
-        yield f"{names[1]} does not go with {names[0]}" if len(set(names)) > 1 else f"{names[0]} is there twice"
+    yield from doubts_of_group(given, TABLES)
     schema = (DATABASE / "schema.sql").read_text("utf-8")
     for table in given.values("--table"):
         if f"CREATE TABLE raw_{table}(" not in schema:

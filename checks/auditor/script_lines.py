@@ -24,7 +24,8 @@ from checks.kit.programs import LISTING, ROOT, TABLES, linked
 from checks.kit.runs import answer, at_once
 from commands.help import usage_of
 from commands.listing import LISTING as LISTING_TABLE
-from viewer.listing import OF_VIEWER, TIMES
+from viewer.listing import OF_VIEWER
+from viewer.listing_words import TIMES
 from viewer.program_names import as_packed
 
 # So many command lines of random words are tried with each script.
