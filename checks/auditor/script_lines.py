@@ -25,7 +25,7 @@ from checks.kit.runs import answer, at_once
 from commands.help import usage_of
 from commands.listing import LISTING as LISTING_TABLE
 from viewer.listing import OF_VIEWER
-from viewer.listing_words import TIMES
+from viewer.listing_words import NAMED, TIMES, names_of
 from viewer.program_names import as_packed
 
 # So many command lines of random words are tried with each script.
@@ -216,10 +216,14 @@ class Scripts:
         compare(f"{words} on a full disk", full, (4, b"", b"fault Write\n"), self.fail)
 
     def check_options(self) -> None:
-        """The options of the script `listing` are those of the program's usage, and what the script takes."""
+        """The options of the script `listing` are those of the program's usage, and what the script takes. The program
+        takes each name that the script takes."""
         usage = answer([LISTING])[2].decode()
         due = set(re.findall(r"--[a-z]+", usage)) - {"--help"} | {*OF_VIEWER, *TIMES, "--version"}
         compare("the options of listing", {option.name for option in LISTING_TABLE.options()}, due, self.fail)
+        for option, table in NAMED.items():
+            refused = [name for name in names_of(table) if self.answer(LISTING, [option, name, "reply.cap"])[0] != 0]
+            compare(f"names that {option} of the program does not take", refused, [], self.fail)
 
 
 def check_scripts(room: pathlib.Path, auditor: pathlib.Path, fail: Fail) -> None:
