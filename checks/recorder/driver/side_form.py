@@ -9,7 +9,7 @@ FIRST_LINE = "binder side list 3"
 NUMBER = "[0-9]+"
 # What the words in capitals stand for; all others stand for a number.
 KINDS = {
-    **dict.fromkeys(("RELEASE", "MACHINE"), r"\S+"), **dict.fromkeys(("NAME", "COMMAND", "PATH"), ".*"),
+    **dict.fromkeys(("RELEASE", "MACHINE", "PARTS"), r"\S+"), **dict.fromkeys(("NAME", "COMMAND", "PATH"), ".*"),
     **dict.fromkeys(("WHEN", "WHICH", "WHAT", "WHY", "REASON", "MET"), "[a-z0-9-]+"),
     "DELTA": "-?[0-9]+", "DEVICES": rf"(?:{NUMBER}:{NUMBER}:(?:C|Rust)(?:,|(?= |$)))*", "ADDRESS": "(?:0x[0-9a-f]+|-)",
     "ID": "(?:[0-9a-f]+|-)"}
@@ -32,9 +32,10 @@ def templates(text: str) -> list[str]:
 
 def pattern_of(template: str) -> str:
     """A line without its time. `A,A..` is one A or more, with commas between, and ` A A ..` none or more, with a space
-    before each."""
+    before each. What stands in brackets may be missing."""
     listed = re.sub(r"([A-Z]+),\1\.\.", r"\1(?:,\1)*", re.sub(r" ([A-Z]+) \1 \.\.", r"(?: \1)*", template))
-    return re.sub(r"\b[A-Z]+\b", lambda found: KINDS.get(found[0], NUMBER), listed)
+    optional = re.sub(r" \[([^]]+)\]", r"(?: \1)?", listed)
+    return re.sub(r"\b[A-Z]+\b", lambda found: KINDS.get(found[0], NUMBER), optional)
 
 
 @cache
