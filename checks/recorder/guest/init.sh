@@ -67,7 +67,7 @@ watch_time() {
 	limit=$(cat /limit) killed=
 	while sleep 10; do
 		echo "guest: $(now)"
-		read -r name began </tmp/line 2>/dev/null || continue
+		read -r name began 2>/dev/null </tmp/line || continue
 		late=$(($(now | cut -d. -f1) - ${began%.*} - limit))
 		if [ $late -ge 60 ]; then
 			echo "guest: wrong: $name does not end"
