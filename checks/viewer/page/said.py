@@ -68,4 +68,4 @@ def check_listed(fail: Fail) -> None:
     for words, why in ((("--arguments",), "--arguments goes with --at"),
                        (("--at", CALL, "--aidl", SOURCES), "--aidl goes with --arguments")):
         status, _, err = listing(capture, *words)
-        compare(f"./listing {words}", (status, err.startswith(f"listing: {why}\n")), (64, True), fail)
+        compare(f"./listing {words}", (status, err.endswith(f"\nlisting: {why}\n")), (64, True), fail)
