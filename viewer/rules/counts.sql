@@ -23,7 +23,7 @@ CREATE TEMP TABLE buffer_path(relation TEXT, code INTEGER, about INTEGER, node I
   good INTEGER, longest_seq INTEGER, longest INTEGER);
 -- beside: nodes.sql
 INSERT INTO buffer_path
-WITH d AS (
+WITH d AS MATERIALIZED (
   SELECT
     CASE WHEN d.reply THEN 'reply to' WHEN d.oneway THEN 'oneway at' ELSE 'at' END AS relation,
     d.code,
@@ -36,11 +36,14 @@ WITH d AS (
     d.longest_seq,
     d.longest
   FROM (SELECT 1 FROM finding WHERE section = 'buffers' LIMIT 1) CROSS JOIN came_sum d
-    LEFT JOIN node_of n ON n.generation = d.generation)
+    LEFT JOIN node_of n ON n.generation = d.generation),
+  path AS (SELECT *, ifnull(code, '') AS of_code, ifnull(node, '') AS of_node, ifnull(cookie, '') AS of_cookie FROM d)
 SELECT relation, code, about, node, receiver, sum(n) AS n, sum(good) AS good, max(longest_seq) AS longest_seq,
   max(longest) AS longest
-FROM (SELECT *, sum(n - good) OVER (PARTITION BY relation, code, about, node, cookie) AS kept FROM d)
-WHERE kept > 0 GROUP BY 1, 2, 3, 4, 5;
+FROM path
+WHERE (about, of_node, of_code, relation, of_cookie) IN (
+  SELECT about, of_node, of_code, relation, of_cookie FROM path WHERE n > good)
+GROUP BY 1, 2, 3, 4, 5;
 CREATE UNIQUE INDEX temp.buffer_path_of ON buffer_path(about, node, code, relation, receiver);
 UPDATE finding SET (n_all, n_good, longest_seq, longest) = (
   SELECT sum(n), sum(good), max(longest_seq), max(longest) FROM buffer_path b
@@ -54,8 +57,9 @@ INSERT INTO send_path
 SELECT code, coalesce(node_upid, -upid) AS upid, coalesce(ptr, handle) AS ptr, coalesce(cookie, 0) AS cookie, oneway,
   sum(sends) AS n, sum(good) AS good, max(good_seq) AS longest_seq, max(good_time) AS longest
 FROM sent
-WHERE code IN (SELECT code FROM finding
-    WHERE section IN ('calls', 'refused', 'strays', 'oneway', 'spam', 'objects', 'books'))
+WHERE (code, coalesce(node_upid, -upid), coalesce(ptr, handle)) IN (
+  SELECT code, coalesce(target, -upid), iif(target IS NULL, handle, ptr) FROM finding
+  WHERE section IN ('calls', 'refused', 'strays', 'oneway', 'spam', 'objects', 'books'))
 GROUP BY 1, 2, 3, 4, 5;
 CREATE UNIQUE INDEX temp.send_path_of ON send_path(code, upid, ptr, cookie, oneway);
 UPDATE finding SET n_all = p.n, n_good = p.good, longest_seq = p.longest_seq, longest = p.longest

@@ -1,17 +1,14 @@
 -- M: what is no longer real, or not told at all, where frames are missing.
--- needs: database/schema.sql: finding, raw_generation; sums.sql: sent_sum; nodes.sql: node_of; rule.sql: if_missing,
---   lossy; buffers.sql: of_whole_path
+-- needs: database/schema.sql: finding; counts.sql: sent; rule.sql: if_missing, lossy; buffers.sql: of_whole_path
 -- after: the rules
 -- makes: temporary tables: half_known
 
 -- The paths that a process takes of which frames are missing: how long calls took there, and how many replies were
 -- freed, is not known of all.
--- beside: rule.sql
 CREATE TEMP TABLE half_known AS
-SELECT DISTINCT s.code, n.upid, n.ptr
-FROM (SELECT 1 FROM lossy LIMIT 1) CROSS JOIN sent_sum s JOIN raw_generation g ON g.id = s.generation
-  JOIN node_of n USING (generation)
-WHERE g.upid IN (SELECT upid FROM lossy);
+SELECT DISTINCT code, node_upid AS upid, ptr
+FROM sent
+WHERE upid IN (SELECT upid FROM lossy);
 -- Of its own process; of a call also those of the process that it calls, where the call may wait for another one; and
 -- of a call or a reply those of others on its path, and of a pool those of what calls it. Of the replies of a whole
 -- path any process may have got more. A send with bad objects was refused for these.

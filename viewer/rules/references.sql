@@ -4,8 +4,8 @@
 --   thing_path; ages.sql: ended, last, leaving, process_life, recorded; handles.sql: handle_row; rule.sql: lossy;
 --   ways.sql: collector, earlier, kept_handle, kept_way, let_go, of_way, outlived; waits.sql: waits; judging.py:
 --   call_name
--- makes: temporary tables: mourned, dead_way, outlives, let_go_later, told_by_reply, held_change, reference_level,
---   most_held, more_references, each_again, nearly_all, growing, by_design, overdue, unused, outliving, not_collected,
+-- makes: temporary tables: mourned, dead_way, outlives, let_go_later, told_by_reply, held_change, most_held,
+--   more_references, each_again, nearly_all, growing, by_design, overdue, unused, outliving, not_collected,
 --   kept_elsewhere, used_of_way, weakly_kept, handed_over; indexes: most_held_of, more_references_of, by_design_of
 
 -- ---- what findings are called
@@ -181,28 +181,24 @@ WHERE rule IS NULL AND o.id = finding.id;
 -- more only if it has three now, besides one for each of them that is in a call, and may let go after it. A handle may
 -- have very many generations, of which at most one is held.
 CREATE TEMP TABLE held_change(generation INTEGER, place INTEGER, seq INTEGER, utid INTEGER, strong INTEGER,
-  weak INTEGER);
+  weak INTEGER, strong_then INTEGER, weak_then INTEGER, PRIMARY KEY(generation, place)) WITHOUT ROWID;
 -- beside: loading
 INSERT INTO held_change
 WITH held AS MATERIALIZED (
   SELECT id, upid, handle, begin FROM raw_generation WHERE strong + weak > 0 AND (acquired > 1 OR increfs > 1))
-SELECT g.id AS generation, r.place, r.seq, r.utid, (r.kind = :BC_ACQUIRE) - (r.kind = :BC_RELEASE) AS strong,
-  (r.kind = :BC_INCREFS) - (r.kind = :BC_DECREFS) AS weak
-FROM (SELECT 1 FROM held LIMIT 1) CROSS JOIN raw_record r CROSS JOIN raw_thread t USING (utid)
-  CROSS JOIN held g ON g.upid = t.upid AND g.handle = r.handle AND g.begin <= r.place
-WHERE r.kind IN (:BC_INCREFS, :BC_ACQUIRE, :BC_RELEASE, :BC_DECREFS);
--- What each thread brought a generation to at most.
-CREATE TEMP TABLE reference_level AS
-SELECT generation, utid, max(strong) AS strong, max(weak) AS weak
-FROM (SELECT generation, utid, sum(strong) OVER changes AS strong, sum(weak) OVER changes AS weak FROM held_change
-  WINDOW changes AS (PARTITION BY generation ORDER BY place))
-GROUP BY 1, 2;
+SELECT *, sum(strong) OVER changes AS strong_then, sum(weak) OVER changes AS weak_then
+FROM (SELECT g.id AS generation, r.place, r.seq, r.utid, (r.kind = :BC_ACQUIRE) - (r.kind = :BC_RELEASE) AS strong,
+    (r.kind = :BC_INCREFS) - (r.kind = :BC_DECREFS) AS weak
+  FROM (SELECT 1 FROM held LIMIT 1) CROSS JOIN raw_record r CROSS JOIN raw_thread t USING (utid)
+    CROSS JOIN held g ON g.upid = t.upid AND g.handle = r.handle AND g.begin <= r.place
+  WHERE r.kind IN (:BC_INCREFS, :BC_ACQUIRE, :BC_RELEASE, :BC_DECREFS))
+WINDOW changes AS (PARTITION BY generation ORDER BY place);
 CREATE TEMP TABLE most_held AS
-SELECT generation, iif(min(utid) = max(utid), max(strong), max(now_strong) - 1 - count(calls)) AS strong,
-  iif(min(utid) = max(utid), max(weak), max(now_weak) - 1 - count(calls)) AS weak
+SELECT generation, iif(min(utid) = max(utid), max(strong), max(now_strong) - 1 - count(DISTINCT calls)) AS strong,
+  iif(min(utid) = max(utid), max(weak), max(now_weak) - 1 - count(DISTINCT calls)) AS weak
 FROM (SELECT c.generation, g.strong AS now_strong, g.weak AS now_weak, c.utid,
-    iif(c.utid IN (SELECT utid FROM waits), c.utid, NULL) AS calls, c.strong, c.weak
-  FROM reference_level c JOIN raw_generation g ON g.id = c.generation) GROUP BY 1;
+    iif(c.utid IN (SELECT utid FROM waits), c.utid, NULL) AS calls, c.strong_then AS strong, c.weak_then AS weak
+  FROM held_change c CROSS JOIN raw_generation g ON g.id = c.generation) GROUP BY 1;
 CREATE UNIQUE INDEX temp.most_held_of ON most_held(generation);
 -- Of which references become more to the end: how many there are at the half of what was recorded of the process, and
 -- at the end, if that is more by enough, and the last two quarters have each made it more.
@@ -212,7 +208,7 @@ FROM (SELECT generation, sum(n * (left >= :LATELY)) AS half, sum(n * (left >= :L
   FROM (SELECT c.generation, iif(g.strong > 0, c.strong, c.weak) AS n,
       coalesce(1.0 * (l.grows_to_ts - x.ts) / (l.grows_to_ts - l.first_ts),
         1.0 * (l.grows_to_seq - c.seq) / (l.grows_to_seq - l.first_seq)) AS left
-    FROM held_change c JOIN raw_generation g ON g.id = c.generation JOIN recorded l USING (upid)
+    FROM held_change c CROSS JOIN raw_generation g ON g.id = c.generation JOIN recorded l USING (upid)
       LEFT JOIN side_time x ON x.seq = c.seq) GROUP BY 1)
 WHERE held - half >= max(:TOO_MANY, :GROWTH * held) AND half < later AND later < held;
 CREATE UNIQUE INDEX temp.more_references_of ON more_references(generation);
@@ -368,7 +364,7 @@ WHERE rule IN ('H5', 'H9') AND k.generation = finding.generation;
 CREATE TEMP TABLE weakly_kept AS
 SELECT id, is_watched
 FROM (SELECT f.id, f.rule,
-    EXISTS (SELECT 1 FROM finding q WHERE q.section = 'requests' AND q.generation = g.id) AS is_watched
+    f.generation IN (SELECT generation FROM finding WHERE section = 'requests') AS is_watched
   FROM finding f JOIN raw_generation g ON g.id = f.generation
   WHERE f.section = 'handles' AND f.what = 'held' AND f.rule NOTNULL AND g.strong = 0 AND g.weak > 0)
 WHERE is_watched OR rule NOT IN ('H4', 'H11');
