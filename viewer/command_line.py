@@ -14,6 +14,14 @@ from viewer.terminal import tell
 Reading = Mapping[str, Mapping[str, Any]]
 
 
+class Form(argparse.HelpFormatter):
+    """By this argparse looks whether each option is well formed, and nothing is written. It has a width, because else
+    it asks how wide the terminal is, by a module that takes longer to load than all options take."""
+
+    def __init__(self, prog: str) -> None:
+        super().__init__(prog, width=100)
+
+
 class Version(argparse.Action):
     """Writes what the programs are made of, and ends this one."""
 
@@ -27,7 +35,7 @@ class Words(argparse.ArgumentParser):
 
     def __init__(self, command: str, name: str) -> None:
         self.command = command_of(command)
-        super().__init__(prog=called(command), allow_abbrev=False)
+        super().__init__(prog=called(command), allow_abbrev=False, formatter_class=Form)
         self.name = name
         self.add_argument(VERSION.name, action=Version, nargs=0)
 

@@ -3,7 +3,6 @@ beside the sources. In the repository they are made anew when a source is newer;
 
 import os
 import pathlib
-import threading
 from typing import Callable, Iterator
 
 from viewer.program_names import PACKED
@@ -30,6 +29,7 @@ def kept(name: str, folders: tuple[pathlib.Path, ...], write: Callable[[pathlib.
     older than a source, `write` makes it."""
     path = folders[0] / "out" / name
     if not PACKED and not is_fresh(path, folders):
+        import threading
         path.parent.mkdir(exist_ok=True)
         new = path.with_name(f"{name}.{threading.get_native_id()}")
         write(new)

@@ -1,7 +1,7 @@
 /*
  * Loads the raw tables of a capture into a new SQLite database.
  *
- *     load [--pack TABLE [--by COLUMN]..].. DATABASE FOLDER SCHEMA [SIDE [OTHERS]]
+ *     load [--pack TABLE [--tell COLUMN] [--by COLUMN]..].. DATABASE FOLDER SCHEMA [SIDE [OTHERS]]
  *
  * DATABASE is created, and must not exist. SCHEMA is a file of SQL statements that create the tables; or a database that
  * has these tables, empty, to be copied, which takes a tenth of the time. Each table whose name begins with raw_ takes the rows of FOLDER/NAME.rows, where NAME is what follows raw_. docs/DATABASE.md says what
@@ -10,7 +10,8 @@
  * Everything is one transaction.
  *
  * A TABLE has whole numbers alone, and its first column rises, or repeats if it is no key. It becomes a virtual table of DATABASE.TABLE, a file of
- * packed rows, in which rows are found by the first column, and by each COLUMN. If FOLDER/NAME.rows of such a table is a
+ * packed rows, in which rows are found by the first column, and by each COLUMN. Of one that is told, blocks of rows
+ * that have other values in it are passed over. If FOLDER/NAME.rows of such a table is a
  * named pipe, its rows are packed as they come, and all files of FOLDER are there at the end of standard input.
  *
  * Status 0: everything is loaded. Status 1: a line on standard error says why not, and DATABASE is not whole.
@@ -326,7 +327,20 @@ static void run_schema(sqlite3 *database, const struct schema *schema)
 
 /* ---- packed tables */
 
-/* Learns how many columns a table has, and whether its first one is that of a key. */
+/* The number of a column. */
+static int column_of(sqlite3 *database, const struct packed_table *table, const char *name)
+{
+	sqlite3_stmt *asked = prepared(database, "SELECT cid FROM pragma_table_info(?) WHERE name = ?");
+	sqlite3_bind_text(asked, 1, table->name, -1, SQLITE_STATIC);
+	sqlite3_bind_text(asked, 2, name, -1, SQLITE_STATIC);
+	if (sqlite3_step(asked) != SQLITE_ROW)
+		stop("%s has no column %s", table->name, name);
+	int number = sqlite3_column_int(asked, 0);
+	sqlite3_finalize(asked);
+	return number;
+}
+
+/* Learns how many columns a table has, whether its first one is that of a key, and which one is told. */
 static void learn_table(sqlite3 *database, struct packed_table *table)
 {
 	struct rows rows = { 0 };
@@ -336,6 +350,7 @@ static void learn_table(sqlite3 *database, struct packed_table *table)
 	sqlite3_bind_text(asked, 1, table->name, -1, SQLITE_STATIC);
 	table->repeats = sqlite3_step(asked) == SQLITE_ROW && !sqlite3_column_int(asked, 0);
 	sqlite3_finalize(asked);
+	table->told = table->told_name ? column_of(database, table, table->told_name) : 0;
 }
 
 static void *pack_in_thread(void *table)
@@ -424,16 +439,8 @@ static char *columns_text(sqlite3 *database, const char *table)
 static char *indexes_text(sqlite3 *database, const struct packed_table *table)
 {
 	char *text = sqlite3_mprintf("");
-	sqlite3_stmt *asked = prepared(database, "SELECT cid FROM pragma_table_info(?) WHERE name = ?");
-	for (int number = 0; number < table->indexes; number++) {
-		sqlite3_bind_text(asked, 1, table->name, -1, SQLITE_STATIC);
-		sqlite3_bind_text(asked, 2, table->index[number], -1, SQLITE_STATIC);
-		if (sqlite3_step(asked) != SQLITE_ROW)
-			stop("%s has no column %s", table->name, table->index[number]);
-		text = sqlite3_mprintf("%z, %d", text, sqlite3_column_int(asked, 0));
-		sqlite3_reset(asked);
-	}
-	sqlite3_finalize(asked);
+	for (int number = 0; number < table->indexes; number++)
+		text = sqlite3_mprintf("%z, %d", text, column_of(database, table, table->index[number]));
 	return text;
 }
 
@@ -508,7 +515,7 @@ static void load(sqlite3 *database, char **words, const struct schema *schema, s
 
 static int usage(void)
 {
-	fputs("usage: load [--pack TABLE [--by COLUMN]..].. DATABASE FOLDER SCHEMA [SIDE [OTHERS]]\n", stderr);
+	fputs("usage: load [--pack TABLE [--tell COLUMN] [--by COLUMN]..].. DATABASE FOLDER SCHEMA [SIDE [OTHERS]]\n", stderr);
 	return 64;
 }
 
@@ -522,6 +529,8 @@ static int take_packed(struct packing *packing, int count, char **words)
 			if (packing->tables == MOST_PACKED)
 				return 0;
 			packing->table[packing->tables++].name = words[at + 1];
+		} else if (last && !last->told_name && !strcmp(words[at], "--tell")) {
+			last->told_name = words[at + 1];
 		} else if (last && last->indexes < MOST_COLUMNS && !strcmp(words[at], "--by")) {
 			last->index[last->indexes++] = words[at + 1];
 		} else {

@@ -55,7 +55,7 @@ void pack_rows(struct packed_table *table)
 	if (stream->file < 0)
 		stop("%s: %s", table->rows, strerror(errno));
 	struct packer packer;
-	packer_begin(&packer, table->packed, table->columns, table->repeats);
+	packer_begin(&packer, table->packed, table->columns, table->repeats, table->told);
 	for (;;) {
 		if (stream->length - stream->at < LONGEST_ROW)
 			fill(stream);

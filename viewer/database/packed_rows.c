@@ -58,15 +58,18 @@ int packed_map(struct packed_file *file, const char *path)
 	if (file->length < sizeof end)
 		return SQLITE_CORRUPT;
 	memcpy(&end, file->bytes + file->length - sizeof end, sizeof end);
-	uint64_t room = file->length - sizeof end;
-	if (end.blocks > room / sizeof *file->block || end.blocks_at != room - end.blocks * sizeof *file->block
-	    || end.blocks_at % sizeof(uint64_t) || end.rows_end > end.blocks_at || !end.columns || end.columns > MOST_COLUMNS)
+	uint64_t room = file->length - sizeof end, of_block = sizeof *file->block + (end.told ? sizeof *file->values : 0);
+	if (end.blocks > room / of_block || end.blocks_at != room - end.blocks * of_block
+	    || end.blocks_at % sizeof(uint64_t) || end.rows_end > end.blocks_at || !end.columns || end.columns > MOST_COLUMNS
+	    || end.told >= end.columns)
 		return SQLITE_CORRUPT;
 	file->columns = (int)end.columns;
 	file->repeats = end.repeats != 0;
 	file->blocks = end.blocks;
 	file->end = end.rows_end;
 	file->block = (const struct packed_block *)(file->bytes + end.blocks_at);
+	file->told = (int)end.told;
+	file->values = (const uint64_t *)(file->block + file->blocks);
 	return SQLITE_OK;
 }
 
@@ -115,11 +118,11 @@ static inline const unsigned char *take_number(const unsigned char *at, const un
 	return take_long(at, end, number);
 }
 
-static inline const unsigned char *take_signed(const unsigned char *at, const unsigned char *end, int64_t *number)
+static inline const unsigned char *take_value(const unsigned char *at, const unsigned char *end, int64_t *number)
 {
 	uint64_t packed;
 	at = take_number(at, end, &packed);
-	*number = (int64_t)(packed >> 1 ^ -(packed & 1));
+	*number = (int64_t)packed;
 	return at;
 }
 
@@ -140,7 +143,7 @@ int packed_take_columns(struct packed_cursor *cursor, int column)
 	if (!cursor->is_taken && take_mask(cursor))
 		return SQLITE_CORRUPT;
 	for (uint64_t due = cursor->left & (((uint64_t)2 << column) - 1); due; due &= due - 1) {
-		cursor->at = take_signed(cursor->at, cursor->row.next, &cursor->values[__builtin_ctzll(due)]);
+		cursor->at = take_value(cursor->at, cursor->row.next, &cursor->values[__builtin_ctzll(due)]);
 		if (!cursor->at)
 			return SQLITE_CORRUPT;
 		cursor->left &= cursor->left - 1;
@@ -157,7 +160,7 @@ static int take_row(const unsigned char *at, const unsigned char *end, int64_t b
 	if (!at || length > (size_t)(end - at))
 		return 0;
 	row->next = at + length;
-	row->rest = take_signed(at, row->next, &more);
+	row->rest = take_value(at, row->next, &more);
 	row->key = (int64_t)((uint64_t)before + (uint64_t)more);
 	return row->rest != NULL;
 }
@@ -298,7 +301,7 @@ static inline int see_value(const struct packed_row *row, int columns, const str
 		return 1;
 	uint64_t before = mask & (((uint64_t)1 << due->column) - 2);
 	at = pass_numbers(at, row->next, __builtin_popcountll(before));
-	if (!at || !take_signed(at, row->next, &value))
+	if (!at || !take_value(at, row->next, &value))
 		return 0;
 	for (int number = 0; number < due->values; number++)
 		*has |= due->value[number] == value;
@@ -324,11 +327,32 @@ static int go_up_in_block(struct packed_cursor *cursor, const struct packed_valu
 	return SQLITE_OK;
 }
 
+/*
+ * The next block that may have a row with one of the values, or that is behind `most`. If a column is told, and it is
+ * this one, nothing of the blocks before it is read.
+ */
+static size_t next_block(const struct packed_cursor *cursor, const struct packed_value *due, int64_t most)
+{
+	const struct packed_file *file = cursor->file;
+	size_t block = cursor->block + 1;
+	if (!file->told || file->told != due->column)
+		return block;
+	uint64_t bits = 0;
+	for (int number = 0; number < due->values; number++)
+		bits |= packed_bit(due->value[number]);
+	while (block < file->blocks && !(file->values[block] & bits) && file->block[block].first <= most)
+		block++;
+	return block;
+}
+
 int packed_go_up_to_value(struct packed_cursor *cursor, const struct packed_value *due, int64_t most, int *is_there)
 {
 	int status = go_up_in_block(cursor, due, most, is_there);
-	while (status == SQLITE_OK && !*is_there && cursor->block + 1 < cursor->file->blocks) {
-		status = go_to_block(cursor, cursor->block + 1);
+	for (size_t block; status == SQLITE_OK && !*is_there; ) {
+		block = next_block(cursor, due, most);
+		if (block >= cursor->file->blocks)
+			break;
+		status = go_to_block(cursor, block);
 		if (status == SQLITE_OK && !see_value(&cursor->row, cursor->file->columns, due, is_there))
 			status = SQLITE_CORRUPT;
 		*is_there |= cursor->row.key > most;

@@ -6,6 +6,8 @@ struct packed_file {
 	size_t length, stretches, blocks, end;	/* `end` is where the last block ends */
 	unsigned char *bytes, *is_in_memory;	/* of each stretch, whether it was read since all were given back */
 	const struct packed_block *block;
+	int told;				/* the column that is told; 0: none is */
+	const uint64_t *values;			/* of each block, those of the column that is told */
 };
 
 /* A row: its first column, what follows that, and where the next row begins. */

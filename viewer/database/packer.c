@@ -17,9 +17,9 @@ static void *with_room(void *old, size_t bytes)
 	return made;
 }
 
-void packer_begin(struct packer *packer, const char *path, int columns, int repeats)
+void packer_begin(struct packer *packer, const char *path, int columns, int repeats, int told)
 {
-	*packer = (struct packer){ .path = path, .columns = columns, .repeats = repeats, .rises = 1 };
+	*packer = (struct packer){ .path = path, .columns = columns, .repeats = repeats, .told = told, .rises = 1 };
 	packer->file = open(path, O_WRONLY | O_CREAT | O_EXCL | O_CLOEXEC, 0600);
 	if (packer->file < 0)
 		stop("%s: %s", path, strerror(errno));
@@ -51,7 +51,11 @@ static void begin_block(struct packer *packer, int64_t first)
 	if (packer->blocks == packer->room) {
 		packer->room = packer->room ? 2 * packer->room : 1024;
 		packer->block = with_room(packer->block, packer->room * sizeof *packer->block);
+		if (packer->told)
+			packer->values = with_room(packer->values, packer->room * sizeof *packer->values);
 	}
+	if (packer->told)
+		packer->values[packer->blocks] = 0;
 	packer->block[packer->blocks++] = (struct packed_block){ first, packer->written + packer->held };
 	packer->rows_of_block = 0;
 }
@@ -64,11 +68,6 @@ static unsigned char *put_number(unsigned char *at, uint64_t number)
 	return at;
 }
 
-static unsigned char *put_signed(unsigned char *at, int64_t number)
-{
-	return put_number(at, (uint64_t)number << 1 ^ (uint64_t)(number >> 63));
-}
-
 void packer_add(struct packer *packer, uint64_t mask, const int64_t *values)
 {
 	int is_first = packer->blocks == 0;
@@ -79,11 +78,13 @@ void packer_add(struct packer *packer, uint64_t mask, const int64_t *values)
 		packer->last = 0;
 	}
 	packer->rows_of_block++;
-	unsigned char row[LONGEST_PACKED], *at = put_signed(row, (int64_t)((uint64_t)key - (uint64_t)packer->last));
+	unsigned char row[LONGEST_PACKED], *at = put_number(row, (uint64_t)key - (uint64_t)packer->last);
 	packer->last = key;
 	at = put_number(at, mask);
 	for (uint64_t left = mask & ~(uint64_t)1; left; left &= left - 1)
-		at = put_signed(at, values[__builtin_ctzll(left)]);
+		at = put_number(at, (uint64_t)values[__builtin_ctzll(left)]);
+	if (packer->told && mask >> packer->told & 1)
+		packer->values[packer->blocks - 1] |= packed_bit(values[packer->told]);
 	unsigned char *to = put_number(packer->waiting + packer->held, (uint64_t)(at - row));
 	memcpy(to, row, (size_t)(at - row));
 	packer->held = (size_t)(to - packer->waiting) + (size_t)(at - row);
@@ -98,14 +99,17 @@ int packer_end(struct packer *packer)
 	while ((packer->written + packer->held) % sizeof(uint64_t))
 		packer->waiting[packer->held++] = 0;
 	write_waiting(packer);
-	struct packed_end end = { packer->blocks, (uint64_t)packer->columns, packer->written, rows_end,
-				  (uint64_t)packer->repeats };
+	struct packed_end end = { packer->blocks, (uint64_t)packer->columns, (uint64_t)packer->told, packer->written,
+				  rows_end, (uint64_t)packer->repeats };
 	if (packer->blocks)
 		write_out(packer, packer->block, packer->blocks * sizeof *packer->block);
+	if (packer->blocks && packer->told)
+		write_out(packer, packer->values, packer->blocks * sizeof *packer->values);
 	write_out(packer, &end, sizeof end);
 	if (close(packer->file))
 		stop("%s: %s", packer->path, strerror(errno));
 	free(packer->block);
+	free(packer->values);
 	free(packer->waiting);
 	return packer->rises;
 }

@@ -130,6 +130,9 @@ def loader() -> pathlib.Path:
 PACKED_TABLES = {"raw_record": (), "raw_frame": ("utid",), "raw_delivery": (), "raw_send": ("generation", "refused"),
                  "raw_call": ("utid", "closer"), "raw_object": ("binder",), "side_time": ()}
 
+# Of which of them a column is told: statements that look for rare values of it pass over all other rows.
+TOLD = {"raw_record": "kind"}
+
 # Of these, those whose rows the listing writes.
 STREAMED = tuple(name.removeprefix("raw_") for name in PACKED_TABLES if name.startswith("raw_"))
 
@@ -160,7 +163,8 @@ def refuse_other_layout(rows: pathlib.Path) -> None:
 
 def packed_words(table: str) -> list[str]:
     """The words by which the loader packs a table."""
-    return ["--pack", table, *(word for column in PACKED_TABLES[table] for word in ("--by", column))]
+    told = ("--tell", TOLD[table]) if table in TOLD else ()
+    return ["--pack", table, *told, *(word for column in PACKED_TABLES[table] for word in ("--by", column))]
 
 
 class Loading:

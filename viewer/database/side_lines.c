@@ -230,7 +230,7 @@ void load_side_list(sqlite3 *database, const char *path, struct packed_table *ti
 	if (others)
 		list.others = opened(others, "wxe");
 	if (times) {
-		packer_begin(&packer, times->packed, times->columns, times->repeats);
+		packer_begin(&packer, times->packed, times->columns, times->repeats, times->told);
 		list.times = &packer;
 	}
 	list.add_time = prepared(database, "INSERT OR REPLACE INTO side_time(seq, ts) VALUES (?, ?)");

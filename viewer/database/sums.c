@@ -504,6 +504,8 @@ static void add_time(struct group *group, int64_t ts)
 
 static void sum_again(struct work *work)
 {
+	if (!work->tables->file[TIMES].blocks)
+		return;
 	struct packed_cursor send = cursor_in(work, SENDS), record = cursor_in(work, RECORDS), time = cursor_in(work, TIMES);
 	while (go_on(work, &send, SEND_GENERATION)) {
 		if (!has(&send, SEND_GENERATION) || !look_up(work, &record, send.values[0], RECORD_DATA_SIZE)
