@@ -266,7 +266,7 @@ static void sum_peers(struct work *work)
 
 enum { SENT_GENERATION, SENT_CODE, SENT_ONEWAY, SENT_KEYS, SENT_SENDS = SENT_KEYS, SENT_FAILED, SENT_REFUSED, SENT_OPEN,
        SENT_BYTES, SENT_DELIVERED, SENT_ONE_FITS, SENT_BUFFERS, SENT_PEAK, SENT_LONGEST_SEQ, SENT_LONGEST, SENT_GOOD,
-       SENT_GOOD_SEQ, SENT_GOOD_TIME, SENT_WAITED, SENT_FIELDS };
+       SENT_GOOD_SEQ, SENT_GOOD_TIME, SENT_WAITED, SENT_HANDLED, SENT_FIELDS };
 
 /* Adds the delivery of a send, if there is one. Returns whether it is there. */
 static int add_delivery(struct work *work, struct group *group, const struct packed_cursor *send,
@@ -329,11 +329,22 @@ static int add_wait(struct work *work, struct group *group, int64_t frames, int 
 	return is_oneway;
 }
 
+/* Adds how long the buffer of a oneway send was held, if it was freed and both times are known. */
+static void add_handled(struct work *work, struct group *group, const struct packed_cursor *delivery,
+			struct packed_cursor *came, struct packed_cursor *freed)
+{
+	int64_t time, seq = delivery->values[DELIVERY_SEQ];
+	if (has(delivery, DELIVERY_DUR_SEQ)
+	    && time_between(work, came, freed, seq, seq + delivery->values[DELIVERY_DUR_SEQ], &time))
+		set_most(group, SENT_HANDLED, time);
+}
+
 static void sum_sent(struct work *work)
 {
 	struct packed_cursor send = cursor_in(work, SENDS), record = cursor_in(work, RECORDS), call = cursor_in(work, CALLS),
 			     delivery = cursor_in(work, DELIVERIES), begun = cursor_in(work, TIMES),
-			     came = cursor_in(work, TIMES), ended = cursor_in(work, TIMES);
+			     came = cursor_in(work, TIMES), ended = cursor_in(work, TIMES),
+			     freed = cursor_in(work, TIMES);
 	while (go_on(work, &send, SEND_FITS)) {
 		if (!has(&send, SEND_GENERATION) || !look_up(work, &record, send.values[0], RECORD_DATA_SIZE))
 			continue;
@@ -358,6 +369,8 @@ static void sum_sent(struct work *work)
 		if (has_come)
 			is_good |= add_wait(work, group, delivery.values[DELIVERY_SEQ] - send.values[SEND_SEQ], is_oneway, sent,
 					    &delivery, &came);
+		if (has_come && is_oneway)
+			add_handled(work, group, &delivery, &came, &freed);
 		add(group, SENT_GOOD, is_good);
 	}
 }
@@ -535,7 +548,8 @@ struct sum {
 static const struct sum SUMS[] = {
 	{ "peer_sum", "generation, upid, ptr, cookie, deliveries, certain", PEER_KEYS, PEER_FIELDS, -1, sum_peers },
 	{ "sent_sum", "generation, code, oneway, sends, failed, refused, open, bytes, delivered, one_fits, buffers, peak,"
-		      " longest_seq, longest, good, good_seq, good_time, waited", SENT_KEYS, SENT_FIELDS, SENT_BYTES, sum_sent },
+		      " longest_seq, longest, good, good_seq, good_time, waited, handled", SENT_KEYS, SENT_FIELDS, SENT_BYTES,
+	  sum_sent },
 	{ "came_sum", "reply, oneway, code, generation, handle, receiver, ptr, cookie, n, good, longest_seq, longest",
 	  CAME_KEYS, CAME_FIELDS, -1, sum_came },
 	{ "served_sum", "code, upid, ptr, cookie, n, good, longest_seq, longest", SERVED_KEYS, SERVED_FIELDS, -1,

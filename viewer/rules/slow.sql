@@ -68,11 +68,8 @@ SELECT upid, code, oneway
 FROM (SELECT DISTINCT upid, code, oneway, node_upid FROM sent)
 GROUP BY 1, 2, 3 HAVING count(*) >= :TOO_MANY;
 CREATE TEMP TABLE timed_path AS
-SELECT p.generation, p.code, p.oneway, p.upid, p.node_upid AS server, p.ptr, iif(p.oneway, (
-    SELECT max(z.ts - x.ts)
-    FROM raw_send s JOIN raw_record r USING (place) JOIN raw_delivery d ON d.place = s.delivery
-      JOIN side_time x ON x.seq = d.seq JOIN side_time z ON z.seq = d.seq + d.dur_seq
-    WHERE s.generation = p.generation AND r.code = p.code), p.longest) AS longest
+SELECT p.generation, p.code, p.oneway, p.upid, p.node_upid AS server, p.ptr,
+  iif(p.oneway, p.handled, p.longest) AS longest
 FROM (SELECT 1 FROM told_many LIMIT 1) CROSS JOIN sent p
 WHERE (p.upid, p.code, p.oneway) IN (SELECT upid, code, oneway FROM told_many);
 -- What a process told listeners of one interface by one code, each process that has some with its longest call, or

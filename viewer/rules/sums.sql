@@ -12,7 +12,7 @@ WHERE s.generation NOTNULL GROUP BY 1, 2, 3, 4;
 
 -- What was sent to a generation of a handle, by code. `longest` is the longest call; `good` counts the calls that were
 -- answered, and the oneway sends that were delivered, and the two after it are the longest of these. `waited` is the
--- longest time from a send to its delivery.
+-- longest time from a send to its delivery, and `handled` that from the delivery of a oneway send until it is freed.
 CREATE TEMP VIEW sent_sum AS
 SELECT
   s.generation,
@@ -32,12 +32,14 @@ SELECT
   count(e.seq) AS good,
   max(e.seq - s.seq) AS good_seq,
   max(y.ts - x.ts) AS good_time,
-  max(w.ts - x.ts) AS waited
+  max(w.ts - x.ts) AS waited,
+  max(iif(r.flags & :TF_ONE_WAY, v.ts - w.ts, NULL)) AS handled
 FROM raw_send s CROSS JOIN raw_record r USING (place) LEFT JOIN raw_call c USING (place)
   LEFT JOIN raw_delivery d ON d.place = s.delivery
   LEFT JOIN raw_record e ON e.place = iif(r.flags & :TF_ONE_WAY, s.delivery, iif(c.verdict = 1, c.closer, NULL))
   LEFT JOIN side_time x ON x.seq = s.seq LEFT JOIN side_time z ON z.seq = c.seq + c.dur_seq
   LEFT JOIN side_time y ON y.seq = e.seq LEFT JOIN side_time w ON w.seq = d.seq
+  LEFT JOIN side_time v ON v.seq = d.seq + d.dur_seq
 WHERE s.generation NOTNULL GROUP BY 1, 2, 3;
 
 -- What each process got: replies by the call that they answer, and all else by the object. A reply has no ptr and no
