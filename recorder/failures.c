@@ -22,7 +22,7 @@ struct failure {
 };
 
 static int log_book = -1;
-static u64 looked, last_number;			/* at the last look: the time, and the last number that was taken */
+static u64 looked, last_number;			/* at the last look: the time, and the last number before it */
 static struct failure failures[ENTRIES];	/* what the log had then, the oldest first */
 static u32 count;
 
@@ -106,7 +106,8 @@ static void look(int is_told)
 {
 	static struct failure entries[ENTRIES];
 	int is_overrun;
-	u64 time = now(), number = kernel_last_number();
+	/* What takes a number while the log is read may be in it already, or be new at the next look. */
+	u64 time = now(), before = kernel_last_number(), number = before;
 	u32 found = read_entries(entries, &number);
 	u32 next = first_new(entries, found, &is_overrun);
 	if (found && is_told && is_overrun)
@@ -118,7 +119,7 @@ static void look(int is_told)
 		count = found;
 	}
 	looked = time;
-	last_number = number;
+	last_number = before;
 }
 
 void failures_begin(void)
