@@ -20,7 +20,7 @@ AUTHORS = tuple(f"docs/{name}.md" for name in ("REPORT", "ENVELOPE", "COMMANDS",
 INSIDERS = "CONTRIBUTING.md", *(f"docs/{name}.md" for name in ("ARCHITECTURE", "DECISIONS", "PROMISES", "MEASURED"))
 # The most words of the pages for users, for authors of recorders, and for those who work on the repository; of those on
 # the samples, and of those that stand beside the code.
-MOST = {"users": 32_000, "authors": 13_720, "insiders": 18_000, "samples": 3_450, "crates and checks": 10_250}
+MOST = {"users": 32_000, "authors": 13_000, "insiders": 18_000, "samples": 3_450, "crates and checks": 10_250}
 MOST_MEASURED, MOST_DECISION, MOST_SENTENCE = 4_600, 120, 35
 
 
