@@ -33,10 +33,9 @@
 
 -- How long each oneway send waited for its delivery, or if it did not come, for the end of its receiver; but not those
 -- that waited for a thaw. Which of those that wait for one node a delivery belongs to may be a guess, which keeps their
--- order, as the driver does. Of these, those of the nodes for which one waited over :LONG, or did not come.
+-- order, as the driver does. Of these, those of the nodes for which one that came waited over :LONG.
 CREATE TEMP TABLE late_node AS
-SELECT DISTINCT node_upid AS upid, ptr, cookie FROM sent
-WHERE oneway AND (waited > :LONG OR delivered < sends);
+SELECT DISTINCT node_upid AS upid, ptr, cookie FROM sent WHERE oneway AND waited > :LONG;
 CREATE TEMP TABLE slow_wait AS
 SELECT *, until - since AS wait
 FROM (SELECT s.place, n.upid, n.ptr, n.cookie, x.ts AS since, coalesce(y.ts, p.ended, last.ts) AS until,

@@ -134,9 +134,10 @@ WITH RECURSIVE way(at) AS (SELECT -w.server_upid FROM waits w JOIN finding q USI
 SELECT at AS id FROM way;
 UPDATE finding SET rule = 'C6'
 WHERE rule IS NULL AND finding.id IN (SELECT id FROM old) AND finding.id IN (SELECT id FROM keeps_busy);
--- If it waits for a call back to that pool, both are the ring.
+-- If it waits for a call back to that pool, both are the ring; but a call back whose caller has ended is none.
+DELETE FROM pool_ring WHERE next NOT IN (SELECT id FROM finding WHERE rule = 'C7');
 UPDATE finding SET rule = 'C11' WHERE rule = 'C6' AND id IN (SELECT id FROM pool_ring);
-UPDATE finding SET rule = 'C11' WHERE rule = 'C7' AND id IN (SELECT p.next FROM pool_ring p JOIN finding f USING (id)
+UPDATE finding SET rule = 'C11' WHERE id IN (SELECT p.next FROM pool_ring p JOIN finding f USING (id)
   WHERE f.rule = 'C11');
 UPDATE finding SET rule = 'U2'
 WHERE rule IS NULL AND section IN ('calls', 'served') AND what = 'open' AND n_good >= :ENOUGH

@@ -77,7 +77,7 @@ FROM pool_wait w JOIN raw_thread t USING (utid);
 -- If most calls waited so long, the median is no measure of what is usual. `delayed` are those that waited for others.
 CREATE TEMP TABLE used_up AS
 SELECT w.server, count(*) AS n, max(w.ns) AS longest, u.dur AS usual, sum(w.own < (1 - :NEARLY_ALL) * w.ns) AS delayed,
-  coalesce(sum((w.ns > :OLD * u.dur OR u.dur > :VERY_LONG) AND w.own < (1 - :NEARLY_ALL) * w.ns) >= :OFTEN, 0) AS is_real,
+  sum((w.ns > :OLD * u.dur OR u.dur > :VERY_LONG) AND w.own < (1 - :NEARLY_ALL) * w.ns) >= :OFTEN AS is_real,
   iif(max(w.ns) > :VERY_LONG, NULL, c.upid) AS caller, c.n AS of_caller
 FROM waited_for w LEFT JOIN usual_wait u USING (server) LEFT JOIN kept_by_caller c USING (server)
 WHERE w.server NOT IN (SELECT server FROM told_by_call)

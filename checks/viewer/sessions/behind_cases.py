@@ -1,16 +1,19 @@
 """More sessions as in cases.py: listeners that fall behind."""
 
+from checks.kit.captures import BC_TRANSACTION, BR_FAILED_REPLY, ENTER, record
 from checks.viewer.sessions.cases import case
 from checks.viewer.sessions.session import ONE_WAY
 
 
-def told(s, count, came_at, ends=True, lost=False, more=0, every=100, senders=1):
+def told(s, count, came_at, ends=True, lost=False, more=0, every=100, senders=1, cookie=0, refused=None):
     """A client tells a service something each 0.1 s, in oneway sends, or clients do so in turns. The service takes each
     of them at a time, if it does so before the end, `more` milliseconds after the last of them, and then ends or does
-    not. `lost`: its last frame is missing."""
+    not. `lost`: its last frame is missing. `cookie`: they go to another object, with this cookie, by a handle that was
+    there before. `refused`: the driver refuses one more, after so many."""
     service, client = s.two()
     clients = [client, *(s.process(200 + number, "client") for number in range(1, senders))]
     client.main.asks(service.main)
+    handle, ptr = (7, 0x9000) if cookie else (0, 0)
     begin, sent = s.time, {}
     stops = every * count + more
     steps = [(every * at, 0, at) for at in range(count)]
@@ -20,10 +23,13 @@ def told(s, count, came_at, ends=True, lost=False, more=0, every=100, senders=1)
         if lost and at == count - 1:
             s.loses(service)
         if takes:
-            service.main.frees(service.main.gets(sent[at]))
+            service.main.frees(service.main.gets(sent[at], ptr, cookie=cookie))
         else:
             body = bytes([at % senders]) * 4 if senders > 1 else b""
-            sent[at] = clients[at % senders].main.sends(0, 7, ONE_WAY, body=body)
+            sent[at] = clients[at % senders].main.sends(handle, 7, ONE_WAY, body=body)
+            if at == refused:
+                client.main.writes(sent[at].record(BC_TRANSACTION, handle))
+                client.main.reads(record(BR_FAILED_REPLY))
     s.wait(max(0, stops - (s.time - begin) / 1_000_000))
     if ends:
         service.ends()
@@ -32,15 +38,26 @@ def told(s, count, came_at, ends=True, lost=False, more=0, every=100, senders=1)
 @case("E3:16 W4:1", "maybe oneway sends that wait longer and longer: 1 of - code 7 at service 100 node 0x0 W4",
       "; 16 sends did not come", "W4 by service 100: 1",
       "defect: oneway sends that wait longer and longer | service on binder | code 7 at service", every=170)
-@case("U1:16 W4:1", every=170, ends=False)
+@case("U1:16 W4:1", "; 16 sends did not come", every=170, ends=False)
+@case("E3:16 W4:1", "; 16 sends did not come", every=170, cookie=5)
 @case("E3:6", every=120)
+@case("E3:6", every=120, then=1000)
 @case("E3:18", every=170, late=300)
 @case("E3:16", every=170, lost=True)
 @case("E3:123 W4:1", "; 123 sends did not come", every=170, count=300)
-def falls_behind(s, every, late=0, ends=True, lost=False, count=40):
+def falls_behind(s, every, late=0, ends=True, lost=False, count=40, cookie=0, then=0):
     """The service takes one in so many milliseconds, the first of them late or not. If many wait, the pairs of sends
-    and deliveries are guesses."""
-    told(s, count, lambda at: late + every * at, ends, lost)
+    and deliveries are guesses. Then another process goes on for so long."""
+    told(s, count, lambda at: late + every * at, ends, lost, cookie=cookie)
+    if then:
+        s.wait(then)
+        s.process(300, "other").main.writes(ENTER)
+
+
+@case("E5:1", refused=20)
+def takes_all_but_one(s, refused):
+    """The service takes each a while later, but the driver refuses one."""
+    told(s, 40, lambda at: 100 * at + 120, more=200, refused=refused)
 
 
 @case("E3:1 W3:19")

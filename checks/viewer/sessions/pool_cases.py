@@ -20,14 +20,15 @@ def waits_for_one(s, service, caller, victim, took=1100, idle=0, code=10, throug
     return waiting
 
 
-def is_served(service, victim, waiting):
-    victim.main.answered(service.main.replies(service.main.gets(waiting)))
+def is_served(service, victim, waiting, by=None):
+    (by or victim.main).answered(service.main.replies(service.main.gets(waiting)))
 
 
 @case("Q1:1", "code 10 at service 100 node 0x0", "3 calls waited up to 1.1 s (the median is 1 ms) for its 1 looper: ",
       "2 of victim 301, 1 of victim 300", "Q1 by service 100: 1", ": code 10 in thread 100")
 @case("Q2:1", "Q2 at 3160: code 10", "2 calls waited up to 1.21 s", victims=2, longer=100)
 @case("Q2:1", "2 calls waited up to 1.1 s (the median is 1 ms)", "1 of victim 300, 1 of victim 301", victims=2)
+@case("Q2:1", "2 calls waited up to 1.1 s (the median is 1 ms)", victims=2, good=0)
 @case("Q4:1", took=900)
 @case("", victims=1, free=True)
 @case("Q2:1", "for its 1 looper", victims=1, free="later")
@@ -40,13 +41,13 @@ def is_served(service, victim, waiting):
 @case("Q2:1", usual=120, took=1150)
 @case("", victims=1, lost=True)
 @case("Q2:1", "for 1 looper: ", met="in-mid-life", victims=1)
-def calls_wait(s, victims=3, took=1100, longer=0, idle=0, usual=0, free=None, lost=False, met="from-start"):
+def calls_wait(s, victims=3, took=1100, longer=0, idle=0, good=4, usual=0, free=None, lost=False, met="from-start"):
     """Slow calls keep the only looper of a service, one after another, each so much longer than the one before, and
-    other calls wait meanwhile. Another thread
-    is free, or becomes a looper later, or is none any more, or has ended, or only makes calls."""
+    other calls wait meanwhile. Before, some waited as usual. Another thread is free, or becomes a looper later, or is
+    none any more, or has ended, or only makes calls."""
     service, client = s.two(met)
     others = [s.process(300, "victim"), s.process(301, "victim")]
-    for _ in range(4):
+    for _ in range(good):
         sent = client.main.sends(0, 1)
         s.wait(usual)
         client.main.answered(service.main.replies(service.main.gets(sent)))
@@ -83,12 +84,14 @@ def calls_wait(s, victims=3, took=1100, longer=0, idle=0, usual=0, free=None, lo
 @case("C11:2 C7:2 A1:4", "; in a ring with the call at 1144 of client 200, code 3 to service", times=2)
 @case("M2:2 C7:1 A1:4", lost="client")
 @case("C6:2 C7:2 A1:6", served=True)
+@case("C6:1 C7:2 T1:1 A1:4", " and thread 201 has done nothing since)", gone=True)
 def calls_back_to_a_full_pool(s, wait=1100, by="another thread", active=0, times=1, lost=None, served=False,
-                              to_another=False, onward=None):
+                              to_another=False, onward=None, gone=False):
     """The only looper of a service serves a call, and calls a client meanwhile. Another thread of the client calls
     back, or another process calls the service, and no thread of the service is free. `served`: a second looper serves
     that, and never replies. `active`: the client's looper does something so long before the end. In place of that the
-    client calls another service, or does so by its looper or its main thread; that one never replies."""
+    client calls another service, or does so by its looper or its main thread; that one never replies. `gone`: the
+    thread that calls back ends at once, and a call of another process waits."""
     service, client = s.two()
     second = service.looper(1) if served else None
     client.main.gives(service.main, 7)
@@ -106,7 +109,9 @@ def calls_back_to_a_full_pool(s, wait=1100, by="another thread", active=0, times
             8 if to_another else 0, 3)
     if onward:
         late.main.gets((back if onward == "back" else client.main).sends(8, 4), 0x9800)
-    if to_another:
+    if gone:
+        sent.sender.ends()
+    if to_another or gone:
         s.process(303, "waiting").main.sends(0, 3)
     if second:
         second.gets(sent)
@@ -138,13 +143,15 @@ def kept_by_two_methods(s, more, times=1):
 
 
 @case("Q2:1", "3 calls waited up to 1.1 s", "3 of client 200")
+@case("Q2:1", "4 of client 200", times=4, pause=2000)
 @case("Q2:1", "2 of client 200, 1 of victim 300", victims=(1,))
 @case("Q1:1", "3 of victim 300", victims=(0, 1, 2))
 @case("Q2:1", "3 of client 200, 2 of victim 300", times=5, victims=(0, 4))
 @case("Q1:1", "3 of client 200, 3 of victim 300", times=6, victims=(0, 1, 5))
-@case("Q1:1", "3 of victim 300, 1 of client 200", times=4, victims=(0, 1, 2), keeps=3)
-@case("Q1:1", "3 of victim 300, 1 of client 200", times=4, victims=(1, 2, 3), keeps=0)
-def waits_for_its_own(s, times=3, victims=(), keeps=None):
+@case("Q1:1", "3 of victim 300, 1 of client 200", times=4, victims=(0, 1, 2), keeps=(3,))
+@case("Q1:1", "3 of victim 300, 1 of client 200", times=4, victims=(1, 2, 3), keeps=(0,))
+@case("Q1:1", "6 of client 200", times=6, keeps=(3, 4, 5))
+def waits_for_its_own(s, times=3, victims=(), keeps=(), pause=0):
     """A client calls the only looper of a service twice at once, several times, so that one of its calls waits for the
     other one; or the victim's call waits; or the victim keeps the looper this time."""
     service, client = s.two()
@@ -152,7 +159,8 @@ def waits_for_its_own(s, times=3, victims=(), keeps=None):
     for _ in range(4):
         client.main.asks(service.main)
     for at in range(times):
-        keeper, caller = victim.main if at == keeps else client.main, victim.main if at in victims else second
+        s.wait(pause)
+        keeper, caller = victim.main if at in keeps else client.main, victim.main if at in victims else second
         address = service.main.gets(keeper.sends(0, 10))
         waiting = caller.sends(0, 1)
         s.wait(1100)
@@ -160,14 +168,46 @@ def waits_for_its_own(s, times=3, victims=(), keeps=None):
         caller.answered(service.main.replies(service.main.gets(waiting)))
 
 
+@case("Q1:1", "3 of user 300", share=0.15, took=1150)
+@case("Q2:1", "3 of user 300", share=0.25, took=1150)
+@case("Q4:1", "3 of user 300", share=0.15, took=350)
+@case("", share=0.25, took=350)
+@case("Q2:1", "3 of user 300", share=0.15, took=1150, own=2, loopers=2)
+@case("Q1:1", "3 of user 300", share=0.15, took=1150, own=1, loopers=2)
+def waits_partly_for_its_own(s, share, took, own=1, loopers=1):
+    """Three times a call of a process waits for the loopers of a service. For a part of that time other calls of it
+    keep some of them, and all else those of a client do."""
+    service, client = s.two()
+    user, pool = s.process(300, "user"), [service.main, *(service.looper(at) for at in range(1, loopers))]
+    for _ in range(4):
+        client.main.asks(service.main)
+    second, users, clients = user.thread(1), *(
+        [one.thread(10 + at) for at in range(loopers)] for one in (user, client))
+    for _ in range(3):
+        first = [(by, by.sends(0, 10)) for by in [*users[:own], *clients[own:]]]
+        begun = [(looper, by, looper.gets(sent)) for looper, (by, sent) in zip(pool, first)]
+        then = [(looper, by, by.sends(0, 10)) for looper, by in zip(pool, clients[:own])]
+        waiting = second.sends(0, 1)
+        s.wait(took * share)
+        ends = [(looper, by, address) for looper, by, address in begun[own:]]
+        for looper, by, address in begun[:own]:
+            by.answered(looper.replies(address))
+        ends += [(looper, by, looper.gets(sent)) for looper, by, sent in then]
+        s.wait(took * (1 - share))
+        for looper, by, address in ends:
+            by.answered(looper.replies(address))
+        is_served(service, user, waiting, second)
+
+
 @case("Q1:1", "6 calls waited up to 1.6", "(the median is 1 ms) for its 1 looper: 3 of victim 300, 3 of victim 350",
       "Q1 by service 100: 1")
 @case("Q1:1", "18 calls waited up to 1.6", "(the median is 1.6", good=0, each=3)
+@case("Q2:1", "6 calls waited up to 1.12 s (the median is 931 ms)", good=0, each=3, took=300, last=360)
 @case("Q2:1", "6 calls waited up to 1.6", own=True)
-def starves(s, good=30, each=1, own=False):
+def starves(s, good=30, each=1, own=False, took=550, last=550):
     """A slow client calls the only looper of a service again and again. Two victims call it by turns, with so many
-    threads, and the looper serves each for a moment; so at any time one of them waits. `own`: all calls are of one
-    process."""
+    threads, and the looper serves each for a moment; so at any time one of them waits. The last two of the slow calls
+    may take longer. `own`: all calls are of one process."""
     service, client = s.two()
     victims = [client, client] if own else [s.process(300, "victim"), s.process(350, "victim")]
     callers = [[one.thread(5 + at + 2 * nth) for nth in range(each)] for at, one in enumerate(victims)]
@@ -176,9 +216,9 @@ def starves(s, good=30, each=1, own=False):
     waiting = []
     for at in range(7):
         address = service.main.gets(client.main.sends(0, 10))
-        s.wait(550)
+        s.wait(took if at < 5 else last)
         late, waiting = waiting, [(one, one.sends(0, 1)) for one in callers[at % 2]] if at < 6 else []
-        s.wait(550)
+        s.wait(took if at < 5 else last)
         client.main.answered(service.main.replies(address))
         for caller, sent in late:
             caller.answered(service.main.replies(service.main.gets(sent)))
@@ -229,14 +269,15 @@ def starved_by_its_client(s, quiet=0):
 @case("", by=(0, 1, 2), took=85, last=150)
 @case("Q4:1", loopers=1)
 @case("Q3:1", "9 of client 200 kept them busy", loopers=1, at_once=3)
+@case("Q3:1", "7 of client 200 kept them busy", loopers=1, at_once=3, alone=True)
 @case("Q4:1", loopers=1, victims=3, by=(0,))
 @case("Q4:1", loopers=1, victims=3, by=(0,), at_once=2)
 @case("Q3:1", loopers=1, victims=3, by=(0,), at_once=3)
 @case("Q2:1", "1 call waited up to 1.0", last=1000)
 @case("Q3:1", "3 calls waited up to 9", last=900)
-def queue(s, took=150, by=(0, 0, 0), codes=(10,), loopers=2, victims=1, at_once=1, own=False, last=None):
+def queue(s, took=150, by=(0, 0, 0), codes=(10,), loopers=2, victims=1, at_once=1, own=False, last=None, alone=False):
     """Clients keep the loopers of a service busy for a while, by turns, each looper with so many calls of one code, and
-    calls of a victim wait meanwhile."""
+    calls of a victim wait meanwhile. `alone`: the first time it is one call."""
     service, client = s.two()
     pool = [service.main, *(service.looper(at) for at in range(1, loopers))]
     clients = [client, *(s.process(201 + at, "client") for at in range(max(by)))]
@@ -246,15 +287,67 @@ def queue(s, took=150, by=(0, 0, 0), codes=(10,), loopers=2, victims=1, at_once=
     for _ in range(4 * len(by)):
         victim.main.asks(service.main)
     for at, which in enumerate(by):
-        sent = [(one, one.sends(0, codes[at % len(codes)])) for one in callers[which]]
+        count = loopers * (1 if alone and at == 0 else at_once)
+        sent = [(one, one.sends(0, codes[at % len(codes)])) for one in callers[which][:count]]
         late = [one.sends(0, 1) for one in waiting]
         for begin in range(0, len(sent), loopers):
             kept = [(one, looper, looper.gets(call)) for (one, call), looper in zip(sent[begin:begin + loopers], pool)]
-            s.wait((last if last and at == len(by) - 1 else took) / at_once)
+            s.wait((last if last and at == len(by) - 1 else took) * loopers / count)
             for one, looper, address in kept:
                 one.answered(looper.replies(address))
         for one, call in zip(waiting, late):
             one.answered(service.main.replies(service.main.gets(call)))
+
+
+@case("Q3:1 Q4:1", "3 of client 200 kept them busy", "code 10 at service 100 node 0x0 (4 calls waited")
+def keeps_two_services(s):
+    """A client keeps the only looper of a service busy, and half of the time that of another one, where another client
+    does so by turns; calls of a victim wait at both."""
+    manager, client = s.two()
+    service, other, victim = s.process(400, "second"), s.process(201, "other"), s.process(300, "victim")
+    service.main.writes(ENTER)
+    service.main.gives(manager.main, 9, node=0x9000)
+    for one in client, victim:
+        one.main.is_given(manager.main, 7, server_handle=9)
+    for _ in range(8):
+        victim.main.asks(manager.main)
+        victim.main.asks(service.main, 1, 7, 0x9000)
+    mine, waits = [[one.thread(5 + at) for at in range(3)] for one in (client, victim)]
+    for callers, waiting, handle, looper, ptr in (
+            (mine, waits, 7, service.main, 0x9000),
+            *(([one], waits[:1], 0, manager.main, 0) for one in (mine[0], other.main, mine[0], other.main))):
+        for by, call in [(by, by.sends(handle, 1 if by in waits else 10)) for by in (*callers, *waiting)]:
+            address = looper.gets(call, ptr)
+            s.wait(0 if by in waits else 150)
+            by.answered(looper.replies(address))
+
+
+@case("Q1:1", "3 of user 300")
+def kept_over_two_waits(s):
+    """A process waits for the two loopers of a service, which a client keeps, and at last a call of its own. That one
+    goes on, while a call of another process waits for the second looper."""
+    service, client = s.two()
+    pool, user, other = (service.main, service.looper(1)), s.process(300, "user"), s.process(301, "other")
+    for _ in range(4):
+        client.main.asks(service.main)
+    kept = [(by, looper, looper.gets(by.sends(0, 10))) for by, looper in zip((client.main, client.thread(1)), pool)]
+    own, waiting = user.main.sends(0, 10), [(by, by.sends(0, 1)) for by in (user.thread(at) for at in (1, 2, 3))]
+    s.wait(950)
+    by, looper, address = kept[0]
+    by.answered(looper.replies(address))
+    address = looper.gets(own)
+    s.wait(150)
+    by, second, kept_address = kept[1]
+    by.answered(second.replies(kept_address))
+    for one, sent in waiting:
+        one.answered(second.replies(second.gets(sent)))
+    s.wait(100)
+    kept_address = second.gets(by.sends(0, 10))
+    late = other.main.sends(0, 1)
+    s.wait(1100)
+    by.answered(second.replies(kept_address))
+    other.main.answered(second.replies(second.gets(late)))
+    user.main.answered(looper.replies(address))
 
 
 @case("Q1:2", "3 of other 300", "3 of client 200")
@@ -279,6 +372,85 @@ def waits_elsewhere(s):
         client.main.answered(busy.main.replies(busy.main.gets(at_busy, 0x9000)))
         keepers[0].answered(service.main.replies(first))
         other.main.answered(service.main.replies(service.main.gets(at_service)))
+
+
+@case("Q2:1 Q4:1", "3 calls waited up to 905 ms for its 1 looper", "1 call waited up to 1.1 s (the median is 21 ms)")
+def two_used_up(s):
+    """Two services are used up, one of them for longer, whose calls wait for a while also before."""
+    service, client = s.two()
+    victim, slower = s.process(300, "victim"), s.process(400, "slower")
+    slower.main.writes(ENTER)
+    slower.main.gives(service.main, 9, node=0x9000)
+    for one in client, victim:
+        one.main.is_given(service.main, 7, server_handle=9)
+    for _ in range(10):
+        client.main.asks(service.main)
+    for _ in range(4):
+        sent = client.main.sends(7, 1)
+        s.wait(20)
+        client.main.answered(slower.main.replies(slower.main.gets(sent, 0x9000)))
+    address = slower.main.gets(client.main.sends(7, 10), 0x9000)
+    waiting = victim.main.sends(7, 1)
+    s.wait(1100)
+    client.main.answered(slower.main.replies(address))
+    victim.main.answered(slower.main.replies(slower.main.gets(waiting, 0x9000)))
+    for _ in range(3):
+        is_served(service, victim, waits_for_one(s, service, client, victim, 900))
+
+
+@case("", late=True)
+@case("Q2:1", "1 call waited up to 1.1 s (the median is 21 ms) for its 1 looper: 1 of other 301", late=False)
+def alike_to_two_services(s, late):
+    """Two threads of a process make the same call at once, by handles that were there before the recording, to two
+    services: it is not known which one came to which. They wait for long, or for a moment again and again."""
+    manager, client = s.two()
+    one, _ = services = [s.process(number, "service") for number in (400, 401)]
+    for at, service in enumerate(services):
+        service.main.writes(ENTER)
+        service.main.gives(manager.main, 50 + at, node=0x9000)
+        client.main.is_given(manager.main, 7 + at, server_handle=50 + at)
+    victim, other = s.process(300, "victim"), s.process(301, "other")
+    other.main.is_given(manager.main, 7, server_handle=50)
+    threads, clients = [victim.thread(at) for at in (1, 2)], [client.thread(at) for at in (1, 2)]
+    for _ in range(4):
+        sent = client.main.sends(7, 2)
+        s.wait(20)
+        client.main.answered(one.main.replies(one.main.gets(sent, 0x9000)))
+    for _ in range(1 if late else 8):
+        kept = [service.main.gets(by.sends(7 + at, 10), 0x9000)
+                for at, (service, by) in enumerate(zip(services, clients)) if late]
+        waiting = [by.sends(17 + at, 1) for at, by in enumerate(threads)]
+        s.wait(1100 if late else 0)
+        for service, by, address in zip(services, clients, kept):
+            by.answered(service.main.replies(address))
+        got = [service.main.gets(sent, 0x9000) for service, sent in zip(services, waiting)]
+        replies = [service.main.replies(address) for service, address in zip(services, got)]
+        for by, reply in zip(threads, replies):
+            by.answered(reply)
+    if not late:
+        address = one.main.gets(client.main.sends(7, 10), 0x9000)
+        sent = other.main.sends(7, 1)
+        s.wait(1100)
+        client.main.answered(one.main.replies(address))
+        other.main.answered(one.main.replies(one.main.gets(sent, 0x9000)))
+
+
+@case("Q2:1", "1 call waited up to 1.1 s (the median is 21 ms) for its 1 looper")
+def calls_that_come_back(s):
+    """The only looper of a service is used up by a call. Before, calls waited for a while, and others came back to it
+    within those that it made."""
+    service, client = s.two()
+    client.main.gives(service.main, 7)
+    for _ in range(4):
+        sent = client.main.sends(0, 3)
+        s.wait(20)
+        served = service.main.gets(sent)
+        within = client.main.gets(service.main.sends(7, 2), 0x9700)
+        client.main.asks(service.main, 4)
+        service.main.answered(client.main.replies(within))
+        client.main.answered(service.main.replies(served))
+    victim = s.process(300, "victim")
+    is_served(service, victim, waits_for_one(s, service, client, victim))
 
 
 @case("Q2:2", "code 10 at service 101 node 0x9000", "code 10 at another 102 node 0x9000")
@@ -391,13 +563,22 @@ def kept_by_another_to_the_end(s, wait, late=False):
 
 @case("A1:4 C7:3 Q1:2 U1:1", "the loopers wait for third 302", "Q1 by third 302: 2", wait=50)
 @case("A1:4 C6:1 C7:3", "C6 by third 302: 1", wait=12000)
-def kept_by_another_pool(s, wait):
+@case("A1:6 C6:1 C7:4 Q1:2 U1:1", "C6 by stuck 304: 1", "Q1 by third 302: 2", wait=50, beside=True)
+def kept_by_another_pool(s, wait, beside=False):
     """The only looper of a service waits for the only looper of a slow process, which serves another call; the last
-    such call is under way at the end, or hangs."""
+    such call is under way at the end, or hangs. Beside that another pool is used up by a call that hangs."""
     service, client = s.two()
     victim, third, other = s.process(300, "victim"), s.process(302, "third"), s.process(303, "other")
     third.main.gives(service.main, 8)
     other.main.is_given(service.main, 1, server_handle=8)
+    if beside:
+        stuck, caller = s.process(304, "stuck"), s.process(305, "caller")
+        stuck.main.writes(ENTER)
+        stuck.main.gives(service.main, 9)
+        caller.main.is_given(service.main, 2, server_handle=9)
+        caller.main.asks(stuck.main, 12, 2, 0x9900)
+        stuck.main.gets(caller.main.sends(2, 12), 0x9900)
+        caller.thread(1).sends(2, 12)
     for at in range(4):
         got = third.main.gets(other.main.sends(1, 12), 0x9800)
         address = service.main.gets(client.main.sends(0, 10))
@@ -414,24 +595,30 @@ def kept_by_another_pool(s, wait):
 @case("Q2:1", "oneway code 7 at service 100 node 0x0", by=0)
 @case("", by=1)
 @case("", by=0, share=0.6)
+@case("", by=0, share=0.6, idle=True)
 @case("Q2:1", "oneway code 7 at service 100 node 0x0", by=0, calls=True)
 @case("Q2:1", "oneway code 7 at service 100 node 0x0", by=0, earlier=True)
-def kept_by_a_oneway_transaction(s, by, share=1, calls=False, earlier=False):
+def kept_by_a_oneway_transaction(s, by, share=1, calls=False, earlier=False, idle=False):
     """The only looper is in a oneway transaction for so much of the time, and frees it at its end; or another thread
-    frees it. Meanwhile it calls another process, or an earlier call waited for a while."""
+    frees it. Meanwhile it calls another process, or an earlier call waited for a while. `idle`: the oneway transaction
+    comes after the rest of the time."""
     service, client = s.two()
     victim, threads = s.process(300, "victim"), (service.main, service.thread(1))
     third = s.process(302, "third")
     third.main.gives(service.main, 8)
     if earlier:
         is_served(service, victim, waits_for_one(s, service, client, victim, 150))
-    address = service.main.gets(client.main.sends(0, 7, ONE_WAY))
-    waiting = victim.main.sends(0, 1)
+    sent = None if idle else client.main.sends(0, 7, ONE_WAY)
+    waiting = victim.main.sends(0, 1) if idle else None
+    if idle:
+        s.wait(1100 * (1 - share))
+    address = service.main.gets(sent or client.main.sends(0, 7, ONE_WAY))
+    waiting = waiting or victim.main.sends(0, 1)
     if calls:
         service.main.asks(third.main, 2, 8, 0x9800, took=300)
     s.wait((800 if calls else 1100) * share)
     threads[by].frees(address)
-    s.wait(1100 * (1 - share))
+    s.wait(0 if idle else 1100 * (1 - share))
     is_served(service, victim, waiting)
 
 
@@ -518,3 +705,43 @@ def kept_from_oneway_transactions(s):
     for _ in range(2):
         client.main.sends(0, 7, ONE_WAY)
     s.wait(50)
+
+
+@case("A1:4 C7:1 C8:2")
+def kept_by_a_ring_of_locks(s):
+    """Both loopers of a service are in calls of a ring of locks, and another call waits for long."""
+    service, client = s.two(enters=False)
+    one, two, back = service.looper(1), service.looper(2), client.looper(1)
+    client.main.gives(one, 7)
+    for _ in range(3):
+        client.main.asks(one, 11)
+        two.asks(back, 2, 7, 0x9700)
+    one.gets(client.main.sends(0, 11))
+    back.gets(two.sends(7, 2), 0x9700)
+    s.process(300, "victim").main.sends(0, 1)
+    s.wait(1100)
+
+
+@case("A1:4 C6:1 C7:2 Q1:1 U1:1", "C6 by third 302: 1", "Q1 by service 100: 1")
+def kept_while_its_main_thread_waits(s):
+    """The only looper of a service is used up by calls that take long, one of which is under way at the end. Meanwhile
+    the main thread waits for another pool, in which a call hangs."""
+    service, client = s.two(enters=False)
+    looper, third, other = service.looper(1), s.process(302, "third"), s.process(303, "other")
+    third.main.gives(looper, 8)
+    other.main.is_given(looper, 1, server_handle=8)
+    other.main.asks(third.main, 12, 1, 0x9800)
+    victim = s.process(300, "victim")
+    for _ in range(4):
+        victim.main.asks(looper)
+    for _ in range(3):
+        address = looper.gets(client.main.sends(0, 10))
+        waiting = victim.main.sends(0, 1)
+        s.wait(1100)
+        client.main.answered(looper.replies(address))
+        victim.main.answered(looper.replies(looper.gets(waiting)))
+    third.main.gets(other.main.sends(1, 12), 0x9800)
+    service.main.sends(8, 12)
+    looper.gets(client.main.sends(0, 10))
+    s.wait(1200)
+    victim.main.sends(0, 1)

@@ -320,10 +320,13 @@ def clear_not_confirmed(s, then, wait, ends=False, lost=False, thread=False, fir
 @case("T1:1", wait=900, leaves="before, after")
 @case("U4:1", wait=900, of="service")
 @case("U4:1", wait=500, ends=False)
-def clears_and_leaves(s, wait, leaves="after", of="client", ends=True):
+@case("T1:1 U6:1", wait=900, keeps=True)
+def clears_and_leaves(s, wait, leaves="after", of="client", ends=True, keeps=False):
     """A client clears its request, and its other threads, or one of the service, leave the pool after that or before;
-    then the client ends, or goes on."""
+    then the client ends, or goes on. It may also keep the buffer of a reply."""
     service, client = watching(s)
+    if keeps:
+        client.main.asks(service.main, free=False)
     loopers = [(client if of == "client" else service).looper(at) for at in (1, 2)]
     if "before" in leaves:
         loopers[0].writes(record(BC_EXIT_LOOPER))
