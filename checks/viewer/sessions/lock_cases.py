@@ -187,7 +187,7 @@ def two_hold(s, ends, come="", between=60, third=False):
         held_ends()
 
 
-@case("", codes=(2, 5))
+@case("V5:1", codes=(2, 5))
 @case("V4:2", "code 2 at service 100 node 0x0 (3 calls", "code 5 at service 100 node 0x0 (3 calls", ": 3 of code 3)",
       codes=(2, 5), waiting=3)
 @case("V4:1", "(4 calls waited")
@@ -196,7 +196,7 @@ def two_hold(s, ends, come="", between=60, third=False):
 @case("V4:1", "(4 calls waited", handles=(8, 9))
 @case("V4:1", "(4 calls waited up to 1.11 s, until its call at ", " ended, code 1: 4 of code 3)",
       handles=(UNKNOWN, UNKNOWN))
-@case("", to=((0, 0), (2, 0x200)))
+@case("V5:1", to=((0, 0), (2, 0x200)))
 @case("V4:2", "code 2 at service 100 node 0x200 (3 calls", ": 3 of code 3)", to=((0, 0), (2, 0x200)), waiting=3)
 def one_after_another(s, codes=(2, 2), inner=(1, 1), handles=(8, 8), to=((0, 0), (0, 0)), waiting=2,
                       took=(1100, 1100)):
