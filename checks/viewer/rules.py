@@ -62,15 +62,15 @@ def due_of(one: Case) -> Counter:
 
 # What is said of a judged case, as queries of one column each.
 TEXTS = (
-    # Paths and notes of the findings; where those of pools are, and in which call; of what is slow or late too whose it
-    # is, and where; how many of each rule a process causes; and how many took the path of each finding, how many of
-    # these well, and how long that took at most.
+    # Paths and notes of the findings; where those of pools are, and in which call; of what is slow, late or throws too
+    # whose it is, and where; how many of each rule a process causes; and how many took the path of each finding, how
+    # many of these well, and how long that took at most.
     "SELECT coalesce(path, '') || ' (' || coalesce(note, '') || ')' FROM finding",
     "SELECT rule || ' at ' || place || ': code ' || code || ' in thread ' || thread"
     " FROM finding JOIN raw_thread USING (utid) WHERE section = 'pools'",
     "SELECT rule || ' of ' || w.who || ', ' || f.section || ' ' || f.what || ': frame ' || f.seq || ' at ' || f.place"
     " || ', thread ' || coalesce(t.thread, '-') FROM finding f JOIN who w USING (upid)"
-    " LEFT JOIN raw_thread t USING (utid) WHERE f.section IN ('pools', 'queues', 'slow')",
+    " LEFT JOIN raw_thread t USING (utid) WHERE f.section IN ('pools', 'queues', 'slow', 'exceptions')",
     "SELECT rule || ' by ' || who || ': ' || count(*) FROM finding f"
     " JOIN who w ON w.upid = coalesce(f.culprit, f.upid) GROUP BY rule, w.upid",
     "SELECT rule || ' at ' || coalesce(place, '-') || ': ' || coalesce(n_good, '-') || ' of ' || coalesce(n_all, '-')"

@@ -7,6 +7,7 @@ from viewer.arguments.parcel import Misfit, Parcel, Stop, Unknown
 from viewer.arguments.sources import Called, Declarations, Unclear
 from viewer.arguments.texts import quoted, texts_in
 from viewer.arguments.values import Values
+from viewer.exceptions import EXCEPTIONS, exception_name
 from viewer.methods.declared import Field
 from viewer.units import counted, status_name
 
@@ -14,10 +15,6 @@ from viewer.units import counted, status_name
 # an object follows it.
 MARKS = {int.from_bytes(mark, "big") for mark in (b"SYST", b"VNDR", b"RECO", b"UNKN")}
 
-# The exceptions that a reply begins with: those of Java and libbinder, and headers that come before.
-EXCEPTIONS = {-1: "EX_SECURITY", -2: "EX_BAD_PARCELABLE", -3: "EX_ILLEGAL_ARGUMENT", -4: "EX_NULL_POINTER",
-              -5: "EX_ILLEGAL_STATE", -6: "EX_NETWORK_MAIN_THREAD", -7: "EX_UNSUPPORTED_OPERATION",
-              -8: "EX_SERVICE_SPECIFIC", -9: "EX_PARCELABLE", -129: "EX_TRANSACTION_FAILED"}
 SERVICE_SPECIFIC, PARCELABLE = -8, -9
 # A header of noted app ops, after which the exception follows; and one of StrictMode, after which there is none.
 NOTED_APP_OPS, STRICT_MODE = -127, -128
@@ -122,7 +119,7 @@ def thrown(parcel: Parcel, number: int, at: int) -> Iterator[Part]:
     """An exception: its name, its message, and what comes with it. Where it was thrown is passed."""
     if number not in EXCEPTIONS:
         raise Misfit(at, f"the exception {number}")
-    yield Part("exception", at, f"{EXCEPTIONS[number]} ({number})")
+    yield Part("exception", at, exception_name(number))
     begin = parcel.at
     message = parcel.string16()
     yield Part("message", begin, "null" if message is None else quoted(message))

@@ -307,7 +307,7 @@ INSERT INTO about VALUES
   -- Each row of the report but those of `codes` and `oneway`, and sections that the page adds:
   --
   -- - `oneway`: sends that never came (`undelivered`); `spam`: suspected ones
-  -- - `answers`: calls with a status other than 0; `books`: calls of `book_open`
+  -- - `answers`: calls with a status other than 0; `exceptions`: methods with R4; `books`: calls of `book_open`
   -- - `pools`: used up; `queues`: objects to which oneway sends wait longer and longer
   -- - `descriptors`: processes that keep more and more; `services`: names that were asked for in vain
   -- - `freezes`, `freeze_clears`: as `deaths` and `clears`

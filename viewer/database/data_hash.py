@@ -1,5 +1,5 @@
-"""Numbers for the data of transactions, by which it is known which calls are alike: the database has no data. In a
-redacted capture the same data have the same bytes too."""
+"""Numbers for the data of transactions, by which it is known which calls are alike, and the exceptions of replies: the
+database has no data. In a redacted capture the same data have the same bytes too, and each exception is there."""
 
 import mmap
 import os
@@ -8,11 +8,20 @@ from contextlib import ExitStack
 # As hashlib has it, which loads OpenSSL too.
 from _blake2 import blake2s
 
+from viewer.exceptions import EXCEPTIONS
+
 # Before the data of an attachment entry come so many bytes, and a file of a capture begins with so many (ENVELOPE.md).
 ENTRY_HEADER, FILE_HEADER = 12, 16
 
+# The bytes of an exception, and with the shortest message, which comes after it: a status is shorter.
+EXCEPTION, LEAST = 4, 8
+
 ALL = ("INSERT INTO data_hash SELECT place, hash_of(attachment, data_size) AS hash FROM raw_record WHERE kind IN"
        " (SELECT number FROM kind WHERE name IN ('BC_TRANSACTION', 'BC_TRANSACTION_SG')) AND attachment NOTNULL")
+ALL_EXCEPTIONS = (
+    "INSERT INTO exception WITH thrown AS MATERIALIZED (SELECT place, exception_of(attachment, data_size) AS number"
+    " FROM raw_record WHERE kind = (SELECT number FROM kind WHERE name = 'BR_REPLY') AND attachment NOTNULL)"
+    " SELECT place, number FROM thrown WHERE number NOTNULL")
 
 
 class Data:
@@ -43,6 +52,13 @@ class Data:
         held = self.bytes_of(attachment, size)
         return int.from_bytes(blake2s(held, digest_size=8).digest(), "little", signed=True)
 
+    def exception_of(self, attachment: int | None, size: int) -> int | None:
+        """The exception with which so many bytes of data begin, whose entry begins there; None without one."""
+        if attachment is None or size < LEAST:
+            return None
+        number = int.from_bytes(self.bytes_of(attachment, EXCEPTION), "little", signed=True)
+        return number if number in EXCEPTIONS else None
+
     def bytes_of(self, attachment: int, size: int) -> bytes:
         """So many bytes of an entry that begins there, after its header."""
         base, data = next(part for part in reversed(self.parts) if part[0] + FILE_HEADER <= attachment)
@@ -51,7 +67,9 @@ class Data:
 
 
 def take_all(database: sqlite3.Connection, files: list[str]) -> None:
-    """Has a number for each transaction."""
+    """Has a number for each transaction, and each exception."""
     with Data(files) as data:
         database.create_function("hash_of", 2, data.hash_of)
+        database.create_function("exception_of", 2, data.exception_of)
         database.execute(ALL)
+        database.execute(ALL_EXCEPTIONS)

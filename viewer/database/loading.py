@@ -18,7 +18,7 @@ from viewer.files import Stopped, linked, shown_name, unchanged
 from viewer.malformed import fault_of
 from viewer.methods.known import Methods, load_methods, named_in
 from viewer.program_names import called
-from viewer.rules.judging import begin, judge
+from viewer.rules.judging import OfData, begin, judge
 from viewer.scratch import remove
 from viewer.started import Started
 from viewer.timing import Timing
@@ -189,7 +189,7 @@ def database_of(root: pathlib.Path, files: list[str], side: str | None, made: pa
         report.unlink()
         tell("applying the rules")
         with data_hash.Data(files) as data:
-            judge(database, timing=timing, finders=finders, hash_of=data.hash_of)
+            judge(database, timing=timing, finders=finders, of_data=OfData(data.hash_of, data.exception_of))
         if finders and side is not None:
             doubt_side_list(database, taken, finders)
     compare_with_books(database)

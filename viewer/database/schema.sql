@@ -17,7 +17,7 @@
 --   side_time, side_clock, side_lost, method, call_interface, object_interface, object_service, side_missed,
 --   side_failed, side_overrun, side_descriptors, side_calls, side_handle, book, book_opening, book_handle, book_node,
 --   book_buffer, book_call, book_process, book_open, book_stats, package, disagreement, side_call, side_pc, side_map,
---   side_unstacked, symbol, data_hash, argument, capture, report, finding; indexes: side_process_of_pid,
+--   side_unstacked, symbol, data_hash, exception, argument, capture, report, finding; indexes: side_process_of_pid,
 --   side_thread_of_tid, book_call_of
 
 PRAGMA user_version = 11;
@@ -393,6 +393,9 @@ CREATE TABLE symbol(build_id TEXT, address INTEGER, inlined INTEGER, function TE
 -- A number for the data of a transaction: the same data have the same one. data_hash.py fills it, for all of them, or of a
 -- large capture that is not kept for calls that come again and again.
 CREATE TABLE data_hash(place INTEGER PRIMARY KEY, hash INTEGER NOT NULL) STRICT;
+-- The exceptions with which replies begin, by EXCEPTIONS of exceptions.py: of all of them, or of a large capture that is
+-- not kept of methods whose last reply has one.
+CREATE TABLE exception(place INTEGER PRIMARY KEY, number INTEGER NOT NULL) STRICT;
 -- What transactions and replies say, where that is asked for: recorded.py of arguments/ fills it.
 CREATE TABLE argument(place INTEGER PRIMARY KEY, text TEXT NOT NULL) STRICT;
 CREATE TABLE capture(key TEXT PRIMARY KEY, value);

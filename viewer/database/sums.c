@@ -21,7 +21,7 @@ enum { BR_REPLY = 259, ONE_WAY = 1 };
 /* The numbers of columns, by the tables of schema.sql. */
 enum { RECORD_UTID = 2, RECORD_KIND, RECORD_HANDLE, RECORD_PTR, RECORD_COOKIE, RECORD_CODE = 8, RECORD_FLAGS,
        RECORD_DATA_SIZE = 12, RECORD_INTERFACE = 19 };
-enum { CALL_SEQ = 1, CALL_UTID, CALL_SERVED, CALL_VERDICT = 6, CALL_DUR_SEQ = 8 };
+enum { CALL_SEQ = 1, CALL_UTID, CALL_SERVED, CALL_VERDICT = 6, CALL_CLOSER, CALL_DUR_SEQ };
 enum { SEND_SEQ = 1, SEND_GENERATION = 3, SEND_REFUSED = 5, SEND_DELIVERY, SEND_CERTAIN, SEND_FITS };
 enum { DELIVERY_SEQ = 1, DELIVERY_UTID, DELIVERY_FREED_BY, DELIVERY_DUR_SEQ, DELIVERY_CALL, DELIVERY_HELD = 7 };
 enum { TIME_TS = 1 };
@@ -266,7 +266,7 @@ static void sum_peers(struct work *work)
 
 enum { SENT_GENERATION, SENT_CODE, SENT_ONEWAY, SENT_KEYS, SENT_SENDS = SENT_KEYS, SENT_FAILED, SENT_REFUSED, SENT_OPEN,
        SENT_BYTES, SENT_DELIVERED, SENT_ONE_FITS, SENT_BUFFERS, SENT_PEAK, SENT_LONGEST_SEQ, SENT_LONGEST, SENT_GOOD,
-       SENT_GOOD_SEQ, SENT_GOOD_TIME, SENT_WAITED, SENT_HANDLED, SENT_FIELDS };
+       SENT_GOOD_SEQ, SENT_GOOD_TIME, SENT_WAITED, SENT_HANDLED, SENT_ANSWER, SENT_FIELDS };
 
 /* Adds the delivery of a send, if there is one. Returns whether it is there. */
 static int add_delivery(struct work *work, struct group *group, const struct packed_cursor *send,
@@ -301,7 +301,8 @@ static void add_bytes(struct group *group, int64_t size)
 	group->there |= (uint64_t)1 << SENT_BYTES;
 }
 
-/* Adds how long a call took that was sent at this time, if it is closed. Returns whether it was answered. */
+/* Adds how long a call took that was sent at this time, and its answer, if it is closed. Returns whether it was
+   answered. */
 static int add_end(struct work *work, struct group *group, const struct packed_cursor *call, const int64_t *sent,
 		   struct packed_cursor *ended)
 {
@@ -311,8 +312,10 @@ static int add_end(struct work *work, struct group *group, const struct packed_c
 	int is_answered = call->values[CALL_VERDICT] == ANSWERED;
 	int is_timed = time_since(work, sent, ended, call->values[CALL_SEQ] + lasted, &time);
 	set_longest(group, SENT_LONGEST_SEQ, SENT_LONGEST, lasted, is_timed ? &time : NULL);
-	if (is_answered)
+	if (is_answered) {
 		set_longest(group, SENT_GOOD_SEQ, SENT_GOOD_TIME, lasted, is_timed ? &time : NULL);
+		set_most(group, SENT_ANSWER, call->values[CALL_CLOSER]);
+	}
 	return is_answered;
 }
 
@@ -548,8 +551,8 @@ struct sum {
 static const struct sum SUMS[] = {
 	{ "peer_sum", "generation, upid, ptr, cookie, deliveries, certain", PEER_KEYS, PEER_FIELDS, -1, sum_peers },
 	{ "sent_sum", "generation, code, oneway, sends, failed, refused, open, bytes, delivered, one_fits, buffers, peak,"
-		      " longest_seq, longest, good, good_seq, good_time, waited, handled", SENT_KEYS, SENT_FIELDS, SENT_BYTES,
-	  sum_sent },
+		      " longest_seq, longest, good, good_seq, good_time, waited, handled, answer", SENT_KEYS, SENT_FIELDS,
+	  SENT_BYTES, sum_sent },
 	{ "came_sum", "reply, oneway, code, generation, handle, receiver, ptr, cookie, n, good, longest_seq, longest",
 	  CAME_KEYS, CAME_FIELDS, -1, sum_came },
 	{ "served_sum", "code, upid, ptr, cookie, n, good, longest_seq, longest", SERVED_KEYS, SERVED_FIELDS, -1,

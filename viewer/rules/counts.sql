@@ -8,8 +8,8 @@
 -- statements that take it.
 CREATE TEMP TABLE sent(generation INTEGER, code INTEGER, oneway INTEGER, sends INTEGER, failed INTEGER, refused INTEGER,
   open INTEGER, bytes REAL, delivered INTEGER, one_fits INTEGER, buffers INTEGER, peak INTEGER, longest_seq INTEGER,
-  longest INTEGER, good INTEGER, good_seq INTEGER, good_time INTEGER, waited INTEGER, handled INTEGER, upid INTEGER,
-  handle INTEGER, node_upid INTEGER, ptr INTEGER, cookie INTEGER);
+  longest INTEGER, good INTEGER, good_seq INTEGER, good_time INTEGER, waited INTEGER, handled INTEGER, answer INTEGER,
+  upid INTEGER, handle INTEGER, node_upid INTEGER, ptr INTEGER, cookie INTEGER);
 -- beside: nodes.sql
 INSERT INTO sent
 SELECT x.*, g.upid, g.handle, n.upid, n.ptr, n.cookie

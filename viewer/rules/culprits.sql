@@ -27,8 +27,8 @@ WHERE rule = 'E5' AND e.id = finding.id AND r.flags & :TF_ONE_WAY AND c.nth = 1
   AND (c.sender, c.target) = (finding.upid, finding.target);
 -- Who gives handles, and does not take them back.
 UPDATE finding SET culprit = giver WHERE rule = 'H13';
--- Who begins to answer with a status.
-UPDATE finding SET culprit = target WHERE rule = 'R3';
+-- Who begins to answer with a status, or an exception.
+UPDATE finding SET culprit = target WHERE rule IN ('R3', 'R4');
 -- If several processes get the same status, the one that answers with it.
 UPDATE finding SET culprit = target
 FROM (SELECT code, way, about, node, status FROM finding WHERE rule = 'R1' GROUP BY 1, 2, 3, 4, 5

@@ -5,11 +5,12 @@ import functools
 import pathlib
 import re
 import sqlite3
-from typing import Callable, Iterator
+from typing import Callable, Iterator, NamedTuple
 
 from viewer.clocks import Times
 from viewer.database.finders import Finders, Given, Query, insert, path_of
 from viewer.database.sqlite import named_numbers
+from viewer.exceptions import exception_name
 from viewer.page.texts import APPS
 from viewer.rules.names import Names, short_of
 from viewer.rules.notes import note_text
@@ -33,16 +34,23 @@ NO_LONGER = ("DROP INDEX finding_of_section", "DROP TABLE sqlite_stat1")
 
 # The functions of which texts and keys are made.
 WORDS: dict[str, Callable] = {
-    "duration": duration_of, "counted": counted, "status_name": status_name, "defect_key": defect_key,
-    "path_text": path_text, "note_text": note_text, "call_words": call_words, "object_words": object_words,
-    "name_words": name_words, "thing_words": thing_words, "rank_of": RANKS.get,
+    "duration": duration_of, "counted": counted, "status_name": status_name, "exception_name": exception_name,
+    "defect_key": defect_key, "path_text": path_text, "note_text": note_text, "call_words": call_words,
+    "object_words": object_words, "name_words": name_words, "thing_words": thing_words, "rank_of": RANKS.get,
     "bare_name": lambda name: name and short_of(name)}
 
-HashOf = Callable[[int | None, int], int | None]
+
+class OfData(NamedTuple):
+    """What statements ask of the data of an attachment, which has so many bytes."""
+    hash_of: Callable[[int | None, int], int | None]
+    exception_of: Callable[[int | None, int], int | None]
 
 
-def no_hash(_: int | None, __: int) -> None:
-    """Where there is no capture to read: data_hash has what there is."""
+def nothing(_: int | None, __: int) -> None:
+    """Where there is no capture to read: the tables data_hash and exception have what there is."""
+
+
+NO_DATA = OfData(nothing, nothing)
 
 
 # The statements of which other processes may find rows as soon as the raw tables are there say `-- beside: loading`.
@@ -175,13 +183,15 @@ def numbers_of(database: sqlite3.Connection) -> dict[str, float]:
 
 
 def judge(database: sqlite3.Connection, folder: pathlib.Path = FOLDER, timing: Timing | None = None,
-          finders: Finders | None = None, hash_of: HashOf = no_hash) -> None:
+          finders: Finders | None = None, of_data: OfData = NO_DATA) -> None:
     """Gives each finding its verdict. In the statements `:BR_REPLY` is the number of that name, and `:LONG` a
     threshold. They make texts by the functions of WORDS, and after names.sql by `call_name(code, upid, ptr)`, the name
     of a call, and `moment(ts)`, the time of day. `short_name(interface)` is what an interface is called, and
-    `bare_name(interface)` without its package, even if there is another one of that name. `hash_of` has the number of
-    the data of an attachment, for what is not in data_hash yet."""
-    database.create_function("hash_of", 2, hash_of)
+    `bare_name(interface)` without its package, even if there is another one of that name. `hash_of(attachment, size)`
+    is the number of the data of an attachment, and `exception_of` the exception with which they begin, for what is not
+    in data_hash or exception yet."""
+    for name, ask in of_data._asdict().items():
+        database.create_function(name, 2, ask)
     for name, function in WORDS.items():
         database.create_function(name, -1, functools.lru_cache(4096)(function), deterministic=True)
     for statement in BY_SECTION:

@@ -13,6 +13,7 @@ WHERE s.generation NOTNULL GROUP BY 1, 2, 3, 4;
 -- What was sent to a generation of a handle, by code. `longest` is the longest call; `good` counts the calls that were
 -- answered, and the oneway sends that were delivered, and the two after it are the longest of these. `waited` is the
 -- longest time from a send to its delivery, and `handled` that from the delivery of a oneway send until it is freed.
+-- `answer` is the last reply to a call.
 CREATE TEMP VIEW sent_sum AS
 SELECT
   s.generation,
@@ -33,7 +34,8 @@ SELECT
   max(e.seq - s.seq) AS good_seq,
   max(y.ts - x.ts) AS good_time,
   max(w.ts - x.ts) AS waited,
-  max(iif(r.flags & :TF_ONE_WAY, v.ts - w.ts, NULL)) AS handled
+  max(iif(r.flags & :TF_ONE_WAY, v.ts - w.ts, NULL)) AS handled,
+  max(iif(c.verdict = 1, c.closer, NULL)) AS answer
 FROM raw_send s CROSS JOIN raw_record r USING (place) LEFT JOIN raw_call c USING (place)
   LEFT JOIN raw_delivery d ON d.place = s.delivery
   LEFT JOIN raw_record e ON e.place = iif(r.flags & :TF_ONE_WAY, s.delivery, iif(c.verdict = 1, c.closer, NULL))

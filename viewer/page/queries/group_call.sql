@@ -8,6 +8,6 @@ FROM (SELECT coalesce(d.send, s.place) AS root, coalesce(z.ts - x.ts, f.age) AS 
     LEFT JOIN raw_delivery d ON d.place = f.place LEFT JOIN raw_call c ON c.place = coalesce(d.send, s.place)
     LEFT JOIN side_time x ON x.seq = c.seq LEFT JOIN side_time z ON z.seq = c.seq + c.dur_seq
   WHERE h.grp = ?1 AND f.lead IS NULL
-    AND f.section IN ('calls', 'served', 'answers', 'slow', 'pools', 'queues', 'oneway')
+    AND f.section IN ('calls', 'served', 'answers', 'exceptions', 'slow', 'pools', 'queues', 'oneway')
   ORDER BY f.place LIMIT ?2)
 WHERE root NOTNULL ORDER BY took DESC, place LIMIT 1
