@@ -39,7 +39,7 @@ def told(s, count, came_at, ends=True, lost=False, more=0, every=100, senders=1,
       "; 16 sends did not come", "W4 by service 100: 1",
       "defect: oneway sends that wait longer and longer | service on binder | code 7 at service", every=170)
 @case("U1:16 W4:1", "; 16 sends did not come", every=170, ends=False)
-@case("E3:16 W4:1", "; 16 sends did not come", every=170, cookie=5)
+@case("E3:16 W4:1", "code 7 at service 100 node 0x9000 (one waited", "; 16 sends did not come", every=170, cookie=5)
 @case("E3:6", every=120)
 @case("E3:6", every=120, then=1000)
 @case("E3:18", every=170, late=300)

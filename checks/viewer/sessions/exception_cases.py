@@ -32,16 +32,19 @@ def answers(client, server, number, code=7, handle=0, ptr=0, size=8, flags=0):
 @case("", size=7)
 @case("R3:10", size=4, flags=STATUS_CODE)
 @case("R4:1", "after 5 other answers", others=2)
+@case("R4:1", "after 5 other answers", others=1, early=5)
 @case("E5:1 R4:1", "all 10 since", fails=True)
 @case("", numbers=[0] * 5 + [SPECIFIC] * 6, oneway=True)
-def begins_to_throw(s, numbers=(*[0] * 5, *[SPECIFIC] * 10), size=8, flags=0, others=0, fails=False, oneway=False):
-    """Calls of one or more clients are answered well, and from some call on with an exception. Meanwhile one fails, or
-    oneway sends of the same code come, too."""
+def begins_to_throw(s, numbers=(*[0] * 5, *[SPECIFIC] * 10), size=8, flags=0, others=0, early=0, fails=False,
+                    oneway=False):
+    """Calls of one or more clients are answered well, and from some call on with an exception; or the first so many
+    are of another client. Meanwhile one fails, or oneway sends of the same code come, too."""
     service, client = s.two()
     clients = [client, *(s.process(201 + at, "client") for at in range(others))]
     for at, number in enumerate(numbers):
         is_status = flags if number else 0
-        answers(clients[at % len(clients)], service, number, size=size, flags=is_status)
+        by = clients[at < early] if early else clients[at % len(clients)]
+        answers(by, service, number, size=size, flags=is_status)
         if oneway:
             service.main.frees(service.main.gets(client.main.sends(0, 7, ONE_WAY)))
         if fails and at == 8:
