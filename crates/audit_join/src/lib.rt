@@ -9,8 +9,8 @@ mod shares;
 
 pub use audit_findings::{
     BadRow, CallSections, Calls, CodeRow, EventSections, Findings, OnewayCounts, OnewayRow,
-    OpenAndStray, PieceSummary, ProcessRow, ProcessSections, RecordCounts, References, Refused,
-    Rows, Sections, Served, SortCounts,
+    OpenAndStray, ProcessRow, ProcessSections, RecordCounts, References, Refused, Rows, Sections,
+    Served, SortCounts,
 };
 pub use audit_judge::{AuditError, PartsError, Piece, Plan};
 pub use audits::{audit, audit_one, audit_parts};
