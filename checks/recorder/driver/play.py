@@ -34,7 +34,7 @@ from checks.recorder.guest.plans import (
 SERIES = ("6.1", "6.12", "newest", "5.10")
 # What is stored of a recording with the driver in Rust.
 OF_RUST = ("clean", "leaks", "objects", "deaths", "oneway", "before", "cut", "fork", "outsider", "two-drivers",
-           "denied", "errors", "freeze", "pending", "too-large")
+           "denied", "errors", "freeze", "pending", "too-large", "copies", "lock", "refusals")
 PROVED = ("binder_audit", "binder_listing", "binder_tables")
 # Scenarios that the driver of a series can't play: BINDER_FREEZE is of 5.12.
 LACKING = {"5.10": {"freeze", "pending"}}
