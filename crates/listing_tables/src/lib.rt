@@ -24,6 +24,7 @@ mod numbered;
 mod origin;
 mod outputs;
 mod pairs;
+mod plain_walk;
 mod records;
 mod replies;
 mod rows;

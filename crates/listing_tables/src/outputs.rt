@@ -8,6 +8,7 @@ ghost use Rattle.listing_tables.specs.Walk.{HasNoSteps};
 
 use crate::before_fault::write_before_fault;
 use crate::ending::Ending;
+use crate::plain_walk::walk_plainly;
 use crate::rows::RowWriter;
 use crate::tables::Tables;
 use crate::walk::{Writers, walk_to};
@@ -33,7 +34,8 @@ struct TableWriter<W: Write + Drop> {
     writer: W,
 }
 
-/// Writes one table of the capture that has these parts to the output.
+/// Writes one table of the capture that has these parts to the output. For rows of frames and of
+/// records nothing else is kept.
 pub fn write_one<W: Write>(
     alloc: Global,
     parts: &[&[u8]],
@@ -43,14 +45,40 @@ pub fn write_one<W: Write>(
     requires few { length parts.now < 2 ^ 32 }
     requires fits { sum_by length (map (λ part. part.now) parts.now) < 2 ^ 64 }
 {
-    // They are dropped here only: the drop is long to prove, and would be proved at each `?`.
-    let mut tables = Tables::new(alloc);
-    let ended = walk_for_one(alloc, parts, table, &mut tables, out);
-    drop(tables);
-    ended
+    match table {
+        Table::Frame | Table::Record => {
+            let (ending, _) = walk_plainly(alloc, parts, writers_for_one(table, out))?;
+            Ok(ending)
+        }
+        _ => {
+            // They are dropped here only: the drop is long to prove, and would be proved at each `?`.
+            let mut tables = Tables::new(alloc);
+            let ended = walk_for_one(alloc, parts, table, &mut tables, out);
+            drop(tables);
+            ended
+        }
+    }
 }
 
-/// Writes one table. Others that are written while the walk goes on are written nowhere.
+/// The writers for one table that is written while a walk goes on: the others are written nowhere.
+fn writers_for_one<W: Write>(table: Table, out: &mut W) -> Writers<Stream<'_, W>> {
+    let mut writers = Writers {
+        frames: nowhere(),
+        records: nowhere(),
+        objects: nowhere(),
+        calls: nowhere(),
+    };
+    match table {
+        Table::Frame => writers.frames = Left(out),
+        Table::Record => writers.records = Left(out),
+        Table::Object => writers.objects = Left(out),
+        Table::Call => writers.calls = Left(out),
+        _ => {}
+    }
+    writers
+}
+
+/// Writes one table of what the walk keeps, or of objects or calls.
 fn walk_for_one<W: Write>(
     alloc: Global,
     parts: &[&[u8]],
@@ -63,34 +91,11 @@ fn walk_for_one<W: Write>(
     requires nothing { HasNoSteps tables.old }
     ensures { OnOk result (AreTablesOf (map (λ part. part.now) parts.now) tables.new) }
 {
-    let writers = match table {
-        Table::Frame => Writers {
-            frames: Left(out),
-            records: nowhere(),
-            objects: nowhere(),
-            calls: nowhere(),
-        },
-        Table::Record => Writers {
-            frames: nowhere(),
-            records: Left(out),
-            objects: nowhere(),
-            calls: nowhere(),
-        },
-        Table::Object => Writers {
-            frames: nowhere(),
-            records: nowhere(),
-            objects: Left(out),
-            calls: nowhere(),
-        },
-        Table::Call => Writers {
-            frames: nowhere(),
-            records: nowhere(),
-            objects: nowhere(),
-            calls: Left(out),
-        },
-        _ => return write_after_walk(alloc, parts, table, tables, out),
-    };
-    walk_with(alloc, parts, tables, writers)
+    if table.is_streamed() {
+        walk_with(alloc, parts, tables, writers_for_one(table, out))
+    } else {
+        write_after_walk(alloc, parts, table, tables, out)
+    }
 }
 
 /// Writes a table that is written after the walk.

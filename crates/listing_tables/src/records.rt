@@ -1,12 +1,14 @@
 //! The tables frame, record and object, which are written while the walk goes on.
 
-ghost use Rattle.std.specs.Prelude.{◌≡◌, length, IfSome};
+ghost use Rattle.std.specs.Prelude.{◌≡◌, ◌∷◌, [], length, IfSome, OnOk};
 ghost use Rattle.capture_frame.specs.Envelope.{placed_frame};
 ghost use Rattle.record_view.specs.Records.{records_of};
 ghost use Rattle.listing_fields.specs.Content.{record_of_item};
+ghost use Rattle.listing_tables.specs.Columns.{AddsRows};
 ghost use Rattle.listing_tables.specs.Walk.{BeginsWith, HasNames, HasStatus, IsFrameRow};
 ghost use Rattle.listing_tables.specs.Walk.{record_begin};
 
+use crate::names::Names;
 use crate::rows::{Column, RowWriter, columns, signed};
 use crate::spans::Utid;
 use binder_code::Kind;
@@ -38,8 +40,26 @@ pub(crate) fn frame_columns(frame: Frame<'_>, utid: Utid, records: u64) -> [Colu
     }
 }
 
+/// Writes the row of a record, and takes in what the record names.
+pub(crate) fn write_record<W: Write + Drop>(
+    rows: &mut RowWriter<W>,
+    names: &mut Names,
+    frame: Frame<'_>,
+    utid: Utid,
+    item: Item<'_>,
+    named: Named,
+) -> Outcome
+    ensures { OnOk result (AddsRows BeginsWith rows.old rows.new
+        (record_begin (placed_frame frame.entry) (record_of_item item.entry) ∷ [])) }
+{
+    let interface = names.interface(item)?;
+    let service = names.service(item)?;
+    let columns = record_columns(frame, utid, item, named, interface, service);
+    rows.push(&columns)
+}
+
 /// The row of a record, which names the interface and the service of these numbers.
-pub(crate) fn record_columns(
+fn record_columns(
     frame: Frame<'_>,
     utid: Utid,
     item: Item<'_>,

@@ -14,7 +14,7 @@ ghost use Rattle.listing_tables.specs.Steps.{AddsMarked, IsKept, WritesCalls, ma
 
 use crate::ending::{Ending, frames_of};
 use crate::numbered::sum;
-use crate::records::{frame_columns, record_columns, write_objects};
+use crate::records::{frame_columns, write_objects, write_record};
 use crate::rows::RowWriter;
 use crate::spans::Owner;
 use crate::tables::Tables;
@@ -35,14 +35,14 @@ pub(crate) struct Writers<W: Write + Drop> {
 /// The rows that are written to these writers.
 #[derive(Drop)]
 pub(crate) struct Streams<W: Write + Drop> {
-    frames: RowWriter<W>,
-    records: RowWriter<W>,
+    pub(crate) frames: RowWriter<W>,
+    pub(crate) records: RowWriter<W>,
     objects: RowWriter<W>,
     calls: RowWriter<W>,
 }
 
 impl<W: Write + Drop> Streams<W> {
-    fn new(alloc: Global, writers: Writers<W>) -> Streams<W>
+    pub(crate) fn new(alloc: Global, writers: Writers<W>) -> Streams<W>
         ensures frames { Keeps (W.contents writers.frames) result.frames }
         ensures records { Keeps (W.contents writers.records) result.records }
         ensures objects { Keeps (W.contents writers.objects) result.objects }
@@ -63,7 +63,7 @@ impl<W: Write + Drop> Streams<W> {
     }
 
     /// Writes what is not written yet, and gives the writers back.
-    fn finish(self) -> Result<Writers<W>, ListingError>
+    pub(crate) fn finish(self) -> Result<Writers<W>, ListingError>
         ensures frames { IfOk result (λ writers. Keeps self.frames (W.contents writers.frames)) }
         ensures records { IfOk result (λ writers. Keeps self.records (W.contents writers.records)) }
         ensures objects { IfOk result (λ writers. Keeps self.objects (W.contents writers.objects)) }
@@ -278,10 +278,14 @@ fn walk_item<W: Write + Drop>(
         (marked_of (placed_frame frame.entry) (record_of_item item.entry))) }
 {
     let named = named_of(item.record);
-    let interface = tables.names.interface(item)?;
-    let service = tables.names.service(item)?;
-    let columns = record_columns(frame, owner.utid, item, named, interface, service);
-    streams.records.push(&columns)?;
+    write_record(
+        &mut streams.records,
+        &mut tables.names,
+        frame,
+        owner.utid,
+        item,
+        named,
+    )?;
     write_objects(&mut streams.objects, item)?;
     tables.add_item(frame, owner, item, named)
 }
