@@ -47,12 +47,22 @@ pub enum WordsError {
 }
 
 impl From<AllocError> for WordsError {
+    ghost use Rattle.std.specs.Prelude.{◌≡◌};
+    ghost use Rattle.listing_words.specs.declared.command_line.WordsError.TheVariants.{Memory};
+
+    ghost from_gives = { λ _ error. error ≡ Memory };
+
     fn from(_error: AllocError) -> WordsError {
         WordsError::Memory
     }
 }
 
 impl<T: Drop> From<AllocFailed<T>> for WordsError {
+    ghost use Rattle.std.specs.Prelude.{◌≡◌};
+    ghost use Rattle.listing_words.specs.declared.command_line.WordsError.TheVariants.{Memory};
+
+    ghost from_gives = { λ _ error. error ≡ Memory };
+
     fn from(_error: AllocFailed<T>) -> WordsError {
         WordsError::Memory
     }
