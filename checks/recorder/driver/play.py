@@ -36,8 +36,8 @@ SERIES = ("6.1", "6.12", "newest", "5.10")
 OF_RUST = ("clean", "leaks", "objects", "deaths", "oneway", "before", "cut", "fork", "outsider", "two-drivers",
            "denied", "errors", "freeze", "pending", "too-large", "copies", "lock", "refusals")
 PROVED = ("binder_audit", "binder_listing", "binder_tables")
-# Scenarios that the driver of a series can't play: BINDER_FREEZE is of 5.12.
-LACKING = {"5.10": {"freeze", "pending"}}
+# Scenarios that a series can't play: BINDER_FREEZE is of 5.12, and rust_kernel.config leaves out ns_last_pid.
+LACKING = {"5.10": {"freeze", "pending"}, "rust": {"reuse"}}
 # The sources of the program that plays scenarios.
 SOURCES = [path for path in sorted(SCENARIOS.glob("*.c")) if path.stem not in ("gbinder", "witness")]
 
