@@ -456,8 +456,10 @@ def check_tables(program: pathlib.Path, room: pathlib.Path, capture: pathlib.Pat
     at = next(number for number, line in enumerate(report) if line.startswith("buffers "))
     compare(f"{capture}, unfreed", unfreed,
             [int(line.split()[0]) for line in report[at + 1:at + 1 + int(heads["buffers"][3])]], fail)
+    for name in ("frame", "record"):  # they have a walk of their own
+        check_alone(name, capture, room, fail)
     if capture == CAPTURES[-1]:
-        for name in ("call", "level"):
+        for name in ("object", "call", "level"):
             check_alone(name, capture, room, fail)
 
 
