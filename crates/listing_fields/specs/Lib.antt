@@ -1,4 +1,5 @@
 pub mod Content
+pub mod Errors
 pub mod Frames
 pub mod Interface
 pub mod Service

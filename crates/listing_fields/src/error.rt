@@ -1,5 +1,9 @@
 //! The errors that end a listing early.
 
+ghost use Rattle.std.specs.Prelude.{◌≡◌};
+ghost use Rattle.std.specs.IoError.{error_kind};
+ghost use Rattle.listing_fields.specs.Errors.{error_of_write, line_of, status_of};
+
 use audit_streams::RunError;
 use std::alloc::{AllocError, AllocFailed};
 use std::io::{self, ErrorKind};
@@ -21,8 +25,6 @@ pub enum ListingError {
     Write,
     /// A file could not be opened.
     Open,
-    /// The side list does not begin as one of a form that is read.
-    SideList,
     /// The reader of the listing has closed the pipe. This is no failure: the listing ends without
     /// a line, with status 0.
     Closed,
@@ -33,7 +35,9 @@ pub type Outcome = Result<(), ListingError>;
 
 impl ListingError {
     /// The status that the process ends with.
-    pub fn status(self) -> u8 {
+    pub fn status(self) -> u8
+        ensures { result ≡ status_of self }
+    {
         match self {
             ListingError::Usage => 64,
             ListingError::Memory => 3,
@@ -43,39 +47,52 @@ impl ListingError {
     }
 
     /// The line for standard error, with its line feed; empty for `Closed`.
-    pub fn line(self) -> &'static str {
+    pub fn line(self) -> &'static str
+        ensures { result.now ≡ line_of self }
+    {
         match self {
             ListingError::Usage => {
-                "usage: listing FILE... [--at PLACE] [--frame PLACE] [--call PLACE] \
-[--process P] [--thread T] [--device D] [--direction write|read] [--from N] [--to N] \
-[--code NAME] [--handle H] [--cookie X] [--node PTR] [--address A] [--flag NAME] \
-[--larger BYTES] [--interface NAME] [--objects] [--form tab] [--side FILE]; or --tables \
-FOLDER FILE..., --table NAME FILE..., or --help\n"
+                "usage: binder_tables --tables FOLDER FILE..., --table NAME FILE..., or --lines \
+[--objects] [--at PLACE]... [--frame PLACE]... [--call PLACE]... FILE...\n"
             }
             ListingError::Memory => "fault Memory\n",
             ListingError::TooLarge => "fault TooLarge\n",
             ListingError::Read => "fault Read\n",
             ListingError::Write => "fault Write\n",
             ListingError::Open => "fault Open\n",
-            ListingError::SideList => "listing: the side list is not of version 1, 2 or 3\n",
             ListingError::Closed => "",
         }
     }
 }
 
 impl From<AllocError> for ListingError {
+    ghost use Rattle.std.specs.Prelude.{◌≡◌};
+    ghost use Rattle.listing_fields.specs.declared.error.ListingError.TheVariants.{Memory};
+
+    ghost from_gives = { λ _ error. error ≡ Memory };
+
     fn from(_error: AllocError) -> ListingError {
         ListingError::Memory
     }
 }
 
 impl<T: Drop> From<AllocFailed<T>> for ListingError {
+    ghost use Rattle.std.specs.Prelude.{◌≡◌};
+    ghost use Rattle.listing_fields.specs.declared.error.ListingError.TheVariants.{Memory};
+
+    ghost from_gives = { λ _ error. error ≡ Memory };
+
     fn from(_error: AllocFailed<T>) -> ListingError {
         ListingError::Memory
     }
 }
 
 impl From<RunError> for ListingError {
+    ghost use Rattle.std.specs.Prelude.{◌≡◌};
+    ghost use Rattle.listing_fields.specs.Errors.{listing_error};
+
+    ghost from_gives = { λ error listed. listed ≡ listing_error error };
+
     fn from(error: RunError) -> ListingError {
         match error {
             RunError::Memory => ListingError::Memory,
@@ -88,17 +105,11 @@ impl From<RunError> for ListingError {
 }
 
 /// The error for a write that failed.
-pub fn write_error(error: &io::Error) -> ListingError {
+pub fn write_error(error: &io::Error) -> ListingError
+    ensures { result ≡ error_of_write (error_kind error.now) }
+{
     match error.kind() {
         ErrorKind::BrokenPipe => ListingError::Closed,
         _ => ListingError::Write,
-    }
-}
-
-/// The error for a read that failed.
-pub fn read_error(error: &io::Error) -> ListingError {
-    match error.kind() {
-        ErrorKind::OutOfMemory => ListingError::Memory,
-        _ => ListingError::Read,
     }
 }

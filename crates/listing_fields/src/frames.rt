@@ -1,14 +1,11 @@
-//! What a frame and a record say: the thread, the number of the direction, `TF_ONE_WAY`.
+//! What a frame and a record say: the thread, the number of the direction, and replies.
 
 ghost use Rattle.std.specs.Prelude.{◌≡◌};
 ghost use Rattle.capture_frame.specs.Envelope.{direction_number, placed_frame};
-ghost use Rattle.listing_fields.specs.Frames.{thread_of};
+ghost use Rattle.listing_fields.specs.Frames.{is_reply, thread_of};
 
-use binder_code::{Kind, TransactionFlags};
-use bitflags::Flags;
+use binder_code::Kind;
 use capture_frame::{Direction, Frame, Thread};
-use record_view::Record;
-use transaction_view::Transaction;
 
 /// The thread that made a frame's call.
 pub fn thread_of(frame: Frame<'_>) -> Thread
@@ -21,16 +18,10 @@ pub fn thread_of(frame: Frame<'_>) -> Thread
 }
 
 /// Whether records of this kind are replies.
-pub fn is_reply(kind: Kind) -> bool {
+pub fn is_reply(kind: Kind) -> bool
+    ensures { result ≡ is_reply kind }
+{
     matches!(kind, Kind::BcReply | Kind::BcReplySg | Kind::BrReply)
-}
-
-/// Whether a record is a transaction or a reply with `TF_ONE_WAY`.
-pub fn is_oneway(record: Record<'_>) -> bool {
-    match Transaction::of(record) {
-        Some(transaction) => transaction.flags() & TransactionFlags::TF_ONE_WAY.bits() != 0,
-        None => false,
-    }
 }
 
 /// The number of a direction in a frame header.
