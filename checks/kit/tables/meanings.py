@@ -5,6 +5,8 @@ from checks.kit.tables.messages import Message, Node
 
 # Of how many generations of a process that are known to mean one node it is asked whether they are there at a time.
 MOST_ASKED = 16
+# How often what was learnt is spread over the pairs of generations that mean the same.
+MOST_SPREADS = 16
 
 
 class Meanings:
@@ -28,9 +30,9 @@ class Meanings:
 
     def settle(self) -> bool:
         """Makes known what was learnt. Returns whether that is more than before."""
-        for one, other in self.same:
-            together = self.learnt.setdefault(one, set()) | self.learnt.setdefault(other, set())
-            self.learnt[one] = self.learnt[other] = together
+        for _ in range(MOST_SPREADS):
+            if not self.spread():
+                break
         before, self.known = self.known, {it: set(nodes) for it, nodes in self.learnt.items() if nodes}
         for generation in self.known:
             if node := self.once(generation):
@@ -38,6 +40,16 @@ class Meanings:
                 if generation not in of_node:
                     of_node.append(generation)
         return self.known != before
+
+    def spread(self) -> bool:
+        """What one of two generations means that mean the same, the other means too. Returns whether that is more."""
+        more = False
+        for one, other in self.same:
+            either = self.learnt.get(one, set()), self.learnt.get(other, set())
+            together = either[0] | either[1]
+            more |= either != (together, together)
+            self.learnt[one] = self.learnt[other] = together
+        return more
 
     def once(self, generation: Generation) -> Node | None:
         """The node that a generation is known to mean before a frame is missing."""

@@ -1,7 +1,7 @@
 -- What is noted of generations, and made known.
-use Rattle.std.proofs.Common.{◌≡◌, ◌≤◌, ◌+◌, ℕ, zero, suc, List, [], ◌∷◌, ◌++◌, map, take, take_all, drop, set, length, Some, None, slice_get, refl, ap, subst, sym, arith}
+use Rattle.std.proofs.Common.{◌≡◌, ◌≤◌, ◌+◌, ℕ, zero, suc, List, [], ◌∷◌, ◌++◌, map, take, take_all, drop, set, length, add-one, Some, None, slice_get, refl, ap, subst, sym, arith}
 use Rattle.listing_tables.specs.Gaps.{AreGapsBefore}
-use Rattle.listing_tables.specs.Meanings.{BeginsEach, LearnsEach, LearnsOne, SpreadsEach, SpreadsOne}
+use Rattle.listing_tables.specs.Meanings.{BeginsEach, LearnsEach, LearnsOne, SpreadsEach, SpreadsOne, SpreadsTimes}
 use Rattle.listing_tables.specs.declared.generations.Generation.{Generation}
 use Rattle.listing_tables.specs.declared.handed.Handed.{Handed}
 use Rattle.listing_tables.specs.declared.meanings.Known.TheVariants.{Nothing}
@@ -36,6 +36,13 @@ spreads_more a b c [] pair before one =
     (c, subst (λ (l : List Meaning). SpreadsOne l c pair.0 pair.1) before one, refl)
 spreads_more a b c (first ∷ pairs) pair before one =
     (before.0, before.1, spreads_more before.0 b c pairs pair before.2 one)
+
+-- the pairs are gone through once more
+pub spreads_again : (a b c : List Meaning) (pairs : List (ℕ × ℕ)) (times : ℕ) → SpreadsTimes a b pairs times
+    → SpreadsEach b c pairs → SpreadsTimes a c pairs (times + 1)
+spreads_again a b c pairs times before each =
+    let it : SpreadsTimes a c pairs (suc times) = (b, before, each) in
+    rw add-one it
 
 -- one object more is learnt of
 pub learns_more : (a b c : Meanings) (objects : List Handed) (one : Handed) (before : ℕ) (others : List Handed) (after : ℕ)

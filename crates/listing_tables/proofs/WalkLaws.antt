@@ -16,13 +16,13 @@ use Rattle.capture_frame.specs.Envelope.{PlacedFrame}
 use Rattle.transaction_view.specs.Grammar.{content_fault, IsGood}
 use Rattle.listing_tables.specs.Walk.{unless_fault, up_to_fault}
 
-kept_before : (a b c : Option (List ℕ)) (p : List ℕ) → Keeps a b → Appends b c p → Appends a c p
+pub kept_before : (a b c : Option (List ℕ)) (p : List ℕ) → Keeps a b → Appends b c p → Appends a c p
 kept_before None b c p kept added = tt
 kept_before (Some xs) None c p kept added = absurd kept
 kept_before (Some xs) (Some ys) None p kept added = absurd added
 kept_before (Some xs) (Some ys) (Some zs) p kept added = added ∙ ap (λ l. l ++ p) kept
 
-zip_more : {A B : Type 0} (R : A → B → Type 0) (xs : List A) (rs : List B) (ys : List A) (ss : List B) → AllZip R xs rs → AllZip R ys ss
+pub zip_more : {A B : Type 0} (R : A → B → Type 0) (xs : List A) (rs : List B) (ys : List A) (ss : List B) → AllZip R xs rs → AllZip R ys ss
     → AllZip R (xs ++ ys) (rs ++ ss)
 zip_more R [] [] ys ss first second = second
 zip_more R [] (r ∷ rs) ys ss first second = absurd first

@@ -1,5 +1,5 @@
 -- What is noted and made known of the nodes that generations mean (docs/DATABASE.md#send).
-use Rattle.std.specs.Prelude.{◌≡◌, ◌⊎◌, ℕ, Bool, false, List, [], ◌∷◌, ◌++◌, Some, map, slice_get, slice_set}
+use Rattle.std.specs.Prelude.{◌≡◌, ◌≤◌, ◌⊎◌, ℕ, zero, suc, Bool, false, List, [], ◌∷◌, ◌++◌, Some, map, slice_get, slice_set}
 use Rattle.listing_tables.specs.declared.generations.Generation.{Generation}
 use Rattle.listing_tables.specs.declared.handed.Handed.{Handed}
 use Rattle.listing_tables.specs.declared.handed.Object.{Object}
@@ -48,6 +48,19 @@ SpreadsEach old new [] = new ≡ old
 SpreadsEach old new (pair ∷ pairs) =
     (between : List Meaning) × SpreadsOne old between pair.0 pair.1 × SpreadsEach between new pairs
 
+-- so it is time after time, so many times
+abbrev pub SpreadsTimes : List Meaning → List Meaning → List (ℕ × ℕ) → ℕ → Type 0
+SpreadsTimes old new pairs zero = new ≡ old
+SpreadsTimes old new pairs (suc times) =
+    (between : List Meaning) × SpreadsTimes old between pairs times × SpreadsEach between new pairs
+
+-- what was noted is spread over these pairs until once more changes nothing, or sixteen times
+pub record SpreadsAll (old new : List Meaning) (pairs : List (ℕ × ℕ)) : Type 0 where
+  pub times : ℕ
+  pub few : times ≤ 16
+  pub spreads : SpreadsTimes old new pairs times
+  pub done : (times ≡ 16) ⊎ SpreadsEach new new pairs
+
 -- a meaning of which all that was noted is known
 abbrev pub made_known : Meaning → Meaning
 made_known meaning = record meaning { known = meaning.learnt }
@@ -56,7 +69,7 @@ made_known meaning = record meaning { known = meaning.learnt }
 -- than before, all that is noted was known.
 pub record MakesAllKnown (old new : List Meaning) (pairs : List (ℕ × ℕ)) (more : Bool) : Type 0 where
   pub between : List Meaning
-  pub spreads : SpreadsEach old between pairs
+  pub spreads : SpreadsAll old between pairs
   pub known : new ≡ map made_known between
   pub same : more ≡ false → new ≡ between
 

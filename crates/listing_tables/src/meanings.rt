@@ -7,7 +7,7 @@ ghost use Rattle.listing_tables.specs.Certainty.{BeginsBefore, HasOtherHandle, M
 ghost use Rattle.listing_tables.specs.Learning.{IsPastGap, MeansFirst, known_of_two};
 ghost use Rattle.listing_tables.specs.Meanings.{BeginsEach, LearnsKnown, LearnsNode, LearnsSame};
 ghost use Rattle.listing_tables.specs.Meanings.{MakesAllKnown, MakesKnown};
-ghost use Rattle.listing_tables.specs.Meanings.{SpreadsEach, SpreadsOne};
+ghost use Rattle.listing_tables.specs.Meanings.{SpreadsAll, SpreadsEach, SpreadsOne};
 
 use crate::generations::Generations;
 use crate::numbered::Numbered;
@@ -18,6 +18,9 @@ use std::collections::BTreeSet;
 
 /// How many generations of a process that mean one node are looked at.
 const LOOKED_AT: usize = 16;
+
+/// How often all pairs of generations that mean the same are gone through at most.
+const SPREADS: u32 = 16;
 
 /// What is known of the node that a generation means.
 #[derive(Clone, Copy, PartialEq, Eq)]
@@ -107,7 +110,8 @@ impl Meanings {
         if self.list.at(generation)?.gaps != gaps {
             return Ok(());
         }
-        self.join(generation, Known::One(node))
+        self.join(generation, Known::One(node))?;
+        Ok(())
     }
 
     /// Notes that two generations mean the same node, each after so many gaps.
@@ -123,14 +127,21 @@ impl Meanings {
         Ok(())
     }
 
-    fn join(&mut self, generation: u32, other: Known) -> Outcome
+    /// Notes one thing more of a generation. Returns whether something else is noted of it now.
+    fn join(&mut self, generation: u32, other: Known) -> Result<bool, ListingError>
         ensures same { self.new.same ≡ self.old.same }
         ensures learnt { OnOk result (LearnsKnown self.old.list.all.items self.new.list.all.items
             generation other) }
+        ensures more { IfOk result (λ more. OnFalse more (
+            self.new.list.all.items ≡ self.old.list.all.items)) }
     {
         let meaning = self.list.at(generation)?;
         let learnt = joined(meaning.learnt, other);
-        self.list.set(generation, Meaning { learnt, ..meaning })
+        self.list.set(generation, Meaning { learnt, ..meaning })?;
+        if meaning.learnt == learnt {
+            return Ok(false);
+        }
+        Ok(true)
     }
 
     /// Makes known what was learnt. Returns whether that is more than before.
@@ -146,29 +157,50 @@ impl Meanings {
         Ok(is_more)
     }
 
-    /// What one of two generations means that mean the same, the other means too. Most objects are
-    /// handed on in the order in which this was noted.
+    /// What one of two generations means that mean the same, the other means too. Objects are handed
+    /// on from process to process, so what is learnt of one generation is learnt of many.
     fn spread(&mut self) -> Outcome
-        ensures { OnOk result (SpreadsEach self.old.list.all.items self.new.list.all.items
+        ensures { OnOk result (SpreadsAll self.old.list.all.items self.new.list.all.items
             self.old.same.all.items) }
     {
-        for at in 0..self.same.next()? {
-            let (one, other) = self.same.at(at)?;
-            self.spread_one(one, other)?;
+        for _ in 0..SPREADS {
+            if !self.spread_once()? {
+                return Ok(());
+            }
         }
         Ok(())
     }
 
-    /// What one of these two generations means, the other means too.
-    fn spread_one(&mut self, one: u32, other: u32) -> Outcome
+    /// Goes through the pairs once, in the order in which they were noted: most objects are handed on
+    /// in that order. Returns whether more is noted now.
+    fn spread_once(&mut self) -> Result<bool, ListingError>
+        ensures spread { OnOk result (SpreadsEach self.old.list.all.items self.new.list.all.items
+            self.old.same.all.items) }
+        ensures more { IfOk result (λ more. OnFalse more (
+            self.new.list.all.items ≡ self.old.list.all.items)) }
+        ensures same { self.new.same ≡ self.old.same }
+    {
+        let mut noted = false;
+        for at in 0..self.same.next()? {
+            let (one, other) = self.same.at(at)?;
+            noted |= self.spread_one(one, other)?;
+        }
+        Ok(noted)
+    }
+
+    /// What one of these two generations means, the other means too. Returns whether more is noted now.
+    fn spread_one(&mut self, one: u32, other: u32) -> Result<bool, ListingError>
         ensures spread { OnOk result (SpreadsOne self.old.list.all.items self.new.list.all.items
             one other) }
+        ensures more { IfOk result (λ more. OnFalse more (
+            self.new.list.all.items ≡ self.old.list.all.items)) }
         ensures same { self.new.same ≡ self.old.same }
     {
         let learnt = self.list.at(one)?.learnt;
-        self.join(other, learnt)?;
+        let onward = self.join(other, learnt)?;
         let learnt = self.list.at(other)?.learnt;
-        self.join(one, learnt)
+        let back = self.join(one, learnt)?;
+        Ok(onward || back)
     }
 
     /// Makes known what was learnt of a generation. Returns whether that is something else.
