@@ -1,15 +1,16 @@
-//! Writes the raw tables of a capture of Android Binder traffic.
+//! Writes the raw tables of a capture of Android Binder traffic, or its records as a stream of rows.
 #![tactic(auto)]
 
+mod status;
 mod tables;
+mod words;
 
-use listing_program::ended;
+use status::ended;
 use std::env;
 use std::process::ExitCode;
-use tables::Tables;
 
 fn main(rt: HostRuntime) -> ExitCode {
-    ended::<Tables, _, _, _>(
+    ended(
         &rt,
         rt.alloc(),
         env::args(&rt),

@@ -1,55 +1,79 @@
-//! The tables that the words of a command line ask for.
+//! The rows that the words of a command line ask for.
 
 ghost use Rattle.std.specs.Prelude.{◌≡◌, ◌<◌, ◌^◌, map, vec_len, IfOk};
 
+use crate::words::{Question, Request};
 use audit_streams::{read_parts, write_text};
 use listing_fields::{FILE_LIMIT, ListingError, push_fault};
-use listing_program::{Answer, open_files};
-use listing_tables::{Ending, write_all, write_one};
-use listing_words::{AskedTables, Question, Request};
+use listing_tables::{Ending, list_rows, seek_rows, write_all, write_one};
 use std::alloc::Global;
-use std::fs::Files;
+use std::fs::{self, Files};
 use std::io::Write;
 
-/// The program that writes tables.
-pub struct Tables;
-
-impl Answer for Tables {
-    fn answer<T: Files, W: Write, E: Write>(
-        rt: &T,
-        alloc: Global,
-        request: &Request<'_>,
-        out: &mut W,
-        err: &mut E,
-    ) -> Result<u8, ListingError> {
-        let Question::Tables(asked) = &request.question else {
-            return Err(ListingError::Usage);
-        };
-        let readers = open_files(rt, alloc, request.files.as_slice())?;
-        write_tables(rt, alloc, *asked, readers, out, err)
+/// Writes what is asked for, and returns the status that the process ends with.
+pub fn answer<T: Files, W: Write, E: Write>(
+    rt: &T,
+    alloc: Global,
+    request: Request<'_>,
+    out: &mut W,
+    err: &mut E,
+) -> Result<u8, ListingError> {
+    let Request { question, files } = request;
+    match open_files(rt, alloc, files.as_slice()) {
+        Ok(readers) => answer_of(rt, alloc, question, readers, out, err),
+        Err(error) => {
+            drop(question);
+            Err(error)
+        }
     }
 }
 
-/// Writes tables of the capture whose parts the readers give.
-fn write_tables<T: Files, W: Write, E: Write>(
+/// Opens each of these files, in order. Memory for them all is taken first.
+fn open_files<T: Files>(
     rt: &T,
     alloc: Global,
-    asked: AskedTables<'_>,
+    files: &[&str],
+) -> Result<Vec<T::File>, ListingError> {
+    let mut opened = Vec::with_capacity(alloc, files.len())?;
+    for file in files {
+        let reader = open_file(rt, file)?;
+        opened.push(reader).map_err(|_| ListingError::Memory)?;
+    }
+    Ok(opened)
+}
+
+/// Opens the file of this name.
+fn open_file<T: Files>(rt: &T, name: &str) -> Result<T::File, ListingError> {
+    fs::open(rt, name).map_err(|_| ListingError::Open)
+}
+
+/// Writes what is asked for of the capture whose parts the readers give.
+fn answer_of<T: Files, W: Write, E: Write>(
+    rt: &T,
+    alloc: Global,
+    question: Question<'_>,
     readers: Vec<T::File>,
     out: &mut W,
     err: &mut E,
 ) -> Result<u8, ListingError> {
     let parts = read_parts(alloc, readers, FILE_LIMIT)?;
     let slices = slices_of(alloc, parts.as_slice())?;
-    match asked {
-        AskedTables::One(table) => {
-            let ending = write_one(alloc, slices.as_slice(), table, out)?;
+    let parts = slices.as_slice();
+    match question {
+        Question::One(table) => {
+            let ending = write_one(alloc, parts, table, out)?;
             tell_ending(alloc, ending, err)
         }
-        AskedTables::All(folder) => {
-            let ending = write_all(rt, alloc, slices.as_slice(), folder)?;
+        Question::All(folder) => {
+            let ending = write_all(rt, alloc, parts, folder)?;
             tell_ending(alloc, ending, out)
         }
+        Question::Records { objects } => Ok(list_rows(alloc, parts, objects, out)?.0),
+        Question::Places {
+            sought,
+            places,
+            objects,
+        } => seek_rows(alloc, parts, sought, places, objects, out),
     }
 }
 

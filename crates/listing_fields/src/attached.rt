@@ -2,7 +2,6 @@
 
 ghost use Rattle.std.specs.Prelude.{◌+◌, ◌<◌, ◌^◌, length};
 
-use crate::fields::{has_field, object_fields};
 use capture_frame::u64_at;
 use object_view::{BadObject, Object, Objects};
 use transaction_view::Entry;
@@ -81,18 +80,6 @@ fn without_first(list: &[u8]) -> &[u8]
         return &[];
     }
     &list[OFFSET..]
-}
-
-/// Whether a good object of the attachment has this number in a listed field of this name.
-pub fn has_named(entry: Entry<'_>, name: &str, number: u64) -> bool {
-    for attached in EachObject::of(entry) {
-        if let Ok(object) = attached.found
-            && has_field(object_fields(object.sort), object.bytes, name, number)
-        {
-            return true;
-        }
-    }
-    false
 }
 
 /// The offset of an object in the data, good or bad.

@@ -18,7 +18,6 @@ ghost use Rattle.listing_fields.specs.Interface.{may_spell, string_of, IsToken};
 use crate::content::Item;
 use crate::frames::is_reply;
 use capture_frame::u32_at;
-use std::alloc::AllocError;
 use transaction_view::Transaction;
 
 /// The most characters of a name.
@@ -68,16 +67,6 @@ impl InterfaceName<'_> {
             }
         }
         rest.is_empty()
-    }
-
-    /// Pushes its characters.
-    pub fn push_to(self, text: &mut String) -> Result<(), AllocError> {
-        for byte in self.bytes {
-            if *byte != 0 {
-                text.push(char::from(*byte))?;
-            }
-        }
-        Ok(())
     }
 }
 

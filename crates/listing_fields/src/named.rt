@@ -1,6 +1,6 @@
 //! What a record names by itself, read without the names of its fields.
 
-use crate::newer::{NewerKind, newer_line};
+use crate::newer::{NewerKind, newer_kind};
 use binder_code::Kind;
 use capture_frame::{u32_at, u64_at};
 use record_view::Record;
@@ -76,13 +76,10 @@ fn reference_of(record: Record<'_>) -> Named {
 
 /// What an opaque record names, if a newer header lists it.
 fn newer_reference_of(record: Record<'_>) -> Named {
-    match newer_line(record) {
-        Some(line) => match line.kind {
-            NewerKind::BcRequestFreezeNotification | NewerKind::BcClearFreezeNotification => {
-                watch_at(record.payload)
-            }
-            _ => cookie_at(record.payload),
-        },
+    match newer_kind(record) {
+        Some(NewerKind::BcRequestFreezeNotification | NewerKind::BcClearFreezeNotification) =>
+            watch_at(record.payload),
+        Some(_) => cookie_at(record.payload),
         None => NOTHING,
     }
 }
@@ -105,11 +102,9 @@ pub fn number_of(record: Record<'_>) -> Option<u64> {
 }
 
 fn opaque_number(record: Record<'_>) -> Option<u64> {
-    match newer_line(record) {
-        Some(line) => match line.kind {
-            NewerKind::BrFrozenBinder => word_at(record.payload, 8).map(u64::from),
-            _ => None,
-        },
+    match newer_kind(record) {
+        Some(NewerKind::BrFrozenBinder) => word_at(record.payload, 8).map(u64::from),
+        Some(_) => None,
         None => Some(u64::from(record.code.0)),
     }
 }

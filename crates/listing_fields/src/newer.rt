@@ -7,7 +7,7 @@ use record_view::Record;
 
 /// A command or return that is newer than the auditor's header.
 #[derive(Clone, Copy)]
-pub enum NewerKind {
+pub(crate) enum NewerKind {
     BcRequestFreezeNotification,
     BcClearFreezeNotification,
     BcFreezeNotificationDone,
@@ -15,54 +15,23 @@ pub enum NewerKind {
     BrClearFreezeNotificationDone,
 }
 
-/// A line of that header.
-#[derive(Clone, Copy)]
-pub struct NewerLine {
-    pub kind: NewerKind,
-    /// The code word, as the header's macros compute it.
-    pub word: u32,
-    /// The header's name.
-    pub name: &'static str,
-}
-
-/// Lines, by their kinds, code words and names.
-macro_rules! table {
-    ($($kind:ident $word:literal $name:literal)*) => {
-        [$(NewerLine { kind: NewerKind::$kind, word: $word, name: $name }),*]
-    };
-}
-
-/// All lines.
-pub const NEWER_LINES: [NewerLine; 5] = table! {
-    BcRequestFreezeNotification 0x400c6313 "BC_REQUEST_FREEZE_NOTIFICATION"
-    BcClearFreezeNotification 0x400c6314 "BC_CLEAR_FREEZE_NOTIFICATION"
-    BcFreezeNotificationDone 0x40086315 "BC_FREEZE_NOTIFICATION_DONE"
-    BrFrozenBinder 0x80107215 "BR_FROZEN_BINDER"
-    BrClearFreezeNotificationDone 0x80087216 "BR_CLEAR_FREEZE_NOTIFICATION_DONE"
-};
-
-/// The line of a record that is newer than the auditor's header; `None` of any other record.
-pub fn newer_line(record: Record<'_>) -> Option<NewerLine> {
+/// The kind of a record that is newer than the auditor's header; `None` of any other record. The code
+/// words are those that the macros of that header compute.
+pub(crate) fn newer_kind(record: Record<'_>) -> Option<NewerKind> {
     if record.kind != Kind::Opaque {
         return None;
     }
-    for line in NEWER_LINES {
-        if line.word == record.code.0 {
-            return Some(line);
-        }
-    }
-    None
-}
-
-/// The name of a record, `OPAQUE` if it has none.
-pub fn name_of(record: Record<'_>) -> &'static str {
-    match newer_line(record) {
-        Some(line) => line.name,
-        None => record.kind.name(),
+    match record.code.0 {
+        0x400c6313 => Some(NewerKind::BcRequestFreezeNotification),
+        0x400c6314 => Some(NewerKind::BcClearFreezeNotification),
+        0x40086315 => Some(NewerKind::BcFreezeNotificationDone),
+        0x80107215 => Some(NewerKind::BrFrozenBinder),
+        0x80087216 => Some(NewerKind::BrClearFreezeNotificationDone),
+        _ => None,
     }
 }
 
 /// Whether a record has no name.
 pub fn is_unnamed(record: Record<'_>) -> bool {
-    record.kind == Kind::Opaque && newer_line(record).is_none()
+    record.kind == Kind::Opaque && newer_kind(record).is_none()
 }

@@ -19,6 +19,7 @@ mod RowLaws
 mod SeenLaws
 mod SettlingLaws
 mod StepLaws
+mod StreamLaws
 mod TableLaws
 mod TurnLaws
 mod WaitingLaws

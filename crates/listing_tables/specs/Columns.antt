@@ -24,9 +24,13 @@ column_bytes Null = []
 column_bytes (Number number) = to_le_bytes w64 number
 column_bytes (Text text) = to_le_bytes w64 (length text.now) ++ text.now
 
+-- the bytes of a row with this mask and these columns
+abbrev pub masked_bytes : ℕ → List Column → List ℕ
+masked_bytes mask columns = to_le_bytes w64 mask ++ flat_map column_bytes columns
+
 -- the bytes of a row with these columns
 abbrev pub row_bytes : List Column → List ℕ
-row_bytes columns = to_le_bytes w64 (mask_of columns) ++ flat_map column_bytes columns
+row_bytes columns = masked_bytes (mask_of columns) columns
 
 -- A writer has grown by a row of each of these things, in order, and by nothing else. `IsRow` says what the row of a
 -- thing has.

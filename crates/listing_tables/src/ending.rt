@@ -160,6 +160,11 @@ impl Ending {
         }
     }
 
+    /// The number of the kind of its first fault.
+    pub(crate) fn fault_number(self) -> Option<u64> {
+        self.fault.map(|found| fault_number(found.fault.kind))
+    }
+
     /// Writes the row of the table capture, with this many records.
     pub(crate) fn write<W: Write + Drop>(self, records: u64, rows: &mut RowWriter<W>) -> Outcome {
         rows.push(&columns! {
@@ -171,7 +176,7 @@ impl Ending {
             first_seq: self.span.map(|(first, _)| first),
             last_seq: self.span.map(|(_, last)| last),
             missing: self.missing(),
-            fault: self.fault.map(|found| fault_number(found.fault.kind)),
+            fault: self.fault_number(),
             fault_place: self.fault.map(|found| found.fault.place),
             fault_part: self.fault.map(|found| found.part),
         })

@@ -41,6 +41,16 @@ impl Names {
         }
     }
 
+    /// Puts the letters of the interface of this number in the place of those that are there.
+    pub(crate) fn set_interface(&self, number: u64, letters: &mut Vec<u8>) -> Outcome {
+        set_name(&self.interfaces, number, letters)
+    }
+
+    /// Puts the letters of the service of this number in the place of those that are there.
+    pub(crate) fn set_service(&self, number: u64, letters: &mut Vec<u8>) -> Outcome {
+        set_name(&self.services, number, letters)
+    }
+
     /// Writes the rows of the table interface.
     pub(crate) fn write_interfaces<W: Write + Drop>(&self, rows: &mut RowWriter<W>) -> Outcome {
         write_names(self.alloc, &self.interfaces, rows)
@@ -81,6 +91,14 @@ fn write_names<W: Write + Drop>(
         rows.push(&columns! { id: number, name: Column::Text(letters.as_slice()) })?;
     }
     Ok(())
+}
+
+/// Puts the letters of the name of this number in the place of those that are there.
+fn set_name(names: &IndexSet<Vec<u8>>, number: u64, letters: &mut Vec<u8>) -> Outcome {
+    match names.get_index(number.saturating_sub(1) as usize) {
+        Some(name) => set_letters(letters, name.as_slice()),
+        None => Err(ListingError::TooLarge),
+    }
 }
 
 /// Puts the letters of a name in the place of those that are there.

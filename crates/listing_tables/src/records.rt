@@ -59,7 +59,7 @@ pub(crate) fn write_record<W: Write + Drop>(
 }
 
 /// The row of a record, which names the interface and the service of these numbers.
-fn record_columns(
+pub(crate) fn record_columns(
     frame: Frame<'_>,
     utid: Utid,
     item: Item<'_>,
@@ -141,7 +141,7 @@ pub(crate) fn write_objects<W: Write + Drop>(rows: &mut RowWriter<W>, item: Item
     Ok(())
 }
 
-fn object_columns(place: u64, attached: Attached<'_>) -> [Column<'static>; 15] {
+pub(crate) fn object_columns(place: u64, attached: Attached<'_>) -> [Column<'static>; 15] {
     let (idx, offset, bad) = match attached.found {
         Ok(_) => (attached.index, offset_of(attached), None),
         Err(bad) => (

@@ -1,10 +1,11 @@
 //! The rows that are written.
 
-ghost use Rattle.std.specs.Prelude.{◌≡◌, ◌≤◌, ◌+◌, ◌++◌, length, IfOk, OnOk};
+ghost use Rattle.std.specs.Prelude.{◌≡◌, ◌<◌, ◌≤◌, ◌+◌, ◌^◌, ◌++◌, length, IfOk, OnOk};
 ghost use Rattle.std.specs.Int.{w64, to_le_bytes};
 ghost use Rattle.std.specs.Io.KnownBytes.{Appends, Keeps};
 ghost use Rattle.arrayvec.specs.ArrayVec.{array_vec_len};
-ghost use Rattle.listing_tables.specs.Columns.{column_of, column_bytes, mask_of, row_bytes};
+ghost use Rattle.listing_tables.specs.Columns.{column_of, column_bytes, mask_of, masked_bytes, row_bytes};
+ghost use Rattle.listing_tables.specs.Stream.{sort_number, sorted_bytes, sorted_mask};
 ghost use Rattle.listing_tables.specs.declared.rows.Column.TheVariants.{Number};
 
 use arrayvec::ArrayVec;
@@ -53,7 +54,23 @@ impl<W: Write + Drop> RowWriter<W> {
         requires { length columns.now ≤ 63 }
         ensures { OnOk result (Appends self.old self.new (row_bytes columns.now)) }
     {
-        push_row(&mut self.bytes, &mut self.row, columns)?;
+        self.push_masked(mask_of(columns), columns)
+    }
+
+    /// Takes a row of a stream. It is a row as `push` takes it, but the highest byte of its mask is the
+    /// number of its sort.
+    pub(crate) fn push_sorted(&mut self, sort: Sort, columns: &[Column<'_>]) -> Outcome
+        requires { length columns.now ≤ 56 }
+        ensures { OnOk result (Appends self.old self.new (sorted_bytes sort columns.now)) }
+    {
+        self.push_masked(sorted_mask(sort, columns), columns)
+    }
+
+    fn push_masked(&mut self, mask: u64, columns: &[Column<'_>]) -> Outcome
+        requires { length columns.now ≤ 63 }
+        ensures { OnOk result (Appends self.old self.new (masked_bytes mask columns.now)) }
+    {
+        push_row(&mut self.bytes, &mut self.row, mask, columns)?;
         if self.bytes.len() < PIECE {
             return Ok(());
         }
@@ -97,12 +114,12 @@ fn write_whole<W: Write>(writer: &mut W, bytes: &[u8]) -> Outcome
 /// to begin with an empty array for each row, takes longer.
 type Numbers = ArrayVec<u8, 512>;
 
-fn push_row(bytes: &mut Vec<u8>, row: &mut Numbers, columns: &[Column<'_>]) -> Outcome
+fn push_row(bytes: &mut Vec<u8>, row: &mut Numbers, mask: u64, columns: &[Column<'_>]) -> Outcome
     requires { length columns.now ≤ 63 }
-    ensures { OnOk result (bytes.new.items ≡ bytes.old.items ++ row_bytes columns.now) }
+    ensures { OnOk result (bytes.new.items ≡ bytes.old.items ++ masked_bytes mask columns.now) }
 {
     row.clear();
-    push_number(row, mask_of(columns));
+    push_number(row, mask);
     for column in columns {
         push_column(bytes, row, *column)?;
     }
@@ -154,6 +171,51 @@ fn mask_of(columns: &[Column<'_>]) -> u64
         }
     }
     mask
+}
+
+/// The mask of a row of a stream.
+fn sorted_mask(sort: Sort, columns: &[Column<'_>]) -> u64
+    requires { length columns.now ≤ 56 }
+    ensures { result ≡ sorted_mask sort columns.now }
+{
+    sort.number() * SORTS + mask_of(columns)
+}
+
+/// What the number of a sort is multiplied by in a mask: the columns have the bits below.
+const SORTS: u64 = 72_057_594_037_927_936;
+
+/// What a row of a stream is about.
+#[derive(Clone, Copy)]
+pub(crate) enum Sort {
+    Thread,
+    Interface,
+    Record,
+    Object,
+    /// A record with its bytes and those of its attachment.
+    Whole,
+    Service,
+    /// A place at which nothing is.
+    Missing,
+    /// The last row.
+    Ending,
+}
+
+impl Sort {
+    fn number(self) -> u64
+        ensures number { result ≡ sort_number self }
+        ensures byte { result < 2 ^ 8 }
+    {
+        match self {
+            Sort::Thread => 1,
+            Sort::Interface => 2,
+            Sort::Record => 3,
+            Sort::Object => 4,
+            Sort::Whole => 5,
+            Sort::Service => 6,
+            Sort::Missing => 7,
+            Sort::Ending => 8,
+        }
+    }
 }
 
 /// What a row has in a column. A text is ASCII.
