@@ -62,7 +62,10 @@ LISTING = Command(
          Option("--side", "FILE", "at the end of each line, what the side list of ./record says: time=, in nanoseconds"
                 " of CLOCK_MONOTONIC, pid=, tid=, and the names, thread= and process=; with --form tab, five more"
                 " columns",
-                FILE))),
+                FILE),
+         Option("--names", "", "at the end of each line, before what --side adds, method= and service=: the method"
+                " that a transaction calls, if its name is built in, and the service that it asks the manager of"
+                " services about; with --form tab, two more columns"))),
      Part("Tables", "DATABASE.md#raw-tables", (
          Option("--tables", "FOLDER", "writes each raw table of docs/DATABASE.md to FOLDER/NAME.rows, and of a"
                 " malformed capture what comes before its first fault to FOLDER/before-fault.cap", FOLDER,

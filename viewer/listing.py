@@ -1,39 +1,34 @@
-"""What `./listing` does: from its words to the proved program that answers them."""
+"""What `./listing` does: from its words to the proved program that reads the capture, and to what prints its rows."""
 
 import os
 import pathlib
-import re
 import sys
-from typing import NamedTuple, NoReturn
 
 from commands.listing import LISTING
 from commands.reading import Given, Refused, read
 from viewer.files import Stopped, quoted
-from viewer.listing_words import TABLES as OF_TABLES, TIMES, doubts_of_files, doubts_of_options, is_text
-from viewer.started import Started
-from viewer.terminal import tell, tell_fault, write
+from viewer.lines.asked import printer_words, program_words
+from viewer.lines.run import is_ready, run
+from viewer.listing_words import TABLES, TIMES, doubts_of_files, doubts_of_options, is_text
+from viewer.terminal import tell, write
 from viewer.whole_python import need_whole_python
 
-# The program of lines, and that of tables.
-LINES, TABLES = "binder_listing", "binder_tables"
-# The options that the viewer takes, and no program.
+# The options of which the printer knows nothing.
 OF_VIEWER = ("--arguments", "--aidl")
 
-# A sign that a terminal obeys, or that hides or turns others: controls, marks of direction, ends of lines. In UTF-8.
-SIGN = re.compile(b"[\x00-\x08\x0b-\x1f\x7f]|\xc2[\x80-\x9f]|\xd8\x9c|\xe2(?:\x80[\x8b-\x8f\xa8-\xae]|\x81[\xa0-\xaf])"
-                  b"|\xef\xbb\xbf")
-# So many bytes are looked at or written at a time.
-PIECE = 2**20
+
+def without(given: Given, *names: str) -> Given:
+    return Given([(name, values) for name, values in given.options if name not in names], given.files)
 
 
 # ---- a time
 
 
-def with_frames(given: Given) -> list[str]:
-    """The words with the frames of a time, by --from and --to, in place of the time."""
+def with_frames(root: pathlib.Path, given: Given) -> Given:
+    """What is given with the frames of a time, by --from and --to, in place of the time."""
     need_whole_python("listing")
     import argparse
-    from viewer.frames_within import frames_within
+    from viewer.lines.by_side import frames_within
     from viewer.window import READ_BY as READ
     name, values = next((name, values) for name, values in given.options if name in TIMES)
     for other in ("--from", "--to"):
@@ -43,15 +38,9 @@ def with_frames(given: Given) -> list[str]:
         read_values = [READ[name](value) for value in values]
     except argparse.ArgumentTypeError as error:
         raise Refused(f"{name}: {error}") from error
-    first, last = frames_within(name, read_values, given.values("--side"), given.files)
-    return ["--from", str(first), "--to", str(last), *words_but(given, (*TIMES, *OF_VIEWER))]
-
-
-def words_but(given: Given, options: tuple[str, ...]) -> list[str]:
-    """The words without these options."""
-    others = [f"{option}={value}" if values else option for option, values in given.options if option not in options
-              for value in values or [""]]
-    return [*others, "--", *given.files]
+    first, last = frames_within(root, name, read_values, given.values("--side"), given.files)
+    others = without(given, *TIMES)
+    return Given([("--from", [str(first)]), ("--to", [str(last)]), *others.options], given.files)
 
 
 # ---- arguments
@@ -61,94 +50,67 @@ def refuse_arguments(given: Given) -> None:
     """Arguments are those of a record that is shown whole."""
     if not given.asks("--arguments"):
         raise Refused("--aidl goes with --arguments")
-    if given.asks(*OF_TABLES) or not given.asks("--at"):
+    if given.asks(*TABLES) or not given.asks("--at"):
         raise Refused("--arguments goes with --at")
 
 
-def run_with_arguments(root: pathlib.Path, program: list[str], given: Given) -> int:
-    """Runs the program, and writes what it lists, with what the records say. Its status."""
+def list_with_arguments(root: pathlib.Path, given: Given) -> int:
+    """Lists what is asked for, with what the records say. The status."""
     need_whole_python("listing")
     import subprocess
     from viewer.arguments.listed import listed
-    asked = subprocess.run(program, stdout=subprocess.PIPE)
-    lines = SIGN.sub(b"?", asked.stdout).decode("utf-8", "replace").splitlines(True)
+    words = printer_words(without(given, *OF_VIEWER))
+    asked = subprocess.run([root / "listing", *words, "--", *given.files], stdout=subprocess.PIPE)
     if asked.returncode in (0, 2):
+        lines = asked.stdout.decode("utf-8", "replace").splitlines(True)
         write(listed(root, lines, given.files, given.values("--side"), given.values("--aidl")))
     return asked.returncode
 
 
-# ---- the program
+# ---- names
 
 
-def may_have_signs(side: str) -> bool:
-    """Whether names of a side list may have such signs. ./record writes controls as numbers, but a list may be by
-    somebody else. One that is no file of its own, as a pipe, can be read only once, and not here."""
-    if not os.path.isfile(side):
-        return True
-    try:
-        with open(side, "rb") as file:
-            return any(SIGN.search(line) for line in file)
-    except OSError:
-        return False
+def name_words(root: pathlib.Path, given: Given) -> list[str]:
+    """The words of the printer about names of methods."""
+    if not given.asks("--names"):
+        return []
+    need_whole_python("listing")
+    from viewer.lines.named import method_words
+    return method_words(root, given.files)
 
 
-def write_all(piece: bytes) -> bool:
-    """Whether standard output takes it. If its reader has gone, nobody is told."""
-    try:
-        while piece:
-            piece = piece[os.write(1, piece):]
-    except BrokenPipeError:
-        return False
-    except OSError:
-        tell_fault("Write")
-        os._exit(4)
-    return True
+# ---- what is asked for
 
 
-def run_without_signs(program: list[str]) -> NoReturn:
-    """Runs the program with a ? for each such sign, and ends as it does."""
-    out, into = os.pipe()
-    at_work = Started([*program], {1: into})
-    os.close(into)
-    with open(out, "rb", buffering=0) as pipe:
-        rest = b""
-        while piece := pipe.read(PIECE):
-            lines, end, rest = (rest + piece).rpartition(b"\n")
-            if not write_all(SIGN.sub(b"?", lines + end)):
-                break
-        else:
-            write_all(SIGN.sub(b"?", rest))
-    status = at_work.wait()
-    os._exit(status if status >= 0 else 128 - status)
-
-
-class Asked(NamedTuple):
-    """The program, its words, and the side list; and what is given, if the viewer has a part in the answer."""
-    program: str
-    words: list[str]
-    side: str | None = None
-    given: Given | None = None
-
-
-def asked_by(words: list[str]) -> Asked:
+def asked_by(root: pathlib.Path, words: list[str]) -> Given:
     """What the words ask for. If a file can't be opened, a line says which: the program then says it without a name."""
     for word in words:
         if not is_text(word):
             raise Refused(f"{quoted(word)} is not UTF-8")
     given = read(LISTING, words)
-    if of_viewer := given.asks(*OF_VIEWER):
+    if given.asks(*OF_VIEWER):
         refuse_arguments(given)
-        words = words_but(given, OF_VIEWER)
     for doubt in doubts_of_options(given):
         raise Refused(doubt)
     if given.asks(*TIMES):
-        words = with_frames(given)
+        given = with_frames(root, given)
+    return given
+
+
+def answer(root: pathlib.Path, given: Given) -> int:
+    """Answers what is asked for, or runs in place of this program what does."""
+    if given.asks("--arguments"):
+        return list_with_arguments(root, given)
     for doubt in doubts_of_files(given):
         tell("listing", doubt)
         break
-    if given.asks(*OF_TABLES):
-        return Asked(TABLES, words)
-    return Asked(LINES, words, next(iter(given.values("--side")), None), given if of_viewer else None)
+    if given.asks(*TABLES):
+        program = os.fspath(root / "crates/run")
+        os.execv(program, [program, "listing", "binder_tables", "--", *printer_words(given), "--", *given.files])
+    if not is_ready():
+        from viewer.lines.build import need_printer
+        need_printer()
+    run(os.fspath(root), program_words(given), [*printer_words(given), *name_words(root, given)])
 
 
 def main(root: pathlib.Path) -> int:
@@ -158,10 +120,7 @@ def main(root: pathlib.Path) -> int:
     if words == ["--version"]:
         os.execv(root / "viewer/version.sh", ["version.sh"])
     try:
-        asked = asked_by(words)
-        run = [os.fspath(root / "crates/run"), "listing", asked.program, "--", *asked.words]
-        if asked.given:
-            return run_with_arguments(root, run, asked.given)
+        return answer(root, asked_by(root, words))
     except Refused as refused:
         from commands.help import usage_of
         tell("usage", usage_of(LISTING))
@@ -173,6 +132,3 @@ def main(root: pathlib.Path) -> int:
     except OSError as error:
         tell("listing", f"{error.filename or 'standard output'}: {error.strerror}")
         return 4
-    if asked.side is not None and may_have_signs(asked.side):
-        run_without_signs(run)
-    os.execv(run[0], run)

@@ -28,11 +28,16 @@ BITS = 64
 # ---- options
 
 
-def is_number(word: str) -> bool:
-    """Whether it is a number as the programs read it: in decimal, or in hexadecimal after 0x."""
+def number_of(word: str) -> int:
+    """A number in decimal, or in hexadecimal after 0x."""
     digits, base = (word[2:], 16) if word[:2] in ("0x", "0X") else (word, 10)
+    return int(digits, base)
+
+
+def is_number(word: str) -> bool:
+    """Whether it is a number as the programs read it."""
     try:
-        return digits.isascii() and digits.isalnum() and int(digits, base) < 2**BITS
+        return word.isascii() and word.isalnum() and number_of(word) < 2**BITS
     except ValueError:
         return False
 
@@ -71,7 +76,7 @@ def doubts_of_group(given: Given, group: tuple[str, ...]) -> Iterator[str]:
 
 
 def doubts_of_lines(given: Given) -> Iterator[str]:
-    for group in (PLACES, TIMES, ("--side",)):
+    for group in (PLACES, TIMES, ("--side",), ("--objects",), ("--names",)):
         yield from doubts_of_group(given, group)
     yield from (f"--form does not go with {name}" for name in NO_COLUMNS if given.asks("--form") and given.asks(name))
     for name, values in given.options:
@@ -81,7 +86,10 @@ def doubts_of_lines(given: Given) -> Iterator[str]:
 
 
 def doubts_of_tables(given: Given) -> Iterator[str]:
+    """A table is written whole, so no option narrows it."""
     yield from doubts_of_group(given, TABLES)
+    table = next(name for name, _ in given.options if name in TABLES)
+    yield from (f"{name} does not go with {table}" for name, _ in given.options if name not in TABLES)
     schema = (DATABASE / "schema.sql").read_text("utf-8")
     for table in given.values("--table"):
         if f"CREATE TABLE raw_{table}(" not in schema:

@@ -16,7 +16,7 @@ elif [ -n "$(git -C "$root" status --porcelain)" ]; then
   commit="$commit and changes that are not in it"
 fi
 printf 'binder-audit in a repository, and in no package\ncommit %s\n' "$commit"
-for name in binder_audit binder_listing binder_tables; do
+for name in binder_audit binder_tables; do
   if "$root/crates/run" --are-proved "$name" 2>/dev/null; then
     sed -n "s/^program /$name: sha256 /p; s/^sources /  proved from sources of the sum /p; s/^verdict /  /p" \
       "$root/crates/$name/out/$name.noted"

@@ -167,7 +167,7 @@ def version(room: Room) -> None:
     (clone.folder / "viewer").mkdir()
     shutil.copy(ROOT / "viewer/version.sh", clone.folder / "viewer")
     script = clone.folder / "viewer/version.sh"
-    script.write_text(script.read_text("utf-8").replace("binder_audit binder_listing binder_tables", "little"), "utf-8")
+    script.write_text(script.read_text("utf-8").replace("binder_audit binder_tables", "little"), "utf-8")
     summed = hashlib.sha256(clone.made.read_bytes()).hexdigest()
     if f"little: sha256 {summed}\n" not in clone.said("viewer/version.sh")[1]:
         room.fail(f"--version: {clone.said('viewer/version.sh')[1]}")

@@ -5,12 +5,12 @@ which makes them.
     checks/run captures -- --write   first writes them into the folder
 """
 
-from checks.kit.captures import CAPTURES
+from checks.kit.captures import CAPTURES, TABLE
 from checks.kit.checking import FLAG, check
 from checks.kit.programs import CASES, ROOT
 
 # The crates with copies of some captures.
-COPIES = "audit_changes", "binder_audit", "binder_listing", "binder_tables"
+COPIES = "audit_changes", "binder_audit", "binder_tables"
 
 
 def expected():
@@ -33,7 +33,8 @@ def judge(given, *_):
         for name, capture in expected().items():
             (CASES / name).write_bytes(capture)
     for path in differences():
-        yield f"{path.relative_to(ROOT)}: not the capture that kit/captures.py makes"
+        why = next((f" of {why}" for name, why, _ in TABLE if name == path.stem), "")
+        yield f"{path.relative_to(ROOT)}: not the capture{why} that kit/captures.py makes"
 
 
 if __name__ == "__main__":

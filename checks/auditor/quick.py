@@ -24,7 +24,7 @@ from typing import NamedTuple
 from checks.kit.programs import CHECKS, ROOT
 
 CRATES = ROOT / "crates"
-AUDIT, LISTING = "audit_cases", ("binder_listing", "binder_tables")
+AUDIT, LISTING = "audit_cases", "binder_tables"
 
 
 class Step(NamedTuple):
@@ -59,8 +59,8 @@ def captures_of(crate: str, below: dict[str, list[str]]) -> list[Step]:
         return [Step(f"the build of {AUDIT}", CRATES / AUDIT, ("rt", "run")),
                 Step(f"the cases of {AUDIT}", CRATES / AUDIT / "data",
                      ("bash", "-c", "set -o pipefail; ../out/audit_cases <../stdin | cmp - ../stdout"))]
-    if any(stands_on(one, crate, below) for one in LISTING):
-        return [Step(f"the build of {' and '.join(LISTING)}", ROOT, (CRATES / "build", "--as", "quick", *LISTING)),
+    if stands_on(LISTING, crate, below):
+        return [Step(f"the build of {LISTING}", ROOT, (CRATES / "build", "--as", "quick", LISTING)),
                 Step("the cases of the listing", ROOT, (CHECKS / "run", "listing"))]
     return []
 

@@ -20,12 +20,12 @@ import shutil
 from typing import Iterator
 
 from checks.kit.checking import Fail, compare
-from checks.kit.programs import LISTING, ROOT, TABLES, linked
+from checks.kit.listed import listed, printer
+from checks.kit.programs import ROOT, TABLES, linked
 from checks.kit.runs import answer, at_once
 from commands.help import usage_of
 from commands.listing import LISTING as LISTING_TABLE
-from viewer.listing import OF_VIEWER
-from viewer.listing_words import NAMED, TIMES, names_of
+from viewer.lines.run import PRINTER
 from viewer.program_names import as_packed
 
 # So many command lines of random words are tried with each script.
@@ -93,6 +93,7 @@ LISTING_LINES = [
     (["--side=a", "--side=b", "reply.cap"], "--side is there twice"),
     (["--table", "calls", "reply.cap"], "there is no table calls"),
     (["--table", "call", "--tables=folder", "reply.cap"], "--tables does not go with --table"),
+    (["--table", "record", "--at", "5", "reply.cap"], "--at does not go with --table"),
 ]
 
 # A side list of samples/reply.cap, with these names of the process and of the thread.
@@ -120,7 +121,8 @@ def packed(folder: pathlib.Path, auditor: pathlib.Path) -> pathlib.Path:
     for name in ("commands", "viewer"):
         shutil.copytree(ROOT / name, scripts / name, ignore=shutil.ignore_patterns("*.c", "*.h", "out", "__pycache__"))
     (folder / "lib").mkdir()
-    linked(folder / "lib/binder-audit", {"binder_audit": auditor, "binder_listing": LISTING, "binder_tables": TABLES})
+    linked(folder / "lib/binder-audit",
+           {"binder_audit": auditor, "binder_tables": TABLES, PRINTER: pathlib.Path(printer())})
     return scripts
 
 
@@ -131,6 +133,7 @@ def make_files(room: pathlib.Path) -> None:
         shutil.copy(ROOT / "samples/reply.cap", room / name)
     (room / "good side.side").write_text(SIDE_LIST.format("client", "its thread"), "utf-8")
     (room / "hostile.side").write_text(SIDE_LIST.format("\x1b]0;owned\x07", "\u009b31m\u202egpj\x7f\0"), "utf-8")
+    (room / "clean.side").write_text(SIDE_LIST.format("?]0;owned?", "?31m?gpj??"), "utf-8")
     os.mkfifo(room / "one.fifo")
 
 
@@ -148,21 +151,24 @@ class Scripts:
     def __init__(self, room: pathlib.Path, auditor: pathlib.Path, fail: Fail) -> None:
         self.room, self.fail = room, fail
         self.folder = packed(room / "package", auditor)
-        self.programs = {"audit": (auditor,), "listing": (LISTING, TABLES)}
+        self.auditor = auditor
         make_files(room)
 
     def answer(self, path: pathlib.Path, words: list) -> tuple[int, bytes, bytes]:
         return answer([path, *words], cwd=self.room, timeout=60)
 
-    def alone(self, script: str, words: list) -> tuple[int, bytes, bytes]:
-        """What the programs of a script answer: of two, that which takes the words."""
-        first, *others = (self.answer(path, words) for path in self.programs[script])
-        return next((came for came in others if first[0] == 64), first)
+    def alone(self, script: str, words: list, both: tuple[int, bytes, bytes]) -> tuple[int, bytes, bytes]:
+        """What the program of a script answers. The listing has none that takes these words: of its answer the last
+        line is a program's, if it names a fault."""
+        if script == "audit":
+            return self.answer(self.auditor, words)
+        return *both[:2], re.findall(rb"(?:fault \w+\n)?\Z", both[2])[0]
 
     def line(self, script: str, words: list) -> tuple[int, bytes, bytes]:
         """The status of a script, the program's line on standard error, and what the script said before it. All else
         is compared with the program."""
-        alone, both = self.alone(script, words), self.answer(self.folder / script, words)
+        both = self.answer(self.folder / script, words)
+        alone = self.alone(script, words, both)
         what = f"{script} {words}"[:300]
         compare(f"{what}: status and standard output", both[:2], alone[:2], self.fail)
         is_usage = script == "listing" and alone[0] == 64
@@ -190,7 +196,7 @@ class Scripts:
             self.fail(f"listing {words}: it says {said!r}, and the program {told!r}, with status {status}")
 
     def check_pipes(self) -> None:
-        due = self.alone("audit", ["report", "reply.cap"])
+        due = self.answer(self.auditor, ["report", "reply.cap"])
         for shell in PIPES:
             compare(shell, answer(["bash", "-c", shell, "bash", self.folder / "audit"], cwd=self.room), due, self.fail)
 
@@ -206,24 +212,14 @@ class Scripts:
         for shell in '"$@"', '"$@" --form tab', '"${@/hostile.side//dev/stdin}" <hostile.side', \
                 'cat hostile.side | "${@/hostile.side//dev/stdin}"':
             words = ["reply.cap", "--side", "hostile.side"]
-            alone, came = (answer(["bash", "-c", shell, "bash", path, *words], cwd=self.room)
-                           for path in (LISTING, self.folder / "listing"))
-            due = re.sub("[\x00-\x08\x0b-\x1f\x7f-\x9f\u202e]", "?", alone[1].decode()).encode()
-            compare(f"{shell} {words}", came, (0, due, b""), self.fail)
+            came = answer(["bash", "-c", shell, "bash", self.folder / "listing", *words], cwd=self.room)
+            form = ["--form", "tab"] * ("--form" in shell)
+            due = listed("reply.cap", "--side", "clean.side", *form, cwd=self.room)
+            compare(f"{shell} {words}", came, due, self.fail)
             if b"?]0;owned?" not in came[1]:
                 self.fail(f"{shell} {words}: the names are not there")
         full = answer(["bash", "-c", '"$@" >/dev/full', "bash", self.folder / "listing", *words], cwd=self.room)
         compare(f"{words} on a full disk", full, (4, b"", b"fault Write\n"), self.fail)
-
-    def check_options(self) -> None:
-        """The options of the script `listing` are those of the program's usage, and what the script takes. The program
-        takes each name that the script takes."""
-        usage = answer([LISTING])[2].decode()
-        due = set(re.findall(r"--[a-z]+", usage)) - {"--help"} | {*OF_VIEWER, *TIMES, "--version"}
-        compare("the options of listing", {option.name for option in LISTING_TABLE.options()}, due, self.fail)
-        for option, table in NAMED.items():
-            refused = [name for name in names_of(table) if self.answer(LISTING, [option, name, "reply.cap"])[0] != 0]
-            compare(f"names that {option} of the program does not take", refused, [], self.fail)
 
 
 def check_scripts(room: pathlib.Path, auditor: pathlib.Path, fail: Fail) -> None:
@@ -237,4 +233,3 @@ def check_scripts(room: pathlib.Path, auditor: pathlib.Path, fail: Fail) -> None
     scripts.check_pipes()
     scripts.check_streams()
     scripts.check_names()
-    scripts.check_options()

@@ -87,7 +87,7 @@ def narrowed(chance: random.Random) -> list[str]:
                ["--device", "0"], ["--direction", "read"], ["--from", "2"], ["--to", "9"], ["--code", "OPAQUE"],
                ["--handle", "1"], ["--cookie", "0x0"], ["--node", "0"], ["--address", "0"], ["--flag", "TF_ONE_WAY"],
                ["--larger", "0"], ["--interface", "android.os.IServiceManager"], ["--objects"], ["--form", "tab"],
-               ["--around", place], ["--last", "1s"], ["--between", "00:00", "23:59"])
+               ["--names"], ["--around", place], ["--last", "1s"], ["--between", "00:00", "23:59"])
     return [word for option in chance.sample(options, chance.choice((0, 0, 1, 2))) for word in option]
 
 

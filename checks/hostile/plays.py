@@ -19,16 +19,15 @@ import traceback
 import types
 from typing import NamedTuple, NoReturn
 
-from checks.kit.programs import AUDITOR, LISTING, ROOT, TABLES
+from checks.kit.programs import AUDITOR, ROOT
 
 # The limits of a run: seconds of the processor, bytes of address space, and seconds by the clock.
 PROCESSOR, SPACE, CLOCK = 30, 4 << 30, 120
 
-# The scripts in Python, and the proved programs behind other scripts, by the names that messages give them. What is
-# played of ./listing asks for lines, or for tables by its first word.
-SCRIPTS = {"./view": "view", "./fleet": "fleet",
+# The scripts in Python, and the proved program behind another script, by the names that messages give them.
+SCRIPTS = {"./view": "view", "./fleet": "fleet", "./listing": "listing",
            **{name: name for name in ("viewer/methods/table.py", "lab/sessions.py")}}
-PROVED = {"./audit": AUDITOR, "./listing": LISTING, "./listing --tables": TABLES}
+PROVED = {"./audit": AUDITOR}
 
 
 class Play(NamedTuple):
@@ -108,8 +107,7 @@ class Player:
 
     def path_of(self, play: Play) -> pathlib.Path:
         """The program behind a script, or the script."""
-        begin = " ".join((play.program, *play.words[:1]))
-        return PROVED.get(begin) or PROVED.get(play.program) or ROOT / play.program
+        return PROVED.get(play.program) or ROOT / play.program
 
     def run_script(self, play: Play) -> NoReturn:
         """Does what Python does from the first line of a script on."""

@@ -766,361 +766,265 @@ def eight_frames() -> bytes:
 
 # ---- the captures
 
-CAPTURES = {
+# Each capture: its name, what it shows, and its bytes.
+TABLE: tuple[tuple[str, str, bytes], ...] = (
     # -- what threads do
-    # a reply's buffer is freed, by another thread of its process
-    "freed-reply.cap": CALL_AND_REPLY + write(3, 100, 102, record(BC_FREE_BUFFER, u64(0x7000))),
-    # a handle is released and then acquired
-    "released-before-acquired.cap": HEADER + write(1, 100, 101, record(BC_RELEASE, u32(3)))
-    + write(2, 100, 101, record(BC_ACQUIRE, u32(3))),
-    # within a served call a oneway send is refused; the call around both stays open
-    "refused-oneway.cap": HEADER + write(1, 100, 101, transaction(BC_TRANSACTION, target=1))
-    + read(2, 100, 101, record(BR_TRANSACTION_COMPLETE),
-           transaction(BR_TRANSACTION, sender=200, buffer=0x8000))
-    + write(3, 100, 101, transaction(BC_TRANSACTION, target=2, flags=1))
-    + read(4, 100, 101, record(BR_FAILED_REPLY)),
-    # a call to a process that has died
-    "dead-reply.cap": HEADER + write(1, 100, 101, transaction(BC_TRANSACTION, target=1))
-    + read(2, 100, 101, record(BR_DEAD_REPLY)),
-    # a buffer is freed before two transactions arrive in it
-    "freed-before-delivered.cap": HEADER + write(1, 100, 101, record(BC_FREE_BUFFER, u64(0x10)))
-    + read(2, 100, 101, *2 * [transaction(BR_TRANSACTION, flags=1, buffer=0x10)]),
-    # a reply is sent while a later call of the same thread has no answer
-    "crossed-call.cap": HEADER
-    + read(1, 100, 101, transaction(BR_TRANSACTION, sender=200, buffer=0x8000))
-    + write(2, 100, 101, transaction(BC_TRANSACTION, target=1), transaction(BC_REPLY)),
-    # oneway sends whose sizes add up to more than 64 bits hold
-    "greatest-data-sizes.cap": HEADER + write(1, 100, 101, *2 * [
-        transaction(BC_TRANSACTION, target=2, flags=1, sizes=(2**64 - 1, 0))]),
-    # a death that nobody acknowledges
-    "death-not-acknowledged.cap": HEADER
-    + write(1, 100, 101, record(BC_REQUEST_DEATH_NOTIFICATION, u32(7), u64(1)))
-    + read(2, 100, 101, record(BR_DEAD_BINDER, u64(1))),
-    # handles of two processes, the greater process first
-    "handles-of-two-processes.cap": HEADER + write(1, 9, 1, record(BC_ACQUIRE, u32(2)))
-    + write(2, 4, 1, record(BC_ACQUIRE, u32(8)), record(BC_INCREFS, u32(1))),
-    # of two references to a node one is confirmed
-    "node-half-confirmed.cap": HEADER
-    + read(1, 100, 101, record(BR_INCREFS, u64(0x20), u64(0x30)),
-           record(BR_ACQUIRE, u64(0x20), u64(0x30)))
-    + write(2, 100, 101, record(BC_INCREFS_DONE, u64(0x20), u64(0x30))),
-    # a served call, freed and then replied
-    "freed-then-replied.cap": HEADER
-    + read(1, 100, 101, transaction(BR_TRANSACTION_SEC_CTX, sender=200, buffer=0x8000))
-    + write(2, 100, 101, record(BC_FREE_BUFFER, u64(0x8000)), transaction(BC_REPLY_SG)),
-    # an error reply to no call
-    "error-to-no-call.cap": HEADER + read(1, 100, 101, record(BR_FAILED_REPLY)),
-    # a cleared death notification, confirmed twice
-    "clear-confirmed-twice.cap": HEADER
-    + write(1, 100, 101, record(BC_CLEAR_DEATH_NOTIFICATION, u32(7), u64(1)))
-    + read(2, 100, 101, *2 * [record(BR_CLEAR_DEATH_NOTIFICATION_DONE, u64(1))]),
-    # one frame more than a piece has
-    "many-frames.cap": loopers(257),
-    # a frame for each of up to eight pieces, with something of most sections
-    "eight-frames.cap": eight_frames(),
+    ("freed-reply", "a reply's buffer is freed, by another thread of its process",
+     CALL_AND_REPLY + write(3, 100, 102, record(BC_FREE_BUFFER, u64(0x7000)))),
+    ("released-before-acquired", "a handle is released and then acquired",
+     HEADER + write(1, 100, 101, record(BC_RELEASE, u32(3))) + write(2, 100, 101, record(BC_ACQUIRE, u32(3)))),
+    ("refused-oneway", "within a served call a oneway send is refused; the call around both stays open",
+     HEADER + write(1, 100, 101, transaction(BC_TRANSACTION, target=1))
+     + read(2, 100, 101, record(BR_TRANSACTION_COMPLETE),
+            transaction(BR_TRANSACTION, sender=200, buffer=0x8000))
+     + write(3, 100, 101, transaction(BC_TRANSACTION, target=2, flags=1))
+     + read(4, 100, 101, record(BR_FAILED_REPLY))),
+    ("dead-reply", "a call to a process that has died",
+     HEADER + write(1, 100, 101, transaction(BC_TRANSACTION, target=1)) + read(2, 100, 101, record(BR_DEAD_REPLY))),
+    ("freed-before-delivered", "a buffer is freed before two transactions arrive in it",
+     HEADER + write(1, 100, 101, record(BC_FREE_BUFFER, u64(0x10)))
+     + read(2, 100, 101, *2 * [transaction(BR_TRANSACTION, flags=1, buffer=0x10)])),
+    ("crossed-call", "a reply is sent while a later call of the same thread has no answer",
+     HEADER + read(1, 100, 101, transaction(BR_TRANSACTION, sender=200, buffer=0x8000))
+     + write(2, 100, 101, transaction(BC_TRANSACTION, target=1), transaction(BC_REPLY))),
+    ("greatest-data-sizes", "oneway sends whose sizes add up to more than 64 bits hold",
+     HEADER + write(1, 100, 101, *2 * [transaction(BC_TRANSACTION, target=2, flags=1, sizes=(2**64 - 1, 0))])),
+    ("death-not-acknowledged", "a death that nobody acknowledges",
+     HEADER + write(1, 100, 101, record(BC_REQUEST_DEATH_NOTIFICATION, u32(7), u64(1)))
+     + read(2, 100, 101, record(BR_DEAD_BINDER, u64(1)))),
+    ("handles-of-two-processes", "handles of two processes, the greater process first",
+     HEADER + write(1, 9, 1, record(BC_ACQUIRE, u32(2)))
+     + write(2, 4, 1, record(BC_ACQUIRE, u32(8)), record(BC_INCREFS, u32(1)))),
+    ("node-half-confirmed", "of two references to a node one is confirmed",
+     HEADER
+     + read(1, 100, 101, record(BR_INCREFS, u64(0x20), u64(0x30)),
+            record(BR_ACQUIRE, u64(0x20), u64(0x30)))
+     + write(2, 100, 101, record(BC_INCREFS_DONE, u64(0x20), u64(0x30)))),
+    ("freed-then-replied", "a served call, freed and then replied",
+     HEADER + read(1, 100, 101, transaction(BR_TRANSACTION_SEC_CTX, sender=200, buffer=0x8000))
+     + write(2, 100, 101, record(BC_FREE_BUFFER, u64(0x8000)), transaction(BC_REPLY_SG))),
+    ("error-to-no-call", "an error reply to no call", HEADER + read(1, 100, 101, record(BR_FAILED_REPLY))),
+    ("clear-confirmed-twice", "a cleared death notification, confirmed twice",
+     HEADER + write(1, 100, 101, record(BC_CLEAR_DEATH_NOTIFICATION, u32(7), u64(1)))
+     + read(2, 100, 101, *2 * [record(BR_CLEAR_DEATH_NOTIFICATION_DONE, u64(1))])),
+    ("many-frames", "one frame more than a piece has", loopers(257)),
+    ("eight-frames", "a frame for each of up to eight pieces, with something of most sections", eight_frames()),
 
     # -- what is counted and paired in each process
-    # counts of handles and their lows
-    "handles.cap": handles(),
-    # counts of nodes, their lows, and what is due
-    "nodes.cap": nodes(),
-    # deliveries and frees, in all orders
-    "buffers.cap": buffers(),
-    # what ends a request, and what does not
-    "requests.cap": requests(),
-    # deaths and clears, and their answers
-    "deaths-and-clears.cap": deaths_and_clears(),
-    # the order of processes is that of their first frames
-    "processes.cap": processes(),
+    ("handles", "counts of handles and their lows", handles()),
+    ("nodes", "counts of nodes, their lows, and what is due", nodes()),
+    ("buffers", "deliveries and frees, in all orders", buffers()),
+    ("requests", "what ends a request, and what does not", requests()),
+    ("deaths-and-clears", "deaths and clears, and their answers", deaths_and_clears()),
+    ("processes", "the order of processes is that of their first frames", processes()),
 
     # -- calls of threads, and oneway transactions
-    # TF_ONE_WAY on replies
-    "oneway-replies.cap": oneway_replies(),
-    # two threads with one number
-    "threads-of-one-number.cap": threads_of_one_number(),
-    # threads of a process whose numbers fall
-    "threads-that-fall.cap": threads_that_fall(),
-    # a oneway transaction after a call is refused
-    "refused-behind-a-call.cap": refused_behind_a_call(),
-    # two oneway sends in one write, within a served call: the first is taken and the second refused
-    "several-sends.cap": HEADER
-    + read(1, 100, 101, transaction(BR_TRANSACTION, code=7, sender=200, buffer=0x8000))
-    + write(2, 100, 101, transaction(BC_TRANSACTION, target=5, code=3, flags=1, sizes=(16, 0)),
-            transaction(BC_TRANSACTION, target=6, code=3, flags=1, sizes=(2000000, 0)))
-    + read(3, 100, 101, record(BR_NOOP), record(BR_TRANSACTION_COMPLETE), record(BR_FAILED_REPLY))
-    + write(4, 100, 101, *each_long(BC_FREE_BUFFER, 0x8000), transaction(BC_REPLY)),
-    # a frame with a call is missing: its reply closes the served call around it
-    "lost-call.cap": HEADER
-    + read(1, 200, 201, transaction(BR_TRANSACTION, code=2, sender=100, buffer=0x8000))
-    + read(3, 200, 201, record(BR_TRANSACTION_COMPLETE), transaction(BR_REPLY, buffer=0x9000))
-    + write(4, 200, 201, transaction(BC_REPLY)),
-    # calls in one another, two threads by turns
-    "nested-calls.cap": nested_calls(),
-    # each opener with each closer
-    "verdicts.cap": verdicts(),
-    # which records are marks
-    "marks.cap": marks(),
-    # counts and sums of oneway transactions
-    "oneway.cap": oneway_traffic(),
+    ("oneway-replies", "TF_ONE_WAY on replies", oneway_replies()),
+    ("threads-of-one-number", "two threads with one number", threads_of_one_number()),
+    ("threads-that-fall", "threads of a process whose numbers fall", threads_that_fall()),
+    ("refused-behind-a-call", "a oneway transaction after a call is refused", refused_behind_a_call()),
+    ("several-sends", "two oneway sends in one write, within a served call: the first is taken and the second refused",
+     HEADER + read(1, 100, 101, transaction(BR_TRANSACTION, code=7, sender=200, buffer=0x8000))
+     + write(2, 100, 101, transaction(BC_TRANSACTION, target=5, code=3, flags=1, sizes=(16, 0)),
+             transaction(BC_TRANSACTION, target=6, code=3, flags=1, sizes=(2000000, 0)))
+     + read(3, 100, 101, record(BR_NOOP), record(BR_TRANSACTION_COMPLETE), record(BR_FAILED_REPLY))
+     + write(4, 100, 101, *each_long(BC_FREE_BUFFER, 0x8000), transaction(BC_REPLY))),
+    ("lost-call", "a frame with a call is missing: its reply closes the served call around it",
+     HEADER + read(1, 200, 201, transaction(BR_TRANSACTION, code=2, sender=100, buffer=0x8000))
+     + read(3, 200, 201, record(BR_TRANSACTION_COMPLETE), transaction(BR_REPLY, buffer=0x9000))
+     + write(4, 200, 201, transaction(BC_REPLY))),
+    ("nested-calls", "calls in one another, two threads by turns", nested_calls()),
+    ("verdicts", "each opener with each closer", verdicts()),
+    ("marks", "which records are marks", marks()),
+    ("oneway", "counts and sums of oneway transactions", oneway_traffic()),
 
     # -- devices
-    # version 2, with device 0 only
-    "version-2.cap": changed(ACQUIRES, (7, b"2")),
-    # version 2 without frames
-    "version-2-empty.cap": HEADER_2,
-    # A call in one file, its reply in the next, which may be of the other version.
-    "first-part.cap": CALL_AND_REPLY[:116],
-    "second-part.cap": HEADER + CALL_AND_REPLY[116:],
-    "second-part-of-version-2.cap": HEADER_2 + CALL_AND_REPLY[116:],
-    # Two files between which three frames are missing.
-    "sequence-5.cap": HEADER + write(5, 1, 1),
-    "sequence-9-of-version-2.cap": HEADER_2 + write(9, 1, 1),
-    # A frame that may come before any other.
-    "sequence-0.cap": HEADER_2 + write(0, 100, 101, device=1),
-    # Deaths and clears of two processes in three files.
-    "deaths-1.cap": deaths_and_clears()[:312],
-    "deaths-2.cap": HEADER + deaths_and_clears()[312:400],
-    "deaths-3.cap": HEADER_2 + deaths_and_clears()[400:],
-    # one handle number of one process number on two devices
-    "handle-of-two-devices.cap": TWO_DEVICES,
-    # the same bytes in version 1, which has no device field
-    "device-in-version-1.cap": changed(TWO_DEVICES, (7, b"1")),
-    # one process number on two devices: what is opened on one device is closed on the other
-    "one-number-on-two-devices.cap": one_number_on_two_devices(),
-    # two threads with one number, of one process number on two devices
-    "threads-of-two-devices.cap": threads_of_two_devices(),
-    # oneway sends and error replies of one thread number on three devices
-    "sends-of-three-devices.cap": sends_of_three_devices(),
-    # calls of one thread number on several devices by turns
-    "turns-of-two-devices.cap": turns_of_two_devices(),
-    # a buffer is freed on another device, and then on its own
-    "freed-on-two-devices.cap": HEADER_2
-    + read(1, 100, 101, transaction(BR_TRANSACTION, flags=1, buffer=0x9000))
-    + write(2, 100, 101, *each_long(BC_FREE_BUFFER, 0x9000), device=1)
-    + write(3, 100, 102, *each_long(BC_FREE_BUFFER, 0x9000)),
-    # the order of processes is that of their first frames, whatever the device
-    "processes-of-devices.cap": processes_of_devices(),
-    # each row that has a place has its device
-    "rows-of-one-device.cap": rows_of_one_device(),
-    # the greatest device
-    "greatest-device.cap": HEADER_2 + write(1, 100, 101, *each(BC_ACQUIRE, 5), device=MAX_32),
-    # only the highest bit of the device
-    "device-of-one-bit.cap": changed(ACQUIRES, (7, b"2"), (47, b"\x80")),
-    # sequences rise over all devices; the gap is counted over both together
-    "missing-of-two-devices.cap": HEADER_2 + write(5, 1, 1, device=1) + write(9, 1, 1, device=2),
-    # the same sequence on two devices
-    "sequence-of-two-devices.cap": HEADER_2 + write(5, 1, 1, device=1) + write(5, 1, 1, device=2),
-    # the byte after the direction is reserved in version 2 too
-    "reserved-of-version-2.cap": changed(TWO_DEVICES, (33, b"\x01")),
-    # so is the byte before the lengths; a length is wrong too, which is judged later
-    "reserved-and-length-of-version-2.cap": changed(TWO_DEVICES, (35, b"\x80"), (36, b"\x60")),
-    # a return in a write, in the second frame
-    "letter-on-a-device.cap": changed(TWO_DEVICES, (89, b"\x72")),
+    ("version-2", "version 2, with device 0 only", changed(ACQUIRES, (7, b"2"))),
+    ("version-2-empty", "version 2 without frames", HEADER_2),
+    ("first-part", "a call in one file", CALL_AND_REPLY[:116]),
+    ("second-part", "its reply in the next", HEADER + CALL_AND_REPLY[116:]),
+    ("second-part-of-version-2", "which may be of the other version", HEADER_2 + CALL_AND_REPLY[116:]),
+    ("sequence-5", "the first of two files between which three frames are missing", HEADER + write(5, 1, 1)),
+    ("sequence-9-of-version-2", "the second of them", HEADER_2 + write(9, 1, 1)),
+    ("sequence-0", "a frame that may come before any other", HEADER_2 + write(0, 100, 101, device=1)),
+    ("deaths-1", "deaths and clears of two processes in three files", deaths_and_clears()[:312]),
+    ("deaths-2", "the second of them", HEADER + deaths_and_clears()[312:400]),
+    ("deaths-3", "the third of them", HEADER_2 + deaths_and_clears()[400:]),
+    ("handle-of-two-devices", "one handle number of one process number on two devices", TWO_DEVICES),
+    ("device-in-version-1", "the same bytes in version 1, which has no device field", changed(TWO_DEVICES, (7, b"1"))),
+    ("one-number-on-two-devices", "one process number on two devices: what is opened on one device is closed on the"
+     " other", one_number_on_two_devices()),
+    ("threads-of-two-devices", "two threads with one number, of one process number on two devices",
+     threads_of_two_devices()),
+    ("sends-of-three-devices", "oneway sends and error replies of one thread number on three devices",
+     sends_of_three_devices()),
+    ("turns-of-two-devices", "calls of one thread number on several devices by turns", turns_of_two_devices()),
+    ("freed-on-two-devices", "a buffer is freed on another device, and then on its own",
+     HEADER_2 + read(1, 100, 101, transaction(BR_TRANSACTION, flags=1, buffer=0x9000))
+     + write(2, 100, 101, *each_long(BC_FREE_BUFFER, 0x9000), device=1)
+     + write(3, 100, 102, *each_long(BC_FREE_BUFFER, 0x9000))),
+    ("processes-of-devices", "the order of processes is that of their first frames, whatever the device",
+     processes_of_devices()),
+    ("rows-of-one-device", "each row that has a place has its device", rows_of_one_device()),
+    ("greatest-device", "the greatest device", HEADER_2 + write(1, 100, 101, *each(BC_ACQUIRE, 5), device=MAX_32)),
+    ("device-of-one-bit", "only the highest bit of the device", changed(ACQUIRES, (7, b"2"), (47, b"\x80"))),
+    ("missing-of-two-devices", "sequences rise over all devices; the gap is counted over both together",
+     HEADER_2 + write(5, 1, 1, device=1) + write(9, 1, 1, device=2)),
+    ("sequence-of-two-devices", "the same sequence on two devices",
+     HEADER_2 + write(5, 1, 1, device=1) + write(5, 1, 1, device=2)),
+    ("reserved-of-version-2", "the byte after the direction is reserved in version 2 too",
+     changed(TWO_DEVICES, (33, b"\x01"))),
+    ("reserved-and-length-of-version-2", "so is the byte before the lengths; a length is wrong too, which is judged"
+     " later", changed(TWO_DEVICES, (35, b"\x80"), (36, b"\x60"))),
+    ("letter-on-a-device", "a return in a write, in the second frame", changed(TWO_DEVICES, (89, b"\x72"))),
 
     # -- each record of the tables, and names
-    # each command and each return of the tables, once
-    "every-command.cap": HEADER + write(1, 100, 101, *map(record, COMMANDS))
-    + read(2, 100, 101, *map(record, RETURNS)),
-    # numbers after those of the tables, the second with the greatest number and size
-    "opaque-edges.cap": HEADER + write(1, 100, 101, record(0x00006313), record(0x7FFF63FF))
-    + read(2, 100, 101, record(0x00007215)),
-    # a number after those of the table in place of BC_ACQUIRE
-    "opaque-acquire.cap": changed(ACQUIRES, (48, b"\x13")),
-    # a name that looks like an option
-    "-name.cap": ACQUIRES,
+    ("every-command", "each command and each return of the tables, once",
+     HEADER + write(1, 100, 101, *map(record, COMMANDS)) + read(2, 100, 101, *map(record, RETURNS))),
+    ("opaque-edges", "numbers after those of the tables, the second with the greatest number and size",
+     HEADER + write(1, 100, 101, record(0x00006313), record(0x7FFF63FF)) + read(2, 100, 101, record(0x00007215))),
+    ("opaque-acquire", "a number after those of the table in place of BC_ACQUIRE", changed(ACQUIRES, (48, b"\x13"))),
+    ("-name", "a name that looks like an option", ACQUIRES),
 
     # -- faults of the file header
-    # an empty file
-    "no-bytes.cap": b"",
-    # the first byte of the magic; the protocol is wrong too, which is judged later
-    "magic-and-protocol.cap": changed(ACQUIRES, (0, b"b"), (8, b"\x07")),
-    # the last byte of the magic, of a capture that has devices
-    "magic-of-version-3.cap": changed(TWO_DEVICES, (7, b"3")),
-    # the same, one below that of version 1
-    "magic-of-version-0.cap": changed(ACQUIRES, (7, b"0")),
-    # the first byte of the magic, in version 2
-    "magic-in-small.cap": changed(TWO_DEVICES, (0, b"b")),
-    # the first byte of the protocol
-    "protocol-7.cap": changed(ACQUIRES, (8, b"\x07")),
-    # the last byte of the protocol, and the reserved field, which is judged later
-    "protocol-and-reserved.cap": changed(ACQUIRES, (11, b"\x01"), (12, b"\x01")),
-    # the first byte of the reserved field
-    "file-reserved.cap": changed(ACQUIRES, (12, b"\x01")),
-    # its last byte; the frame is wrong too, which is judged later
-    "file-reserved-and-direction.cap": changed(ACQUIRES, (15, b"\x80"), (32, b"\x00")),
+    ("no-bytes", "an empty file", b""),
+    ("magic-and-protocol", "the first byte of the magic; the protocol is wrong too, which is judged later",
+     changed(ACQUIRES, (0, b"b"), (8, b"\x07"))),
+    ("magic-of-version-3", "the last byte of the magic, of a capture that has devices",
+     changed(TWO_DEVICES, (7, b"3"))),
+    ("magic-of-version-0", "the same, one below that of version 1", changed(ACQUIRES, (7, b"0"))),
+    ("magic-in-small", "the first byte of the magic, in version 2", changed(TWO_DEVICES, (0, b"b"))),
+    ("protocol-7", "the first byte of the protocol", changed(ACQUIRES, (8, b"\x07"))),
+    ("protocol-and-reserved", "the last byte of the protocol, and the reserved field, which is judged later",
+     changed(ACQUIRES, (11, b"\x01"), (12, b"\x01"))),
+    ("file-reserved", "the first byte of the reserved field", changed(ACQUIRES, (12, b"\x01"))),
+    ("file-reserved-and-direction", "its last byte; the frame is wrong too, which is judged later",
+     changed(ACQUIRES, (15, b"\x80"), (32, b"\x00"))),
 
     # -- faults of a frame header
-    # one byte of a frame header
-    "frame-of-1-byte.cap": ACQUIRES[:17],
-    # all but one byte of it
-    "frame-of-31-bytes.cap": ACQUIRES[:47],
-    # the header only, with a length of 16 command bytes
-    "no-command-bytes.cap": ACQUIRES[:48],
-    # all command bytes but one
-    "command-bytes-cut.cap": ACQUIRES[:63],
-    # the same sequence twice
-    "frame-twice.cap": ACQUIRES + ACQUIRES[16:],
-    # the sequence falls from the greatest to 0; the direction is wrong too, which is judged later
-    "sequence-and-direction.cap": HEADER + write(2**64 - 1, 1, 1) + frame(0, 0, 1, 1),
-    # the least direction above a read
-    "direction-3.cap": changed(ACQUIRES, (32, b"\x03")),
-    # no direction; the byte before the lengths is wrong too, which is judged later
-    "direction-and-reserved.cap": changed(ACQUIRES, (32, b"\x00"), (35, b"\x01")),
-    # the byte after the direction
-    "reserved-behind-direction.cap": changed(ACQUIRES, (33, b"\x01")),
-    # the byte between these two
-    "reserved-between.cap": changed(ACQUIRES, (34, b"\x10")),
-    # the byte before the lengths
-    "reserved-before-lengths.cap": changed(ACQUIRES, (35, b"\x80")),
-    # the byte after the lengths
-    "reserved-behind-lengths.cap": changed(ACQUIRES, (44, b"\x01")),
-    # the last byte of the header; a length is wrong too, which is judged later
-    "reserved-and-length.cap": changed(ACQUIRES, (36, b"\x11"), (47, b"\x80")),
-    # one command byte more than there is
-    "command-length-17.cap": changed(ACQUIRES, (36, b"\x11")),
-    # lengths whose sum would fit what follows if it were taken in 32 bits
-    "lengths-past-32-bits.cap": changed(ACQUIRES, (36, u32(2**32 - 1)), (40, u32(17))),
-    # the frame ends before its second record, and 8 bytes follow it
-    "frame-of-8-bytes.cap": changed(ACQUIRES, (36, b"\x08")),
-    # a frame after a good one has a length of 100 bytes that are not there
-    "later-frame-past-the-end.cap": HEADER + write(1, 1, 1, ENTER)
-    + frame_header(1, 2, 1, 1, 100, 0),
+    ("frame-of-1-byte", "one byte of a frame header", ACQUIRES[:17]),
+    ("frame-of-31-bytes", "all but one byte of it", ACQUIRES[:47]),
+    ("no-command-bytes", "the header only, with a length of 16 command bytes", ACQUIRES[:48]),
+    ("command-bytes-cut", "all command bytes but one", ACQUIRES[:63]),
+    ("frame-twice", "the same sequence twice", ACQUIRES + ACQUIRES[16:]),
+    ("sequence-and-direction", "the sequence falls from the greatest to 0; the direction is wrong too, which is"
+     " judged later", HEADER + write(2**64 - 1, 1, 1) + frame(0, 0, 1, 1)),
+    ("direction-3", "the least direction above a read", changed(ACQUIRES, (32, b"\x03"))),
+    ("direction-and-reserved", "no direction; the byte before the lengths is wrong too, which is judged later",
+     changed(ACQUIRES, (32, b"\x00"), (35, b"\x01"))),
+    ("reserved-behind-direction", "the byte after the direction", changed(ACQUIRES, (33, b"\x01"))),
+    ("reserved-between", "the byte between these two", changed(ACQUIRES, (34, b"\x10"))),
+    ("reserved-before-lengths", "the byte before the lengths", changed(ACQUIRES, (35, b"\x80"))),
+    ("reserved-behind-lengths", "the byte after the lengths", changed(ACQUIRES, (44, b"\x01"))),
+    ("reserved-and-length", "the last byte of the header; a length is wrong too, which is judged later",
+     changed(ACQUIRES, (36, b"\x11"), (47, b"\x80"))),
+    ("command-length-17", "one command byte more than there is", changed(ACQUIRES, (36, b"\x11"))),
+    ("lengths-past-32-bits", "lengths whose sum would fit what follows if it were taken in 32 bits",
+     changed(ACQUIRES, (36, u32(2**32 - 1)), (40, u32(17)))),
+    ("frame-of-8-bytes", "the frame ends before its second record, and 8 bytes follow it",
+     changed(ACQUIRES, (36, b"\x08"))),
+    ("later-frame-past-the-end", "a frame after a good one has a length of 100 bytes that are not there",
+     HEADER + write(1, 1, 1, ENTER) + frame_header(1, 2, 1, 1, 100, 0)),
 
     # -- faults of records
-    # one byte where a code word is due
-    "code-of-1-byte.cap": changed(ACQUIRES, (36, b"\x09")),
-    # two bytes
-    "code-of-2-bytes.cap": changed(ACQUIRES, (36, b"\x0a")),
-    # three bytes
-    "code-of-3-bytes.cap": changed(ACQUIRES, (36, b"\x0b")),
-    # a payload without its last byte
-    "payload-cut.cap": changed(ACQUIRES, (36, b"\x0f")),
-    # two bytes of a code word, and after them a frame that is wrong too
-    "code-cut-before-a-bad-frame.cap": HEADER + write(1, 1, 1, ENTER, b"\x05\x63")
-    + frame_header(1, 2, 1, 1, 100, 0),
-    # 900 frames; the second and the last have a return in a write
-    "two-wrong-directions.cap": loopers(900, wrong=(2, 900)),
-    # only the last one has it
-    "last-wrong-direction.cap": loopers(900, wrong=(900,)),
-    # a command in a read
-    "acquire-in-a-read.cap": changed(ACQUIRES, (32, b"\x02")),
-    # the letter of returns
-    "letter-of-returns.cap": changed(ACQUIRES, (49, b"\x72")),
-    # both direction bits
-    "both-direction-bits.cap": one_record(0xC0046305, u32(5)),
-    # a payload, and no direction bit
-    "payload-without-direction.cap": one_record(0x00046305, u32(5)),
-    # a direction bit, and no payload
-    "direction-without-payload.cap": one_record(0x4000630C),
-    # a return in a write, whose payload is not there: the code word is judged first
-    "direction-before-length.cap": one_record(BR_ERROR),
-    # BC_TRANSACTION of 4 bytes
-    "call-of-4-bytes.cap": changed(ACQUIRES, (48, b"\x00")),
-    # BC_TRANSACTION of 40 bytes
-    "call-of-40-bytes.cap": one_record(0x40286300, bytes(40)),
-    # the same without its payload: the code word is judged first
-    "size-before-length.cap": one_record(0x40286300),
-    # BC_ACQUIRE without a payload
-    "acquire-of-no-bytes.cap": one_record(0x00006305),
-    # BC_ENTER_LOOPER with one
-    "looper-of-4-bytes.cap": one_record(0x4004630C, u32(0)),
-    # a size between those of BR_TRANSACTION and BR_TRANSACTION_SEC_CTX
-    "transaction-of-68-bytes.cap": HEADER + read(1, 100, 101, record(0x80447202)),
+    ("code-of-1-byte", "one byte where a code word is due", changed(ACQUIRES, (36, b"\x09"))),
+    ("code-of-2-bytes", "two bytes", changed(ACQUIRES, (36, b"\x0a"))),
+    ("code-of-3-bytes", "three bytes", changed(ACQUIRES, (36, b"\x0b"))),
+    ("payload-cut", "a payload without its last byte", changed(ACQUIRES, (36, b"\x0f"))),
+    ("code-cut-before-a-bad-frame", "two bytes of a code word, and after them a frame that is wrong too",
+     HEADER + write(1, 1, 1, ENTER, b"\x05\x63") + frame_header(1, 2, 1, 1, 100, 0)),
+    ("two-wrong-directions", "900 frames; the second and the last have a return in a write",
+     loopers(900, wrong=(2, 900))),
+    ("last-wrong-direction", "only the last one has it", loopers(900, wrong=(900,))),
+    ("acquire-in-a-read", "a command in a read", changed(ACQUIRES, (32, b"\x02"))),
+    ("letter-of-returns", "the letter of returns", changed(ACQUIRES, (49, b"\x72"))),
+    ("both-direction-bits", "both direction bits", one_record(0xC0046305, u32(5))),
+    ("payload-without-direction", "a payload, and no direction bit", one_record(0x00046305, u32(5))),
+    ("direction-without-payload", "a direction bit, and no payload", one_record(0x4000630C)),
+    ("direction-before-length", "a return in a write, whose payload is not there: the code word is judged first",
+     one_record(BR_ERROR)),
+    ("call-of-4-bytes", "BC_TRANSACTION of 4 bytes", changed(ACQUIRES, (48, b"\x00"))),
+    ("call-of-40-bytes", "BC_TRANSACTION of 40 bytes", one_record(0x40286300, bytes(40))),
+    ("size-before-length", "the same without its payload: the code word is judged first", one_record(0x40286300)),
+    ("acquire-of-no-bytes", "BC_ACQUIRE without a payload", one_record(0x00006305)),
+    ("looper-of-4-bytes", "BC_ENTER_LOOPER with one", one_record(0x4004630C, u32(0))),
+    ("transaction-of-68-bytes", "a size between those of BR_TRANSACTION and BR_TRANSACTION_SEC_CTX",
+     HEADER + read(1, 100, 101, record(0x80447202))),
 
     # -- faults of attachments
-    # all of the frame but its last byte
-    "attachment-cut.cap": DELIVERY[:159],
-    # one command byte more than there is
-    "command-length-69.cap": changed(DELIVERY, (36, b"\x45")),
-    # one attachment byte more
-    "attachment-length-45.cap": changed(DELIVERY, (40, b"\x2d")),
-    # one command byte less: the record is judged before the attachment
-    "command-length-67.cap": changed(DELIVERY, (36, b"\x43")),
-    # one byte of an entry
-    "entry-of-1-byte.cap": changed(DELIVERY, (40, b"\x01")),
-    # all of its numbers but one byte
-    "entry-of-11-bytes.cap": changed(DELIVERY, (40, b"\x0b")),
-    # only its numbers
-    "entry-of-12-bytes.cap": changed(DELIVERY, (40, b"\x0c")),
-    # all of it but one byte
-    "entry-of-43-bytes.cap": changed(DELIVERY, (40, b"\x2b")),
-    # one body byte more than there is
-    "body-of-25-bytes.cap": changed(DELIVERY, (120, b"\x19")),
-    # body and list of 2^32 bytes, a sum that is 0 in 32 bits
-    "entry-past-32-bits.cap": changed(DELIVERY, (120, u32(2**32 - 8))),
-    # too long, and for no record: the length is judged first
-    "length-before-record.cap": changed(DELIVERY, (116, b"\x04"), (124, b"\x09")),
-    # an entry for what is no record's first byte
-    "entry-inside-a-record.cap": changed(DELIVERY, (116, b"\x04")),
-    # for the end of the command bytes, after the records
-    "entry-behind-the-records.cap": changed(DELIVERY, (116, b"\x44")),
-    # for an opaque record
-    "entry-of-an-opaque-record.cap": changed(DELIVERY, (48, b"\x15")),
-    # for the same record twice
-    "entry-twice.cap": changed(DELIVERY, (40, b"\x58")) + DELIVERY[116:],
-    # for the second record and then for the first; the sizes are wrong too, which is judged later
-    "entries-that-fall.cap": HEADER + read(1, 100, 101, *2 * [oneway(24, 8)], entries=[
-        entry(68, HANDLE, offsets(0)), entry(0, HANDLE, b"")]),
-    # a body shorter than the record says
-    "body-of-23-bytes.cap": changed(DELIVERY, (120, b"\x17")),
-    # a list of offsets shorter than the record says
-    "list-of-no-bytes.cap": changed(DELIVERY, (124, b"\x00")),
-    # another size in the record
-    "data-size-28.cap": changed(DELIVERY, (84, b"\x1c")),
-    # a size whose low four bytes are those of the entry
-    "data-size-past-32-bits.cap": changed(DELIVERY, (88, b"\x01")),
-    # the second of three frames has a wrong size, the third an entry for no record
-    "attachment-before-next-frame.cap": changed(DELIVERIES, (264, b"\x17"), (404, b"\x04")),
-    # an attachment that the lengths of its frame leave out is read as a frame, and is not one
-    "attachment-behind-a-frame.cap": changed(DELIVERY, (40, b"\x00")),
+    ("attachment-cut", "all of the frame but its last byte", DELIVERY[:159]),
+    ("command-length-69", "one command byte more than there is", changed(DELIVERY, (36, b"\x45"))),
+    ("attachment-length-45", "one attachment byte more", changed(DELIVERY, (40, b"\x2d"))),
+    ("command-length-67", "one command byte less: the record is judged before the attachment",
+     changed(DELIVERY, (36, b"\x43"))),
+    ("entry-of-1-byte", "one byte of an entry", changed(DELIVERY, (40, b"\x01"))),
+    ("entry-of-11-bytes", "all of its numbers but one byte", changed(DELIVERY, (40, b"\x0b"))),
+    ("entry-of-12-bytes", "only its numbers", changed(DELIVERY, (40, b"\x0c"))),
+    ("entry-of-43-bytes", "all of it but one byte", changed(DELIVERY, (40, b"\x2b"))),
+    ("body-of-25-bytes", "one body byte more than there is", changed(DELIVERY, (120, b"\x19"))),
+    ("entry-past-32-bits", "body and list of 2^32 bytes, a sum that is 0 in 32 bits",
+     changed(DELIVERY, (120, u32(2**32 - 8)))),
+    ("length-before-record", "too long, and for no record: the length is judged first",
+     changed(DELIVERY, (116, b"\x04"), (124, b"\x09"))),
+    ("entry-inside-a-record", "an entry for what is no record's first byte", changed(DELIVERY, (116, b"\x04"))),
+    ("entry-behind-the-records", "for the end of the command bytes, after the records",
+     changed(DELIVERY, (116, b"\x44"))),
+    ("entry-of-an-opaque-record", "for an opaque record", changed(DELIVERY, (48, b"\x15"))),
+    ("entry-twice", "for the same record twice", changed(DELIVERY, (40, b"\x58")) + DELIVERY[116:]),
+    ("entries-that-fall", "for the second record and then for the first; the sizes are wrong too, which is judged"
+     " later",
+     HEADER + read(1, 100, 101, *2 * [oneway(24, 8)], entries=[entry(68, HANDLE, offsets(0)), entry(0, HANDLE, b"")])),
+    ("body-of-23-bytes", "a body shorter than the record says", changed(DELIVERY, (120, b"\x17"))),
+    ("list-of-no-bytes", "a list of offsets shorter than the record says", changed(DELIVERY, (124, b"\x00"))),
+    ("data-size-28", "another size in the record", changed(DELIVERY, (84, b"\x1c"))),
+    ("data-size-past-32-bits", "a size whose low four bytes are those of the entry", changed(DELIVERY, (88, b"\x01"))),
+    ("attachment-before-next-frame", "the second of three frames has a wrong size, the third an entry for no record",
+     changed(DELIVERIES, (264, b"\x17"), (404, b"\x04"))),
+    ("attachment-behind-a-frame", "an attachment that the lengths of its frame leave out is read as a frame, and is"
+     " not one", changed(DELIVERY, (40, b"\x00"))),
 
     # -- good attachments and their objects
-    # none, though the record has sizes
-    "attachment-absent.cap": changed(DELIVERY, (40, b"\x00"))[:116],
-    # of BR_REPLY
-    "attachment-of-a-reply.cap": changed(DELIVERY, (48, b"\x03")),
-    # of each kind of record that may have one
-    "attachments-of-all-kinds.cap": attachments_of_all_kinds(),
-    # of no bytes, in a frame whose first record has no attachment
-    "attachment-of-no-bytes.cap": HEADER + read(1, 100, 101, oneway(24, 8), oneway(0, 0), entries=[
-        entry(68, b"", b"")]),
-    # a body that begins with no sort
-    "unknown-sort.cap": changed(DELIVERY, (128, b"\x00")),
-    # a delivery holds a reference that the process takes too; then the buffer is freed too; then only freed
-    "held-and-taken.cap": HELD + TAKEN,
-    "held-taken-and-freed.cap": HELD + TAKEN + FREED,
-    "held-and-freed.cap": HELD + FREED,
-    # by deliveries of each kind
-    "held-references.cap": held_references(),
-    # a different number of each sort
-    "each-sort.cap": each_sort(),
-    # the second object begins within the first; the third is good and is not read
-    "overlapping-objects.cap": HEADER + attached(1, 100, (2 * HANDLE, offsets(0, 20, 24))),
-    # a misaligned object on a device, and a call with unknown flags on the greatest one, two sequences later
-    "rows-of-two-devices.cap": HEADER_2 + attached(1, 100, (HANDLE + bytes(4), offsets(2)), device=5)
-    + write(3, 7, 8, transaction(BC_TRANSACTION, target=1, flags=0x82), record(0x400C6313), device=MAX_32),
-    # each cause in an attachment of its own, in two processes. In the second attachment the bad object
-    # is both misaligned and within the object before it; after it comes a good object, which is not
-    # read. The last attachment is good
-    "every-cause.cap": HEADER + attached(
-        1, 200,
-        (HANDLE, bytes(7)),
-        (2 * HANDLE, offsets(0, 6, 24)),
-        (2 * HANDLE, offsets(24, 0)),
-        (HANDLE + b"\x85\x2a\x62", offsets(0, 24)),
-    ) + attached(
-        2, 100,
-        (HANDLE, offsets(2**64 - 4)),
-        (HANDLE + PTR[:36], offsets(0, 24)),
-        (FD + bytes(4), offsets(0, 24)),
-        (BINDER, offsets(0)),
-    ),
+    ("attachment-absent", "none, though the record has sizes", changed(DELIVERY, (40, b"\x00"))[:116]),
+    ("attachment-of-a-reply", "of BR_REPLY", changed(DELIVERY, (48, b"\x03"))),
+    ("attachments-of-all-kinds", "of each kind of record that may have one", attachments_of_all_kinds()),
+    ("attachment-of-no-bytes", "of no bytes, in a frame whose first record has no attachment",
+     HEADER + read(1, 100, 101, oneway(24, 8), oneway(0, 0), entries=[entry(68, b"", b"")])),
+    ("unknown-sort", "a body that begins with no sort", changed(DELIVERY, (128, b"\x00"))),
+    ("held-and-taken", "a delivery holds a reference that the process takes too", HELD + TAKEN),
+    ("held-taken-and-freed", "then the buffer is freed too", HELD + TAKEN + FREED),
+    ("held-and-freed", "the same, but only freed", HELD + FREED),
+    ("held-references", "by deliveries of each kind", held_references()),
+    ("each-sort", "a different number of each sort", each_sort()),
+    ("overlapping-objects", "the second object begins within the first; the third is good and is not read",
+     HEADER + attached(1, 100, (2 * HANDLE, offsets(0, 20, 24)))),
+    ("rows-of-two-devices", "a misaligned object on a device, and a call with unknown flags on the greatest one,"
+     " two sequences later",
+     HEADER_2 + attached(1, 100, (HANDLE + bytes(4), offsets(2)), device=5)
+     + write(3, 7, 8, transaction(BC_TRANSACTION, target=1, flags=0x82), record(0x400C6313), device=MAX_32)),
+    ("every-cause", "each cause in an attachment of its own, in two processes. In the second attachment the bad"
+     " object is both misaligned and within the object before it; after it comes a good object, which is not read. The"
+     " last attachment is good",
+     HEADER + attached(
+         1, 200,
+         (HANDLE, bytes(7)),
+         (2 * HANDLE, offsets(0, 6, 24)),
+         (2 * HANDLE, offsets(24, 0)),
+         (HANDLE + b"\x85\x2a\x62", offsets(0, 24)),
+     ) + attached(
+         2, 100,
+         (HANDLE, offsets(2**64 - 4)),
+         (HANDLE + PTR[:36], offsets(0, 24)),
+         (FD + bytes(4), offsets(0, 24)),
+         (BINDER, offsets(0)),
+     )),
 
     # -- flags of transactions
-    # each bit, in each kind of record that has flags, the greater process first
-    "flags-of-all-kinds.cap": flags_of_all_kinds(),
-    # the six known flags; and records without flags, one of them opaque
-    "known-flags.cap": HEADER + write(
-        1, 100, 101, transaction(BC_TRANSACTION, target=1, flags=0x7D),
-        record(BC_ACQUIRE, u32(2**32 - 1)), record(0x40406313, b"\xff" * 64)),
-}
+    ("flags-of-all-kinds", "each bit, in each kind of record that has flags, the greater process first",
+     flags_of_all_kinds()),
+    ("known-flags", "the six known flags; and records without flags, one of them opaque",
+     HEADER + write(
+         1, 100, 101, transaction(BC_TRANSACTION, target=1, flags=0x7D),
+         record(BC_ACQUIRE, u32(2**32 - 1)), record(0x40406313, b"\xff" * 64))),
+)
+
+CAPTURES = {f"{name}.cap": capture for name, _, capture in TABLE}

@@ -36,6 +36,11 @@ def frames_of(capture: bytes, at: int = FILE_HEADER) -> list[Frame]:
     return found
 
 
+def end_of(frames: list[Frame]) -> int:
+    """Where the last frame of a capture ends."""
+    return frames[-1].end if frames else FILE_HEADER
+
+
 def records_of(commands: bytes) -> Iterator[tuple[int, bytes]]:
     """The code word and the payload of each record."""
     at = 0

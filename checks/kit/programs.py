@@ -11,8 +11,7 @@ CHECKS = pathlib.Path(__file__).resolve().parents[1]
 ROOT = CHECKS.parent
 AUDITOR = ROOT / "crates/binder_audit/out/binder_audit"
 BY_RATTLE = AUDITOR.with_suffix(".by-rattle")
-# ./listing runs the one for lines, and the other one for tables.
-LISTING = ROOT / "crates/binder_listing/out/binder_listing"
+# It reads what ./listing lists.
 TABLES = ROOT / "crates/binder_tables/out/binder_tables"
 # The programs that a package has, by their names there.
 PACKAGED = {f"binder-{name}": ROOT / command for name, command in PROGRAMS.items()}
@@ -43,6 +42,13 @@ def preloadable(room: pathlib.Path, source: str) -> pathlib.Path:
 
 # ---- a folder in place of the repository
 
+# In place of crates/run: it runs what that runs.
+RUNS_AT_ONCE = """#!/bin/sh
+program=${0%/*}/$2/out/$2
+while [ $# -gt 0 ] && [ "$1" != -- ]; do shift; done
+[ $# -eq 0 ] || shift && [ $# -eq 0 ] || exec "$program" "$@"
+"""
+
 
 def linked(folder: pathlib.Path, targets: dict[str, pathlib.Path]) -> pathlib.Path:
     """A folder with links of these names, which is made if it is not there."""
@@ -62,18 +68,18 @@ def built_programs(room: pathlib.Path, auditor: pathlib.Path) -> pathlib.Path:
     build_programs(ROOT)
     made = folder_of(room / "built", auditor)
     (made / "crates/run").unlink()
-    (made / "crates/run").write_text("#!/bin/sh\n", "utf-8")
+    (made / "crates/run").write_text(RUNS_AT_ONCE, "utf-8")
     (made / "crates/run").chmod(0o755)
     return made
 
 
 def folder_of(folder: pathlib.Path, auditor: pathlib.Path) -> pathlib.Path:
     """A folder in place of the repository, with an auditor of its own."""
-    linked(folder, {"audit": auditor, **{name: ROOT / name for name in ("commands", "lab", "listing", "viewer")}})
+    linked(folder, {"audit": auditor, **{name: ROOT / name for name in ("commands", "lab", "viewer")}})
     linked(folder / "crates", {"run": ROOT / "crates/run"})
-    for name, built in (("binder_audit", auditor), ("binder_listing", LISTING), ("binder_tables", TABLES)):
+    for name, built in (("binder_audit", auditor), ("binder_tables", TABLES)):
         (folder / "crates" / name).mkdir()
         linked(folder / "crates" / name / "out", {name: built})
-    for name in ("view", "fleet"):  # copies, since they call what is in their own folder
+    for name in ("view", "fleet", "listing"):  # copies, since they call what is in their own folder
         shutil.copy(ROOT / name, folder)
     return folder

@@ -5,7 +5,7 @@ import pathlib
 import sqlite3
 import struct
 from contextlib import closing
-from typing import Iterable, Iterator
+from typing import Iterable, Iterator, Sequence
 
 from viewer.database import raw_tables
 
@@ -39,14 +39,23 @@ def rows_of(path: pathlib.Path) -> Iterator[dict[str, int | str]]:
         yield row
 
 
-def encoded(table: str, rows: Iterable[list[int | str | None]]) -> bytes:
-    """The file of a table with these rows, of which each has a value, or None, for each column."""
-    made = bytearray()
-    for row in rows:
-        made += struct.pack("<Q", sum(1 << number for number, value in enumerate(row) if value is not None))
-        for value in row:
-            if isinstance(value, str):
-                made += struct.pack("<Q", len(value)) + value.encode("ascii")
-            elif value is not None:
-                made += struct.pack("<Q", value % 2**64)
+# What a column has.
+Value = int | str | bytes | None
+
+
+def encoded_row(row: Sequence[Value], sort: int = 0) -> bytes:
+    """A row, which has a value, or None, for each column. `sort` is what its mask has besides."""
+    mask = sum(1 << number for number, value in enumerate(row) if value is not None)
+    made = bytearray(struct.pack("<Q", sort + mask))
+    for value in row:
+        if isinstance(value, (str, bytes)):
+            text = value.encode("ascii") if isinstance(value, str) else value
+            made += struct.pack("<Q", len(text)) + text
+        elif value is not None:
+            made += struct.pack("<Q", value % 2**64)
     return bytes(made)
+
+
+def encoded(rows: Iterable[Sequence[Value]]) -> bytes:
+    """The file of a table with these rows."""
+    return b"".join(map(encoded_row, rows))

@@ -20,62 +20,25 @@ from collections import Counter
 from itertools import accumulate
 from typing import Any, Callable, Iterable, Iterator, NamedTuple, TypeVar, ValuesView
 
-# ---- the tables: for each number the payload sizes, and the name for each size
+from checks.kit import captures
 
-COMMANDS = {
-    0: {64: "BC_TRANSACTION"},
-    1: {64: "BC_REPLY"},
-    2: {4: "BC_ACQUIRE_RESULT"},
-    3: {8: "BC_FREE_BUFFER"},
-    4: {4: "BC_INCREFS"},
-    5: {4: "BC_ACQUIRE"},
-    6: {4: "BC_RELEASE"},
-    7: {4: "BC_DECREFS"},
-    8: {16: "BC_INCREFS_DONE"},
-    9: {16: "BC_ACQUIRE_DONE"},
-    10: {8: "BC_ATTEMPT_ACQUIRE"},
-    11: {0: "BC_REGISTER_LOOPER"},
-    12: {0: "BC_ENTER_LOOPER"},
-    13: {0: "BC_EXIT_LOOPER"},
-    14: {12: "BC_REQUEST_DEATH_NOTIFICATION"},
-    15: {12: "BC_CLEAR_DEATH_NOTIFICATION"},
-    16: {8: "BC_DEAD_BINDER_DONE"},
-    17: {72: "BC_TRANSACTION_SG"},
-    18: {72: "BC_REPLY_SG"},
-}
+# ---- the tables
 
-RETURNS = {
-    0: {4: "BR_ERROR"},
-    1: {0: "BR_OK"},
-    2: {64: "BR_TRANSACTION", 72: "BR_TRANSACTION_SEC_CTX"},
-    3: {64: "BR_REPLY"},
-    4: {4: "BR_ACQUIRE_RESULT"},
-    5: {0: "BR_DEAD_REPLY"},
-    6: {0: "BR_TRANSACTION_COMPLETE"},
-    7: {16: "BR_INCREFS"},
-    8: {16: "BR_ACQUIRE"},
-    9: {16: "BR_RELEASE"},
-    10: {16: "BR_DECREFS"},
-    11: {24: "BR_ATTEMPT_ACQUIRE"},
-    12: {0: "BR_NOOP"},
-    13: {0: "BR_SPAWN_LOOPER"},
-    14: {0: "BR_FINISHED"},
-    15: {8: "BR_DEAD_BINDER"},
-    16: {8: "BR_CLEAR_DEATH_NOTIFICATION_DONE"},
-    17: {0: "BR_FAILED_REPLY"},
-    18: {0: "BR_FROZEN_REPLY"},
-    19: {0: "BR_ONEWAY_SPAM_SUSPECT"},
-    20: {0: "BR_TRANSACTION_PENDING_FROZEN"},
-}
+NAMES = {code: name for name, code in vars(captures).items() if name.startswith(("BC_", "BR_"))}
+
+
+def table_of(codes: Iterable[int]) -> dict[int, dict[int, str]]:
+    """For each number of these code words the payload sizes, and the name for each size."""
+    table: dict[int, dict[int, str]] = {}
+    for code in codes:
+        table.setdefault(code & 0xFF, {})[code >> 16 & 0x3FFF] = NAMES[code]
+    return table
+
+
+COMMANDS, RETURNS = table_of(captures.COMMANDS), table_of(captures.RETURNS)
 
 # What opaque records are that a newer header lists, by their code words. In the report they are `OPAQUE`.
-NEWER = {
-    0x400C6313: "BC_REQUEST_FREEZE_NOTIFICATION",
-    0x400C6314: "BC_CLEAR_FREEZE_NOTIFICATION",
-    0x40086315: "BC_FREEZE_NOTIFICATION_DONE",
-    0x80107215: "BR_FROZEN_BINDER",
-    0x80087216: "BR_CLEAR_FREEZE_NOTIFICATION_DONE",
-}
+NEWER = {code: NAMES[code] for code in captures.FREEZES}
 
 # For each direction: the letter of the codes, their direction bits if there is a payload, their table.
 WRITE, READ = 1, 2
@@ -253,8 +216,9 @@ def kind_of(code: int, direction: int, place: int) -> str:
     return sizes[size]
 
 
-def read_records(frame: Frame) -> list[Record]:
-    records, commands, offset = [], frame.commands, 0
+def records_of(frame: Frame) -> Iterator[Record]:
+    """The records of a frame, up to a fault."""
+    commands, offset = frame.commands, 0
     while offset < len(commands):
         place, first = frame.place + 32 + offset, offset + 4
         if first > len(commands):
@@ -264,18 +228,15 @@ def read_records(frame: Frame) -> list[Record]:
         end = first + (code >> 16 & 0x3FFF)
         if end > len(commands):
             raise Fault("RecordShort", place)
-        records.append(Record(offset, code, kind, commands[first:end]))
+        yield Record(offset, code, kind, commands[first:end])
         offset = end
-    return records
 
 
-def read_entries(frame: Frame, records: list[Record]) -> dict[int, Entry]:
-    """The attachment entries of a frame, by the offsets of their records."""
-    if not frame.attachments:
-        return {}
-    owners = {record.offset: record for record in records
-              if record.kind in TRANSACTIONS_AND_REPLIES}
-    entries, attached, at, latest = {}, frame.attachments, 0, -1
+def entries_of(frame: Frame, records: Iterable[Record]) -> Iterator[tuple[int, int, Entry]]:
+    """The attachment entries of a frame, up to a fault: the offset of the record, the place of the entry, and the
+    entry."""
+    owners = {record.offset: record for record in records if record.kind in TRANSACTIONS_AND_REPLIES}
+    attached, at, latest = frame.attachments, 0, -1
     while at < len(attached):
         place, body = frame.place + 32 + len(frame.commands) + at, at + 12
         if body > len(attached):
@@ -289,15 +250,14 @@ def read_entries(frame: Frame, records: list[Record]) -> dict[int, Entry]:
         owner = owners[offset].payload
         if (d, o) != (number(owner, 32, 8), number(owner, 40, 8)):
             raise Fault("AttachSize", place)
-        entries[offset] = Entry(attached[body:listed], attached[listed:end])
+        yield offset, place, Entry(attached[body:listed], attached[listed:end])
         at, latest = end, offset
-    return entries
 
 
 def events_of(frame: Frame) -> list[Event]:
     """The records of a frame, each with its attachment entry if it has one."""
-    records = read_records(frame)
-    entries = read_entries(frame, records)
+    records = list(records_of(frame))
+    entries = {offset: entry for offset, _, entry in entries_of(frame, records)} if frame.attachments else {}
     return [Event(frame.place + 32 + record.offset, frame.process, frame.thread,
                   record.code, record.kind, record.payload, entries.get(record.offset))
             for record in records]

@@ -1,4 +1,4 @@
-"""Checks the program of `./listing`.
+"""Checks the lines and the tables of `./listing`.
 
     checks/run listing [-- CASE..]     plays these cases alone, as `freezes`, `stored/death.txt`, or `stored`
     checks/run listing -- --print ..   writes the stored listings of these cases anew, and prints what changed
@@ -32,7 +32,8 @@ from checks.kit.captures import (BC_ACQUIRE, BC_CLEAR_FREEZE_NOTIFICATION, BC_FR
 from checks.kit.cases import Part, parts_of, play
 from checks.kit.checking import FLAG, Fail, check, compare
 from checks.kit.frames import frames_of
-from checks.kit.programs import CHECKS, DRIVER, LISTING, ROOT, SMALL, TABLES
+from checks.kit.listed import listed
+from checks.kit.programs import CHECKS, DRIVER, ROOT, SMALL, TABLES
 from checks.kit.rows import columns_of_tables, rows_of
 from checks.kit.second_reading import NEWER
 from checks.kit.side_lists import LONGEST, packed, unpacked
@@ -42,12 +43,26 @@ from checks.kit.traffic import write_traffic
 STORED = sorted((CHECKS / "listing/stored").iterdir())
 # The captures of the real driver.
 CAPTURES = sorted(DRIVER.glob("*/capture-1.cap"))
+# What has names of a method and of a service in its last line.
+NAMED = "samples/driver/hello-9/capture-1.cap --interface android.os.IServiceManager"
+# The sources of the rows that only lines are made of.
+FOR_LINES = "told", "whole", "last_row", "seek"
+
+
+def lines_of(came: tuple[int, bytes, bytes]) -> tuple[int, list[str]]:
+    """A status, and lines; those of standard error come last."""
+    status, out, err = came
+    return status, (out + err).decode("utf-8").splitlines()
 
 
 def answer(program: pathlib.Path, *words: object) -> tuple[int, list[str]]:
-    """The status of a run at the top of the repository, and its lines; those of standard error come last."""
-    status, out, err = runs.answer([program, *map(str, words)], timeout=120, cwd=ROOT, encoding="utf-8")
-    return status, out.splitlines() + err.splitlines()
+    """The status of a run at the top of the repository, and its lines."""
+    return lines_of(runs.answer([program, *map(str, words)], timeout=120, cwd=ROOT))
+
+
+def listing(*words: object) -> tuple[int, list[str]]:
+    """The same of `./listing`."""
+    return lines_of(listed(*words))
 
 
 def check_alone(table: str, capture: pathlib.Path, folder: pathlib.Path, fail: Fail) -> None:
@@ -62,7 +77,7 @@ def check_alone(table: str, capture: pathlib.Path, folder: pathlib.Path, fail: F
 def check_stored(program: pathlib.Path, room: pathlib.Path, stored: pathlib.Path, fail: Fail) -> None:
     """A stored listing. Its first line has the command, its last line the status."""
     words, *lines, status = stored.read_text("utf-8").splitlines()
-    code, came = answer(LISTING, *words.split()[1:])
+    code, came = listing(*words.split()[1:])
     for number, (one, other) in enumerate(zip(came, lines), 2):
         compare(f"stored/{stored.name}, line {number}", one, other, fail)
     compare(f"stored/{stored.name}", (code, len(came)), (int(status.split()[1]), len(lines)), fail)
@@ -71,7 +86,7 @@ def check_stored(program: pathlib.Path, room: pathlib.Path, stored: pathlib.Path
 def renew_stored(stored: pathlib.Path) -> None:
     """Writes what the command of a stored listing prints now."""
     words, *_ = stored.read_text("utf-8").splitlines()
-    code, came = answer(LISTING, *words.split()[1:])
+    code, came = listing(*words.split()[1:])
     renew(stored, "".join(f"{line}\n" for line in (words, *came, f"status {code}")))
 
 
@@ -93,7 +108,7 @@ def counts_reported(lines: list[str]) -> Counter:
 
 
 def check_capture(program: pathlib.Path, capture: pathlib.Path, fail: Fail) -> None:
-    status, lines = answer(LISTING, capture)
+    status, lines = listing(capture)
     due_status, report = answer(program, "report", capture)
     compare(f"{capture}, status", status, due_status, fail)
     if due_status == 2:
@@ -120,7 +135,7 @@ def check_narrowed(program: pathlib.Path, room: pathlib.Path, fail: Fail) -> Non
     write_traffic(capture, 2**20, 3)
     without = room / "without-attachments.cap"
     without.write_bytes(without_attachments(capture.read_bytes()))
-    _, whole = answer(LISTING, without)
+    _, whole = listing(without)
     cookie = next(word for line in whole for word in line.split() if word.startswith("cookie=0x9"))
     sizes = sorted({int(word[10:]) for line in whole for word in line.split() if word.startswith("data_size=")})
     middle = sizes[len(sizes) // 2]
@@ -149,12 +164,12 @@ def check_narrowed(program: pathlib.Path, room: pathlib.Path, fail: Fail) -> Non
                 word.startswith("data_size=") and int(word[10:]) > middle for word in it)),
     ):
         due = [line for line in whole if fits(line.split())]
-        compare(f"usual traffic, {words}", answer(LISTING, without, *words.split()), (0, due), fail)
+        compare(f"usual traffic, {words}", listing(without, *words.split()), (0, due), fail)
         if not due and words not in ("--device 3", "--direction read --code BC_REPLY"):
             fail(f"usual traffic, {words}: expected some lines, came none")
     in_object = attached(1, 100, *((of_handle(2, handle), offsets(0)) for handle in (9, 5)))
     (room / "objects.cap").write_bytes(HEADER + in_object)
-    status, lines = answer(LISTING, room / "objects.cap", "--handle", 5)
+    status, lines = listing(room / "objects.cap", "--handle", 5)
     compare("a handle in an object", (status, [line.split()[0] for line in lines]), (0, ["116"]), fail)
 
 
@@ -205,7 +220,7 @@ def freezes() -> bytes:
 def check_freezes(program: pathlib.Path, room: pathlib.Path, fail: Fail) -> None:
     capture, folder = room / "freezes.cap", room / "tables of freezes"
     capture.write_bytes(freezes())
-    status, lines = answer(LISTING, capture)
+    status, lines = listing(capture)
     compare("freezes", (status, [line.split(" ", 5)[5] for line in lines]), (0, FREEZE_LINES), fail)
     for words, fits in (
             *((f"--code {name}", lambda it, name=name: it[5] == name) for name in (*NEWER.values(), "OPAQUE")),
@@ -214,14 +229,14 @@ def check_freezes(program: pathlib.Path, room: pathlib.Path, fail: Fail) -> None
             ("--handle 7", has_word("handle=7")), (f"--handle {MAX_32}", has_word(f"handle={MAX_32}")),
             ("--cookie 0x70", has_word("cookie=0x70"))):
         due = [line for line in lines if fits(line.split())]
-        compare(f"freezes, {words}", answer(LISTING, capture, *words.split()), (0, due), fail)
+        compare(f"freezes, {words}", listing(capture, *words.split()), (0, due), fail)
         if not due:
             fail(f"freezes, {words}: expected some lines, came none")
     place = next(line.split()[0] for line in lines if "is_frozen=4294967295" in line)
-    whole = answer(LISTING, capture, "--at", place)[1]
+    whole = listing(capture, "--at", place)[1]
     compare("freezes, --at", [line.split()[1:] for line in whole[3:6]],
             [["cookie", "0xffffffffffffffff"], ["is_frozen", "4294967295"], ["reserved", "9"]], fail)
-    columns = [line.split("\t") for line in answer(LISTING, capture, "--form", "tab")[1]]
+    columns = [line.split("\t") for line in listing(capture, "--form", "tab")[1]]
     compare("freezes, --form tab", [[line[0], line[6], *(it for it in line[8:] if it)] for line in columns],
             [[it[0], it[5], *(field.split("=")[1] for field in it[6:] if not field.startswith("word="))]
              for it in map(str.split, lines)], fail)
@@ -243,20 +258,20 @@ def check_freezes(program: pathlib.Path, room: pathlib.Path, fail: Fail) -> None
 def check_places(program: pathlib.Path, room: pathlib.Path, fail: Fail) -> None:
     """A frame; the calls that have rows in the report; and columns that say the same as the lines."""
     capture = "samples/driver/leaks/capture-1.cap"
-    _, whole = answer(LISTING, capture)
+    _, whole = listing(capture)
     lines = [line.split() for line in whole]
     for line in lines[:40]:
         due = [" ".join(other) for other in lines if other[1] == line[1]]
-        compare(f"--frame {line[0]}", answer(LISTING, capture, "--frame", line[0]), (0, due), fail)
-    compare("--frame of no frame", answer(LISTING, capture, "--frame", 3),
+        compare(f"--frame {line[0]}", listing(capture, "--frame", line[0]), (0, due), fail)
+    compare("--frame of no frame", listing(capture, "--frame", 3),
             (1, ["listing: no frame has the byte at 3"]), fail)
     check_calls(capture, lines, fail)
-    _, columns = answer(LISTING, capture, "--form", "tab")
+    _, columns = listing(capture, "--form", "tab")
     compare("--form tab", [line.split("\t")[:5] + [line.split("\t")[6]] for line in columns],
             [line[:6] for line in lines], fail)
     compare("--form tab, fields", [[word for word in line.split("\t")[8:] if word] for line in columns],
             [[word.split("=")[1] for word in line[6:] if not word.startswith("word=")] for line in lines], fail)
-    _, objects = answer(LISTING, "samples/attachment.cap", "--objects")
+    _, objects = listing("samples/attachment.cap", "--objects")
     compare("--objects", [line.split()[:6] for line in objects[1:]],
             [["128", "object", "0", "at", "0", "HANDLE"]], fail)
 
@@ -279,14 +294,14 @@ def check_side(program: pathlib.Path, room: pathlib.Path, capture: pathlib.Path,
             case [_, "thread", device, process, thread, pid, tid, *_]:
                 people.setdefault((device, process, thread), f"{pid} {tid} thread={line.split('name=')[1]}")
     due = []
-    for line in answer(LISTING, capture)[1]:
+    for line in listing(capture)[1]:
         _, number, *thread = line.split()[:5]
         due.append(f"{line} time={told[number]} {people[tuple(thread)]} process={names[tuple(thread[:2])]}")
-    compare(f"--side of {capture}", answer(LISTING, capture, "--side", side), (0, due), fail)
+    compare(f"--side of {capture}", listing(capture, "--side", side), (0, due), fail)
     for longest in (LONGEST, 40):
         today = room / f"{capture.parent.name}.side"
         today.write_text(packed(text, longest), "utf-8", errors="surrogateescape", newline="\n")
-        compare(f"{today.name}, in lines of {longest}", answer(LISTING, capture, "--side", today), (0, due), fail)
+        compare(f"{today.name}, in lines of {longest}", listing(capture, "--side", today), (0, due), fail)
 
 
 def check_frames_of_a_line(program: pathlib.Path, room: pathlib.Path, fail: Fail) -> None:
@@ -302,7 +317,7 @@ def check_frames_of_a_line(program: pathlib.Path, room: pathlib.Path, fail: Fail
                         ("5 frames x 2", []), ("5 frames", []),
                         ("5 frames 1 2 x\n9 frame 3\n11 frames 4 1", ["5", "7", "9", "11"])):
         side.write_text(f"binder side list 3\n{frames}\n", "utf-8")
-        status, lines = answer(LISTING, capture, "--side", side)
+        status, lines = listing(capture, "--side", side)
         times = [line.partition(" time=")[2].split(" ")[0] for line in lines]
         compare(f"times of {frames!r}", (status, times), (0, due + [""] * (4 - len(due))), fail)
 
@@ -315,7 +330,7 @@ def check_side_begins(program: pathlib.Path, room: pathlib.Path, fail: Fail) -> 
                        ("binder side list 3\n", (0, 2)), ("binder side list 4\n", None), ("binder side list 3", None),
                        ("binder side list 22\n", None), ("", None), ("5 frame 1\n", None)):
         side.write_text(begin + "7 frame 1\n" * begin.endswith("\n"), "utf-8")
-        status, lines = answer(LISTING, capture, "--side", side)
+        status, lines = listing(capture, "--side", side)
         if due is None:
             compare(f"side list that begins {begin!r}", (status, lines), refused, fail)
         else:
@@ -332,8 +347,8 @@ def check_calls(capture: str, lines: list[list[str]], fail: Fail) -> None:
         thread = next(line[2:5] for line in lines if line[0] == place)
         end = int(closer) if closer != "-" else int(lines[-1][0])
         due = [" ".join(line) for line in lines if line[2:5] == thread and int(place) <= int(line[0]) <= end]
-        compare(f"--call {place}", answer(LISTING, capture, "--call", place), (0, due), fail)
-    compare("--call of no opener", answer(LISTING, capture, "--call", 48),
+        compare(f"--call {place}", listing(capture, "--call", place), (0, due), fail)
+    compare("--call of no opener", listing(capture, "--call", 48),
             (1, ["listing: no call has its opener at 48"]), fail)
 
 
@@ -371,8 +386,8 @@ def check_names(room: pathlib.Path, what: str, payloads: list[tuple[int, int, by
     capture, folder = room / "interfaces.cap", room / f"tables of {what}"
     folder.mkdir()
     capture.write_bytes(carrying(payloads))
-    status, lines = answer(LISTING, capture)
-    _, columns = answer(LISTING, capture, "--form", "tab")
+    status, lines = listing(capture)
+    _, columns = listing(capture, "--form", "tab")
     compare(f"{what}, status", (status, answer(TABLES, "--tables", folder, capture)), (0, (0, [])), fail)
     found = [interface_in(line) for line in lines]
     for kind, came, wanted in (("lines", found, due), ("tables", names_in(folder), in_tables),
@@ -382,7 +397,7 @@ def check_names(room: pathlib.Path, what: str, payloads: list[tuple[int, int, by
         for (word, code, data), one, other in zip(payloads, came, wanted):
             compare(f"{what}, {kind}, {word:#x} code {code:#x} {data[:400].hex()}", one, other, fail)
     for name in sorted({name for name in due if name})[:4]:
-        compare(f"{what}, --interface {name}", answer(LISTING, capture, "--interface", name),
+        compare(f"{what}, --interface {name}", listing(capture, "--interface", name),
                 (0, [line for line, of in zip(lines, found) if of == name]), fail)
 
 
@@ -429,8 +444,10 @@ def check_services(program: pathlib.Path, room: pathlib.Path, fail: Fail) -> Non
 
 
 def check_columns(program: pathlib.Path, room: pathlib.Path, fail: Fail) -> None:
-    """The rows that listing_tables makes have the columns of the raw tables in schema.sql, by name and in order."""
-    made = "".join(path.read_text("utf-8") for path in (ROOT / "crates/listing_tables/src").glob("*.rt"))
+    """The rows that listing_tables makes have the columns of the raw tables in schema.sql, by name and in order; those
+    that it makes for lines alone are in no table."""
+    sources = (ROOT / "crates/listing_tables/src").glob("*.rt")
+    made = "".join(path.read_text("utf-8") for path in sources if path.stem not in FOR_LINES)
     named = re.findall(r"columns! \{(.*?)\}", made, re.DOTALL)
     compare("columns", {tuple(re.findall(r"(\w+): ", row)) for row in named},
             set(map(tuple, columns_of_tables().values())), fail)
@@ -445,7 +462,7 @@ def check_tables(program: pathlib.Path, room: pathlib.Path, capture: pathlib.Pat
     compare(f"{capture}, capture", [tables["capture"][0].get(name) for name in ("frames", "records", "missing")],
             [int(totals[k]) for k in (1, 3, 7)], fail)
     compare(f"{capture}, records", [row["place"] for row in tables["record"]],
-            [int(line.split()[0]) for line in answer(LISTING, capture)[1]], fail)
+            [int(line.split()[0]) for line in listing(capture)[1]], fail)
     heads = {line.split()[0]: line.split() for line in report if not line.startswith(" ")}
     calls = Counter((row["served"], row["verdict"]) for row in tables["call"])
     compare(f"{capture}, calls", [calls[0, 1], calls[0, 3], calls[0, 0] + calls[0, 4]],
@@ -474,16 +491,16 @@ def check_forms(program: pathlib.Path, room: pathlib.Path, fail: Fail) -> None:
                        ("devices", HEADER_2 + write(2, 1, 1, *each(BC_ACQUIRE, 2), ENTER, device=7) + third),
                        ("next", b"BNDRCAP3" + HEADER[8:])):
         (room / name).write_bytes(data)
-    whole = answer(LISTING, room / "whole")
+    whole = listing(room / "whole")
     compare("three frames", (whole[0], len(whole[1])), (0, 6), fail)
-    compare("two files", answer(LISTING, room / "front", room / "back"), whole, fail)
-    compare("two files in a wrong order", answer(LISTING, room / "back", room / "front")[1][-1:],
+    compare("two files", listing(room / "front", room / "back"), whole, fail)
+    compare("two files in a wrong order", listing(room / "back", room / "front")[1][-1:],
             ["malformed FrameSequence at 16 in part 2"], fail)
-    compare("a record of the second file", answer(LISTING, room / "front", room / "back", "--at", 100)[1][:1],
+    compare("a record of the second file", listing(room / "front", room / "back", "--at", 100)[1][:1],
             ["100 2 0 1 1 BC_ENTER_LOOPER"], fail)
-    compare("devices", answer(LISTING, room / "devices", "--device", 7),
+    compare("devices", listing(room / "devices", "--device", 7),
             (0, ["48 2 7 1 1 BC_ACQUIRE handle=2", "56 2 7 1 1 BC_ENTER_LOOPER"]), fail)
-    compare("another version", answer(LISTING, room / "next"), (2, ["malformed HeaderMagic at 0"]), fail)
+    compare("another version", listing(room / "next"), (2, ["malformed HeaderMagic at 0"]), fail)
 
 
 def check_parts(program: pathlib.Path, room: pathlib.Path, fail: Fail) -> None:
@@ -495,7 +512,7 @@ def check_parts(program: pathlib.Path, room: pathlib.Path, fail: Fail) -> None:
 
 def check_in_parts(room: pathlib.Path, capture: pathlib.Path, fail: Fail) -> None:
     data, parts = capture.read_bytes(), []
-    whole = answer(LISTING, capture)
+    whole = listing(capture)
     if whole[0] or len(data) > 4096:
         return
     room.mkdir()
@@ -506,8 +523,8 @@ def check_in_parts(room: pathlib.Path, capture: pathlib.Path, fail: Fail) -> Non
         return
     last = whole[1][-1].split()[0] if whole[1] else "16"
     for words in ((), ("--at", last)):
-        compare(f"{capture} in {len(parts)} parts {' '.join(words)}", answer(LISTING, *parts, *words),
-                answer(LISTING, capture, *words), fail)
+        compare(f"{capture} in {len(parts)} parts {' '.join(words)}", listing(*parts, *words),
+                listing(capture, *words), fail)
 
 
 # ---- malformed captures
@@ -577,28 +594,36 @@ def check_cut(program: pathlib.Path, room: pathlib.Path, at: int, parts: list[by
 
 
 def check_words(program: pathlib.Path, room: pathlib.Path, fail: Fail) -> None:
-    capture = "samples/reply.cap"
-    _, (usage,) = answer(LISTING)
-    compare("usage", usage.split()[:3], ["usage:", "listing", "FILE..."], fail)
-    with subprocess.Popen([LISTING, "--form", "tab", capture], cwd=ROOT, stdout=subprocess.PIPE,
-                          stderr=subprocess.PIPE) as ended:
-        ended.stdout.close()
-        compare("a closed pipe", (ended.stderr.read(), ended.wait(60)), (b"", 0), fail)
+    capture, script = "samples/reply.cap", ROOT / "listing"
     for words in ("", "--at 48", f"{capture} --at", f"{capture} --at x", f"{capture} --at -1", f"{capture} --at 1_0",
                   f"{capture} --at 18446744073709551616", f"{capture} --code BC_NONE", f"{capture} --proc 1",
-                  f"{capture} --files 1", "--help", f"{capture} --at 48 --frame 48", f"{capture} --form row",
-                  f"{capture} --form tab --objects", f"{capture} --direction up", f"{capture} --flag TF_NONE",
-                  f"{capture} --table none"):
-        compare(f"words '{words}'", answer(LISTING, *words.split()), (64, [usage]), fail)
-    for one, words in (LISTING, f"{capture} --table call"), (TABLES, capture), (TABLES, f"{capture} --table none"):
-        compare(f"{one.name} '{words}'", answer(one, *words.split()), (64, [usage]), fail)
-    compare("--at=156", answer(LISTING, "--at=0x9c", capture)[1][:1], answer(LISTING, capture)[1][3:], fail)
-    compare("the script", answer(ROOT / "listing", capture), answer(LISTING, capture), fail)
-    compare("a place without a record", answer(LISTING, capture, "--at", 20)[0], 1, fail)
-    compare("a file that is not there", answer(LISTING, "no-such.cap"), (4, ["fault Open"]), fail)
+                  f"{capture} --files 1", f"{capture} --help", f"{capture} --at 48 --frame 48", f"{capture} --form row",
+                  f"{capture} --form tab --objects", f"{capture} --objects --objects", f"{capture} --names --names",
+                  f"{capture} --direction up",
+                  f"{capture} --flag TF_NONE", f"{capture} --table none"):
+        status, (usage, why) = answer(script, *words.split())
+        compare(f"words '{words}'", (status, usage.split()[:3], why.split()[0]),
+                (64, ["usage:", "./listing", "FILE.."], "listing:"), fail)
+    for words in "", capture, f"{capture} --table none", f"--lines --at x {capture}", f"--objects {capture}":
+        status, (usage,) = answer(TABLES, *words.split())
+        compare(f"{TABLES.name} '{words}'", (status, usage.split()[0]), (64, "usage:"), fail)
+    compare("--at=156", listing("--at=0x9c", capture)[1][:1], listing(capture)[1][3:], fail)
+    for words in capture, f"{capture} --form tab", "no-such.cap", f"{NAMED} --names", "no-such.cap --names":
+        status, told = answer(script, *words.split())
+        due_status, due = listing(*words.split())
+        compare(f"the script, {words}", (status, told[-1:]), (due_status, due[-1:]), fail)
+    compare("a place without a record", listing(capture, "--at", 20)[0], 1, fail)
+    compare("a file that is not there", listing("no-such.cap"), (4, ["fault Open"]), fail)
+    with subprocess.Popen([script, "--form", "tab", capture], cwd=ROOT, stdout=subprocess.PIPE,
+                          stderr=subprocess.PIPE) as ended:
+        assert ended.stdout and ended.stderr
+        ended.stdout.close()
+        compare("a closed pipe", (ended.stderr.read(), ended.wait(60)), (b"", 0), fail)
     with open("/dev/full", "w", encoding="utf-8") as full:
-        ended = runs.answer([LISTING, capture], cwd=ROOT, stdout=full)
-    compare("a full device", ended, (4, None, b"fault Write\n"), fail)
+        ended_early = runs.answer([script, capture], cwd=ROOT, stdout=full)
+    compare("a full device", ended_early, (4, None, b"fault Write\n"), fail)
+    piped = runs.answer(["sh", "-c", f"cat {capture} | ./listing /dev/stdin"], cwd=ROOT)
+    compare("a pipe", lines_of(piped), listing(capture), fail)
 
 
 PARTS = [

@@ -197,7 +197,7 @@ def compared(room: pathlib.Path, name: str, most: int) -> list[str]:
         wrong.append(f"{name}: has the tables {sorted(came)}")
     for table in sorted(came & set(tables)):
         path = folder / f"{table}.rows"
-        if path.read_bytes() != encoded(table, tables[table]):
+        if path.read_bytes() != encoded(tables[table]):
             wrong += [f"{name}, {table}: {what}" for what in itertools.islice(differing(path, tables[table]), most)]
     shutil.rmtree(room / name)
     return wrong

@@ -6,7 +6,7 @@ import re
 from typing import Iterator
 
 from checks.kit.programs import ROOT
-from checks.kit.second_reading import DIRECTIONS, NEWER, SORTS, TRANSACTIONS_AND_REPLIES, WRITE, Fault, kind_of
+from checks.kit.second_reading import NAMES, NEWER, SORTS, TRANSACTIONS_AND_REPLIES, WRITE, Fault, kind_of
 
 PAGE = ROOT / "docs/COMMANDS.md"
 NUMBERS = ROOT / "viewer/database/numbers.sql"
@@ -25,17 +25,9 @@ JUDGED = re.compile(r" {4}(0x[0-9a-f]{8})  a write frame  (\w+).*")
 RECORDED = re.compile(r"\t\{ (0x[0-9a-f]{8}), ([01]) \}, /\* (\w+) \*/")
 
 
-def listed() -> Iterator[tuple[int, str]]:
-    """The code words that a report names, and their names."""
-    for letter, bits, table in DIRECTIONS.values():
-        for number, names in table.items():
-            for size, name in names.items():
-                yield (bits if size else 0) << 30 | size << 16 | letter << 8 | number, name
-
-
 def records() -> Iterator[tuple[str, ...]]:
     """The rows that are due for records: those that a report names, and those of a newer header."""
-    for word, name in (*listed(), *NEWER.items()):
+    for word, name in NAMES.items():
         yield str(word & 0xff), name, str(word >> 16 & 0x3fff), f"0x{word:08x}"
 
 
@@ -52,8 +44,9 @@ def sorts() -> Iterator[tuple[str, str, str]]:
 
 def recorded() -> Iterator[tuple[str, ...]]:
     """The rows that are due in the recorder."""
-    for word, name in listed():
-        yield f"0x{word:08x}", str(int(name in TRANSACTIONS_AND_REPLIES)), name
+    for word, name in NAMES.items():
+        if word not in NEWER:
+            yield f"0x{word:08x}", str(int(name in TRANSACTIONS_AND_REPLIES)), name
 
 
 def kinds() -> Iterator[tuple[str, ...]]:
@@ -61,7 +54,7 @@ def kinds() -> Iterator[tuple[str, ...]]:
     name of a number follows both; the last number of each is that of opaque records."""
     yield from (("255", "OPAQUE"), ("511", "OPAQUE"))
     named: set[int] = set()
-    for word, name in (*listed(), *NEWER.items()):
+    for word, name in NAMES.items():
         number = word & 0xff | (0 if chr(word >> 8 & 0xff) == "c" else 256)
         yield str(number + 256 if number in named else number), name
         named.add(number)

@@ -16,8 +16,8 @@ WIDTH = 120
 
 # The files of each chapter, without their endings.
 CHAPTERS = {
-    "What is written": "Walk Columns Tables BeforeFault",
-    "Calls": "Steps Calls",
+    "What is written": "Walk Columns Stream Tables BeforeFault",
+    "Calls": "Steps Calls Followed",
     "The rows": "Messages Spans Buffers",
     "Generations of handles": "Generations Naming",
     "What is seen": "Gaps Keys Settling",

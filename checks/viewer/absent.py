@@ -53,8 +53,7 @@ class Case(NamedTuple):
 
 def quiet(_: Session, service: Process, client: Process) -> None:
     """Calls of another method, and one with the code of the method for another interface."""
-    for _ in range(3):
-        client.main.asks(service.main, 1, body=HELLO)
+    client.main.asks(service.main, 1, body=HELLO, times=3)
     client.main.asks(service.main, 7, body=OTHER)
 
 

@@ -28,7 +28,8 @@ def database_of(root: pathlib.Path, files: list[str], sides: list[str], room: pa
         build_programs(root)
         raw_tables.loader()
         made.with_suffix(".rows").mkdir()
-        loading.tables_of(root, linked(files, made.with_suffix(".rows")), None, made, False, True)
+        loading.tables_of(root, linked(files, made.with_suffix(".rows")), None, made, False,
+                          raw_tables.SCHEMA_FILE)
     database = open_database(made)
     if sides:
         taken = SideList(database)

@@ -10,7 +10,8 @@ from typing import TYPE_CHECKING, Callable
 from viewer.database import data_hash, packages
 from viewer.database.finders import Finders, finders_of
 from viewer.database.programs import Asked, answer, build_programs, fault_in
-from viewer.database.raw_tables import Loading, can_pack, load_as_it_comes, load_rows
+from viewer.database.raw_tables import (
+    MADE_FILE, RULED_FILE, SCHEMA_FILE, Loading, can_pack, load_as_it_comes, load_rows)
 from viewer.database.report import load_findings, load_report
 from viewer.database.side_list import SideList
 from viewer.database.sqlite import open_database
@@ -27,7 +28,8 @@ from viewer.zeros import Ended, without_zeros
 if TYPE_CHECKING:
     from viewer.arguments.sources import Declarations
 
-# The least bytes of a capture of which tables are packed: of fewer, the files of these take longer than they save.
+# The least bytes of a capture of which tables are packed: of fewer, the files of these take longer than they save. A
+# database of fewer has the tables of the rules from the first, unless it is kept.
 LEAST_PACKED = 2**20
 
 # The programs read a capture side by side if there is so much memory: so many times the capture, and so much besides.
@@ -124,14 +126,14 @@ def load_while_read(loading: Loading, listing: Asked) -> int:
 
 
 def tables_of(root: pathlib.Path, parts: list[pathlib.Path], side: str | None, made: pathlib.Path,
-              packs: bool, is_kept: bool = False) -> tuple[str | None, pathlib.Path | None]:
+              packs: bool, empty: str = MADE_FILE) -> tuple[str | None, pathlib.Path | None]:
     """Makes the database, with the raw tables. Returns the line of the capture's first fault, or None, and the file of
     the lines of the side list that are left to load, if it is not the list itself."""
     rows, told = made.with_suffix(".rows"), made.with_suffix(".told")
     words = "--tables", rows, *parts
     if not packs:
         status = answer(root, told, "listing", *words)
-        load_rows(made, rows, side, is_kept)
+        load_rows(made, rows, side, empty)
         return fault_in(status, told), None
     others = made.with_suffix(".others") if side is not None else None
     with load_as_it_comes(made, rows, side, others) as loading, Asked(root, told, "listing", *words) as listing:
@@ -168,8 +170,9 @@ def database_of(root: pathlib.Path, files: list[str], side: str | None, made: pa
         with Asked(root, report, "audit", "report", *parts) as audit:
             if not memory_for(files):
                 audit.status()
-            packs = not kept and bytes_of(files) >= LEAST_PACKED and can_pack()
-            listed, others = tables_of(root, parts, side, made, packs, kept)
+            empty = SCHEMA_FILE if kept else RULED_FILE if bytes_of(files) < LEAST_PACKED else MADE_FILE
+            packs = empty == MADE_FILE and can_pack()
+            listed, others = tables_of(root, parts, side, made, packs, empty)
             malformed = fault_in(audit.status(), report)
         if listed != malformed:
             raise Stopped(1, f"{called('listing')} and {called('audit')} do not agree: {listed!r} and {malformed!r}")
@@ -180,7 +183,7 @@ def database_of(root: pathlib.Path, files: list[str], side: str | None, made: pa
     remove(rows)
     database = open_database(made)
     tell("taking the side list and the report")
-    finders = finders_of(database)
+    finders = finders_of(database) if empty != RULED_FILE else None
     with finders or contextlib.nullcontext():
         if finders:
             begin(database, finders)
@@ -189,7 +192,8 @@ def database_of(root: pathlib.Path, files: list[str], side: str | None, made: pa
         report.unlink()
         tell("applying the rules")
         with data_hash.Data(files) as data:
-            judge(database, timing=timing, finders=finders, of_data=OfData(data.hash_of, data.exception_of))
+            judge(database, timing=timing, finders=finders, of_data=OfData(data.hash_of, data.exception_of),
+                  is_ruled=empty == RULED_FILE)
         if finders and side is not None:
             doubt_side_list(database, taken, finders)
     compare_with_books(database)

@@ -7,6 +7,7 @@ import pathlib
 import re
 import sqlite3
 from contextlib import closing
+from typing import Iterable
 
 from viewer.database.sqlite import UNLISTED, named_numbers
 from viewer.files import Stopped
@@ -52,8 +53,8 @@ def schema() -> str:
     return "".join(map(schema_of, SCHEMA))
 
 
-# The file that has them for the loader, and a database that they made.
-SCHEMA_FILE, MADE_FILE = "schema", "schema.db"
+# The file that has them for the loader, a database that they made, and one that also has the tables of the rules.
+SCHEMA_FILE, MADE_FILE, RULED_FILE = "schema", "schema.db", "ruled.db"
 
 
 def write_schema(path: pathlib.Path) -> None:
@@ -64,6 +65,14 @@ def write_made(path: pathlib.Path) -> None:
     path.unlink(missing_ok=True)
     with closing(sqlite3.connect(path, isolation_level=None)) as database:
         database.executescript(f"PRAGMA page_size={PAGE}; PRAGMA journal_mode=OFF; BEGIN; {schema()} COMMIT;")
+
+
+def write_ruled(path: pathlib.Path) -> None:
+    from viewer.rules import ruled
+    ruled.write(path)
+
+
+EMPTY = {SCHEMA_FILE: write_schema, MADE_FILE: write_made, RULED_FILE: write_ruled}
 
 
 # ---- the loader
@@ -85,19 +94,29 @@ HARDENED = ("-D_FORTIFY_SOURCE=2", "-Wl,-z,relro,-z,now")
 HOW = {"load": ("-pthread",), "packed.so": ("-shared", "-fPIC")}
 
 
-def build_loader(folder: pathlib.Path) -> None:
-    """Builds the loader, and the library for packed tables. Their bytes do not depend on the folder of the sources."""
+def need_compiler() -> None:
+    """Says what is missing to build programs in C."""
     import subprocess
     asked: list[Word] = [FOLDER.parents[1] / "packager/needs", "--as", "view", "loader"]
     needs = subprocess.run(asked, capture_output=True)
     if needs.returncode:
         raise Stopped(1, said_by(asked[0], needs.returncode, needs.stderr).removeprefix("view: "))
+
+
+def compile_c(made: pathlib.Path, folder: pathlib.Path, sources: Iterable[str], *how: str) -> None:
+    """Builds a program of its sources. Its bytes do not depend on the folder of these."""
+    import subprocess
+    words = ["cc", "-O2", "-std=gnu11", "-Wall", "-Wextra", *HARDENED, "-o", str(made), *sources, *how]
+    built = subprocess.run(words, cwd=folder, capture_output=True)
+    if built.returncode:
+        raise Stopped(1, f"{made.name} could not be built: {said_by(words[0], built.returncode, built.stderr)}")
+
+
+def build_loader(folder: pathlib.Path) -> None:
+    """Builds the loader, and the library for packed tables."""
+    need_compiler()
     for name, sources in BUILT.items():
-        words = ["cc", "-O2", "-std=gnu11", "-Wall", "-Wextra", *HARDENED, *HOW[name], "-o", str(folder / name),
-                 *sources, "-lsqlite3"]
-        built = subprocess.run(words, cwd=FOLDER, capture_output=True)
-        if built.returncode:
-            raise Stopped(1, f"the loader could not be built: {said_by(words[0], built.returncode, built.stderr)}")
+        compile_c(folder / name, FOLDER, sources, *HOW[name], "-lsqlite3")
 
 
 def is_built(folder: pathlib.Path) -> bool:
@@ -172,12 +191,12 @@ class Loading:
 
     @staticmethod
     def words(database: pathlib.Path, rows: pathlib.Path, side: str | None, others: pathlib.Path | None,
-              packs: bool, is_kept: bool = False) -> list[Word]:
+              packs: bool, empty: str = MADE_FILE) -> list[Word]:
         """What the loader is called with: for the `.rows` files of a folder, and a side list. If tables are packed,
-        `others` gets the lines of the list that are not loaded."""
-        schema_file = kept(SCHEMA_FILE, (FOLDER,), write_schema) if is_kept else kept(MADE_FILE, (FOLDER,), write_made)
+        `others` gets the lines of the list that are not loaded. The database begins as the file `empty` says."""
+        begin = kept(empty, (FOLDER, FOLDER.with_name("rules")), EMPTY[empty])
         packed = [word for table in PACKED_TABLES for word in packed_words(table)] if packs else []
-        return [loader(), *packed, database, rows, schema_file, *(it for it in (side, others) if it is not None)]
+        return [loader(), *packed, database, rows, begin, *(it for it in (side, others) if it is not None)]
 
     def __init__(self, words: list[Word], rows: pathlib.Path) -> None:
         self.rows, self.name = rows, words[0]
@@ -210,9 +229,9 @@ class Loading:
             raise Stopped(4, said_by(self.name, status, told).removeprefix("load: "))
 
 
-def load_rows(database: pathlib.Path, rows: pathlib.Path, side: str | None, is_kept: bool = True) -> None:
+def load_rows(database: pathlib.Path, rows: pathlib.Path, side: str | None, empty: str = SCHEMA_FILE) -> None:
     """Makes a new database from the `.rows` files of a folder, with the times of frames in a side list."""
-    with Loading(Loading.words(database, rows, side, None, False, is_kept), rows) as loading:
+    with Loading(Loading.words(database, rows, side, None, False, empty), rows) as loading:
         loading.end()
 
 

@@ -4,11 +4,10 @@ docs/ENVELOPE.md and docs/COMMANDS.md have the rules, and viewer/database/schema
 of raw_record.
 """
 
-import functools
 from typing import NamedTuple
 
-from checks.kit.second_reading import (NEWER, READ, SORTS, Entry, Fault, Frame, kind_of, number, objects_of,
-                                       read_frame, version_of)
+from checks.kit.second_reading import (NEWER, READ, SORTS, Entry, Fault, Frame, entries_of, number, objects_of,
+                                       read_frame, records_of, version_of)
 
 # The kinds of fault, in the order of docs/ENVELOPE.md.
 FAULTS = ("HeaderShort", "HeaderMagic", "HeaderProtocol", "HeaderReserved", "FrameShort", "FrameSequence",
@@ -130,53 +129,23 @@ class Cut(NamedTuple):
     fault: tuple[str, int, int] | None
 
 
-@functools.cache
-def judged(word: int, direction: int) -> tuple[int, str | None]:
-    """The kind of a code word in raw_record, or the fault that it is."""
-    try:
-        name = kind_of(word, direction, 0)
-    except Fault as fault:
-        return 0, fault.args[0]
-    if name == "OPAQUE" and word not in NEWER:
-        return UNNAMED[direction], None
-    return (SEC_CTX if name == "BR_TRANSACTION_SEC_CTX" else (word & 0xFF) + 256 * (direction == READ)), None
+def kind_number(code: int, name: str, direction: int) -> int:
+    """The kind in raw_record of a record with this code word and name."""
+    if name == "OPAQUE" and code not in NEWER:
+        return UNNAMED[direction]
+    return SEC_CTX if name == "BR_TRANSACTION_SEC_CTX" else (code & 0xFF) + 256 * (direction == READ)
 
 
-def read_records(frame: Frame, records: list[Record]) -> None:
-    """Adds the records of a frame, up to a fault."""
-    commands, at = frame.commands, 0
-    while at < len(commands):
-        place = frame.place + 32 + at
-        if at + 4 > len(commands):
-            raise Fault("RecordShort", place)
-        word = number(commands, at, 4)
-        kind, fault = judged(word, frame.direction)
-        end = at + 4 + (word >> 16 & 0x3FFF)
-        if fault is not None or end > len(commands):
-            raise Fault(fault or "RecordShort", place)
-        records.append(Record(place, frame, word, kind, commands[at + 4:end]))
-        at = end
-
-
-def read_entries(frame: Frame, records: list[Record]) -> None:
-    """Gives the records of a frame their attachment entries, up to a fault."""
-    owners = {record.place: record for record in records if record.kind in (*SENT, *DELIVERED)}
-    attached, at, latest = frame.attachments, 0, -1
-    begin = frame.place + 32 + len(frame.commands)
-    while at < len(attached):
-        if at + 12 > len(attached):
-            raise Fault("AttachShort", begin + at)
-        offset, d, o = (number(attached, field, 4) for field in (at, at + 4, at + 8))
-        listed, end = at + 12 + d, at + 12 + d + o
-        owner = owners.get(frame.place + 32 + offset)
-        if end > len(attached):
-            raise Fault("AttachShort", begin + at)
-        if owner is None or offset <= latest:
-            raise Fault("AttachRecord", begin + at)
-        if (d, o) != (owner.fields["data_size"], owner.fields["offsets_size"]):
-            raise Fault("AttachSize", begin + at)
-        owner.attach(Entry(attached[at + 12:listed], attached[listed:end]), begin + at)
-        at, latest = end, offset
+def read_contents(frame: Frame, records: list[Record]) -> None:
+    """Adds the records of a frame, and gives them their attachment entries, up to a fault."""
+    told = []
+    for one in records_of(frame):
+        told.append(one)
+        kind = kind_number(one.code, one.kind, frame.direction)
+        records.append(Record(frame.place + 32 + one.offset, frame, one.code, kind, one.payload))
+    owners = {one.offset: record for one, record in zip(told, records)}
+    for offset, place, entry in entries_of(frame, told):
+        owners[offset].attach(entry, place)
 
 
 def read_part(part: bytes, base: int, frames: list[Frame], records: list[list[Record]]) -> None:
@@ -186,8 +155,7 @@ def read_part(part: bytes, base: int, frames: list[Frame], records: list[list[Re
         one = read_frame(part, version, place, frames[-1] if frames else None)
         frames.append(one._replace(place=base + place))
         records.append([])
-        read_records(frames[-1], records[-1])
-        read_entries(frames[-1], records[-1])
+        read_contents(frames[-1], records[-1])
         place += 32 + len(one.commands) + len(one.attachments)
 
 

@@ -247,9 +247,8 @@ class Reading:
         rows: list[Row] = []
         for it in self.all_records():
             interface, service = names_of(it)
-            rows.append([it.place, it.seq, self.thread(it.frame).number, it.kind, *map(it.fields.get, FIELDS),
-                         it.attachment, status_of(it), value_of(it), numbered(interfaces, interface),
-                         numbered(services, service)])
+            rows.append(record_row(it, self.thread(it.frame).number, numbered(interfaces, interface),
+                                   numbered(services, service)))
         return {"record": rows, "interface": name_rows(interfaces), "service": name_rows(services)}
 
 
@@ -291,6 +290,11 @@ def status_of(it: Record) -> int | None:
 
 def value_of(it: Record) -> int | None:
     return it.word if it.kind in (255, 511) else it.fields.get("value")
+
+
+def record_row(it: Record, utid: int, interface: int | None, service: int | None) -> Row:
+    return [it.place, it.seq, utid, it.kind, *map(it.fields.get, FIELDS), it.attachment, status_of(it), value_of(it),
+            interface, service]
 
 
 def object_rows(it: Record) -> Iterator[Row]:

@@ -13,7 +13,6 @@ from viewer.database.side_list import SideList, joined_sides, times_in
 from viewer.files import Stopped
 from viewer.units import signed
 
-ROOT = pathlib.Path(__file__).resolve().parents[1]
 # The numbers that frames may have, as SQLite has them.
 MOST = 2**63 - 1
 
@@ -38,10 +37,10 @@ def database_of(sides: list[str]) -> sqlite3.Connection:
     return database
 
 
-def frame_at(place: int, files: list[str]) -> int:
+def frame_at(root: pathlib.Path, place: int, files: list[str]) -> int:
     """The number of the frame that has a place."""
     words = ["--frame", str(place), "--form", "tab", "--", *files]
-    asked = subprocess.run([ROOT / "crates/run", "listing", "binder_listing", "--", *words], stdout=subprocess.PIPE)
+    asked = subprocess.run([root / "listing", *words], stdout=subprocess.PIPE)
     line = asked.stdout.decode("utf-8", "replace").partition("\n")[0]
     if "\t" not in line and asked.returncode in (0, 2):
         raise Stopped(1, f"--around: the frame that has the byte at {place} has no record")
@@ -50,7 +49,7 @@ def frame_at(place: int, files: list[str]) -> int:
     return int(line.split("\t")[1])
 
 
-def frames_within(option: str, values: list, sides: list[str], files: list[str]) -> tuple[int, int]:
+def frames_within(root: pathlib.Path, option: str, values: list, sides: list[str], files: list[str]) -> tuple[int, int]:
     """The numbers of the first and the last frame of what an option asks for. Without side lists it takes the one that
     lies beside the capture."""
     asked = {"--last": (values[0], None, None), "--between": (None, values, None), "--around": (None, None, values[0])}
@@ -58,7 +57,7 @@ def frames_within(option: str, values: list, sides: list[str], files: list[str])
     try:
         sides = sides or side_beside(files)
         if around is not None:
-            around = frame_at(around, files)
+            around = frame_at(root, around, files)
         found = window.Recording(database_of(sides), 0, MOST).window(window.Asked(last, between, around))
         return found.first, found.last
     except OSError as error:

@@ -1,0 +1,268 @@
+"""Checks the printer of lines of `./listing` without the program that reads captures.
+
+    checks/run printed [-- CASE..]     plays these cases alone, as `stored/death.txt`, `options` or `harm/3`
+
+A second reading in Python makes the stream of rows (checks/kit/tables/stream.py), and the printer, built with
+sanitizers for memory, prints it. What it prints must be the listings in `stored/` beside this one, to the byte. It
+takes all options about lines. With --names each line has the method that the viewer's database names, and the service.
+Of streams that are cut, of which bytes are changed, or rows left out or put elsewhere,
+it must print what it can, and end with a status of ./listing, without a word of a sanitizer: if it is cut, with 4. So
+it must of files of names that are harmed, and print no name that is none.
+"""
+
+import argparse
+import pathlib
+import random
+import re
+import sqlite3
+import struct
+from contextlib import closing
+from typing import Iterator
+
+from checks.kit import runs, tokens
+from checks.kit.captures import BC_REPLY, BC_TRANSACTION, HANDLE, HEADER, entry, frame, offsets, transaction
+from checks.kit.cases import Part, parts_of, play
+from checks.kit.checking import Fail, check, compare
+from checks.kit.programs import CHECKS, DRIVER, ROOT, SMALL
+from checks.kit.tables.reading import Row, numbered, object_rows, names_of, record_row
+from checks.kit.tables.stream import Stream, split, stream_of
+from commands.listing import LISTING
+from commands.reading import Given, read
+from viewer.lines.asked import printer_words
+from viewer.database import raw_tables
+from viewer.lines.build import build_printer
+from viewer.lines.named import is_before_15, lines_of
+from viewer.listing import OF_VIEWER
+from viewer.listing_words import PLACES, TABLES, TIMES, number_of
+from viewer.methods.known import BINDER, MANAGER, load_methods
+from viewer.units import signed
+
+SIDED = DRIVER / "leaks/capture-1.cap"
+SIDE = SIDED.with_name("capture.side")
+STORED = sorted((CHECKS / "listing/stored").iterdir())
+SANITIZED = "-O1", "-g", "-fsanitize=address,undefined", "-fno-sanitize-recover=all", "-U_FORTIFY_SOURCE"
+STATUSES = 0, 1, 2, 4
+# So many streams are harmed, each in so many ways.
+HARMED, WAYS = 24, 12
+# The file of names, beside the printer.
+METHODS = "methods"
+Options = list[tuple[str, list[str]]]
+# Captures with calls to managers of services, with services, and with calls that all objects answer.
+NAMED = [DRIVER / name / "capture-1.cap" for name in (
+    "hello-9", "hello-11", "hello-answers", "hello-hidl", "hello-callbacks")]
+NAMES = """SELECT coalesce(m.method, ''), coalesce(s.name, '') FROM raw_record r JOIN kind k ON k.number = r.kind
+  LEFT JOIN raw_interface i ON i.id = r.interface LEFT JOIN raw_service s ON s.id = r.service
+  LEFT JOIN method m ON k.name NOT GLOB '*_REPLY*' AND (m.interface, m.code) = (coalesce(i.name, ?), r.code)
+  ORDER BY r.place"""
+
+
+def stream_for(given: Given) -> bytes:
+    """The stream that the words ask for."""
+    places = [(name, number_of(value)) for name, values in given.options if name in PLACES for value in values]
+    parts = [(ROOT / name).read_bytes() for name in given.files]
+    return stream_of(parts, True, places[0][0] if places else None, [place for _, place in places])
+
+
+def printed(printer: pathlib.Path, given: Given, stream: bytes) -> tuple[int, list[str]]:
+    """The status of the printer, and its lines; those of standard error come last."""
+    words = [*printer_words(given), *(["--methods", printer.with_name(METHODS)] if given.asks("--names") else [])]
+    status, out, err = runs.answer([printer, *words], timeout=120, cwd=ROOT, input=stream)
+    return status, (out + err).decode("utf-8", "replace").splitlines()
+
+
+def write_methods(printer: pathlib.Path, files: list[str]) -> None:
+    """Writes the file of names for a capture, as ./listing does, beside the printer."""
+    asked = Given([("--interface", [MANAGER]), ("--objects", [])], files)
+    _, lines = printed(printer, asked, stream_for(asked))
+    printer.with_name(METHODS).write_text("".join(lines_of(is_before_15(lines))), "utf-8")
+
+
+# ---- stored listings
+
+
+def check_stored(printer: pathlib.Path, room: pathlib.Path, stored: pathlib.Path, fail: Fail) -> None:
+    """A stored listing. Its first line has the command, its last line the status."""
+    words, *lines, status = stored.read_text("utf-8").splitlines()
+    given = read(LISTING, words.split()[1:])
+    if given.asks("--names"):
+        write_methods(printer, given.files)
+    compare(f"stored/{stored.name}", printed(printer, given, stream_for(given)), (int(status.split()[1]), lines), fail)
+
+
+def check_options(printer: pathlib.Path, room: pathlib.Path, fail: Fail) -> None:
+    """The printer takes all options of the command that are about lines."""
+    values = {"--form": "tab", "--side": str(SIDE), "--direction": "read"}
+    for option in LISTING.options():
+        if option.name in (*OF_VIEWER, *TABLES, *TIMES, "--version"):
+            continue
+        given = Given([(option.name, [values.get(option.name, "7")] * len(option.values))], [str(SIDED)])
+        status, told = printed(printer, given, stream_for(given))
+        if status not in (0, 1):
+            fail(f"{option.name}: ends with status {status}: {told[-1:]}")
+
+
+# ---- names
+
+
+def names_by_database(capture: bytes) -> list[tuple[str, str]]:
+    """The method and the service of each record, by the statements of the viewer, from the second reading."""
+    stream, rows = Stream([capture]), dict[str, list[Row]](record=[], object=[])
+    for it in (it for records in stream.cut.records for it in records):
+        interface, service = names_of(it)
+        rows["record"].append(record_row(it, 0, numbered(stream.interfaces, interface),
+                                         numbered(stream.services, service)))
+        rows["object"] += object_rows(it)
+    rows["interface"] = [[number, name] for name, number in stream.interfaces.items()]
+    rows["service"] = [[number, name] for name, number in stream.services.items()]
+    with closing(sqlite3.connect(":memory:")) as database:
+        for script in "schema.sql", "numbers.sql":
+            database.executescript((raw_tables.FOLDER / script).read_text("utf-8"))
+        database.execute("CREATE VIEW interface AS SELECT id, name FROM raw_interface")
+        for table, made in rows.items():
+            if made:
+                database.executemany(f"INSERT INTO raw_{table} VALUES ({', '.join('?' * len(made[0]))})",
+                                     [[signed(it) if isinstance(it, int) else it for it in row] for row in made])
+        load_methods(database, {})
+        return database.execute(NAMES, (BINDER,)).fetchall()
+
+
+def with_names(line: str, method: str, service: str) -> str:
+    return line + f" method={method}" * bool(method) + f" service={service}" * bool(service)
+
+
+def with_tabs(line: str, method: str, service: str) -> str:
+    return f"{line}\t{method}\t{service}"
+
+
+def called(handed: bytes = b"", listed: tuple[int, ...] = (), code: int = 3) -> bytes:
+    """A capture with calls that have names, and some that have none. What is handed over to this code of the manager
+    has objects in these places."""
+    manager, ping = tokens.marked(MANAGER), int.from_bytes(b"_PNG", "big")
+    named = manager + tokens.string16("hello")
+    calls = [(BC_TRANSACTION, code, named + handed, listed),
+             *((BC_TRANSACTION, number, named, ()) for number in (1, 2, 3, 4, 5, 16777215)),
+             *((BC_TRANSACTION, number, tokens.string16("no token"), ()) for number in (1, ping)),
+             *((BC_TRANSACTION, number, data, ()) for number in (1, 16777214, 0x0f504e47) for data in (
+                 *tokens.RECORDED, b"android.hidl.base@1.0::IBase\0\0\0\0")),
+             (BC_REPLY, 1, tokens.string16(MANAGER), ()), (BC_REPLY, ping, b"", ())]
+    return HEADER + b"".join(
+        frame(1, number, 100, 101, [transaction(word, 1, code, sizes=(len(data), 8 * len(places)))],
+              [entry(0, data, offsets(*(len(named) + place for place in places)))])
+        for number, (word, code, data, places) in enumerate(calls, 1))
+
+
+def check_named(printer: pathlib.Path, room: pathlib.Path, fail: Fail) -> None:
+    """Lines and columns with names, alone and before what the side list says."""
+    for capture in NAMED:
+        check_names(printer, capture, [("--side", [str(capture.with_name("capture.side"))])], fail)
+    for name, made in (("object", called(HANDLE, (0,))), ("bad", called(HANDLE, (2,))), ("none", called()),
+                       ("other", called(HANDLE, (0,), 2))):
+        (room / name).write_bytes(made)
+        check_names(printer, room / name, [("--objects", [])], fail)
+
+
+def check_names(printer: pathlib.Path, capture: pathlib.Path, more: Options, fail: Fail) -> None:
+    """The names of one capture. With more options each line has more after it."""
+    names: Options = [("--names", [])]
+    write_methods(printer, [str(capture)])
+    for form, join in (([], with_names), ([("--form", ["tab"])], with_tabs)):
+        lines = came_of(printer, form, capture)
+        due = [join(line, *named) for line, named in zip(lines, names_by_database(capture.read_bytes()), strict=True)]
+        if due == lines:
+            fail(f"{capture}: no record has a name")
+        compare(f"{capture}, {form}", came_of(printer, [*form, *names], capture), due, fail)
+        told = came_of(printer, [*form, *more], capture)
+        for line, other in zip(lines, due):
+            told = [it.replace(line, other, 1) if it.startswith(line) else it for it in told]
+        compare(f"{capture}, {form}, {more}", came_of(printer, [*form, *more, *names], capture), told, fail)
+
+
+def came_of(printer: pathlib.Path, options: Options, capture: pathlib.Path) -> list[str]:
+    given = Given(options, [str(capture)])
+    return printed(printer, given, stream_for(given))[1]
+
+
+def check_harmed_names(printer: pathlib.Path, room: pathlib.Path, fail: Fail) -> None:
+    """Files of names that are cut or changed, and names that are none."""
+    chance, given = random.Random("names"), Given([("--names", []), ("--form", ["tab"])], [str(NAMED[0])])
+    good, stream, methods = "".join(lines_of(True)).encode(), stream_for(given), printer.with_name(METHODS)
+    made = [f"{MANAGER}\t3\t{name}\n".encode() for name in ("", "a b", "\x1b[2J", "a\tb", "ä", "a\0b")]
+    made += [b"\t1\ta\n", b"*\t\ta\n", b"*\t-1\ta\n", b"*\t18446744073709551616\ta\n", b"\n", b"\t\t\n", b"*\t1", b"\0"]
+    for at in range(WAYS * WAYS):
+        harm = bytearray(good[:chance.randrange(1, len(good))] if at % 2 else good)
+        for _ in range(chance.randint(1, 4)):
+            harm[chance.randrange(len(harm))] = chance.choice((0, 9, 10, 27, 0x7F, 0xFF, chance.randrange(256)))
+        made.append(bytes(harm))
+    for table in made:
+        methods.write_bytes(table)
+        status, lines = printed(printer, given, stream)
+        if status not in (0, 4) or any("Sanitizer" in line or "runtime error" in line for line in lines):
+            fail(f"names of {table!r}: ends with status {status}: {lines[-40:]}")
+        if status == 0 and not all(re.fullmatch(r"([^\t]*\t){26}[\w$]*\t[^\t]*", line, re.ASCII) for line in lines):
+            fail(f"names of {table!r}: a name that is none is printed")
+    methods.write_bytes(good)
+
+
+# ---- streams that are harmed
+
+
+def asked_of(chance: random.Random, capture: pathlib.Path) -> Given:
+    """Words about a capture."""
+    place, names = str(chance.randrange(capture.stat().st_size + 20)), [("--names", [])] * chance.randrange(2)
+    narrowed = chance.choice(([], [("--handle", ["7"])], [("--cookie", ["0x70"])], [("--node", ["1"])],
+                              [("--code", ["BC_TRANSACTION"])], [("--larger", ["8"]), ("--flag", ["TF_ONE_WAY"])]))
+    form = chance.choice(([], [("--objects", [])], [("--form", ["tab"])], [("--at", [place])], [("--call", [place])]))
+    return Given([*narrowed, *form, *names], [str(capture)])
+
+
+def harmed(chance: random.Random, stream: bytes) -> bytes:
+    """A stream of which something is cut, changed, left out, repeated or swapped."""
+    rows = split(stream)
+    way, at = chance.randrange(5), chance.randrange(len(rows))
+    if way == 0:
+        return stream[:chance.randrange(len(stream))]
+    if way == 1:
+        made = bytearray(stream)
+        for _ in range(chance.randint(1, 4)):
+            made[chance.randrange(len(made))] = chance.choice((0, 1, 2, 0x7F, 0x80, 0xFF, chance.randrange(256)))
+        return bytes(made)
+    if way == 2:
+        rows[at] = struct.pack("<Q", struct.unpack_from("<Q", rows[at])[0] ^ 1 << chance.randrange(64)) + rows[at][8:]
+    else:
+        other = chance.randrange(len(rows))
+        rows[at:at + 1] = {3: [], 4: [rows[other], rows[at]]}[way]
+    return b"".join(rows)
+
+
+def check_harmed(printer: pathlib.Path, room: pathlib.Path, number: int, fail: Fail) -> None:
+    chance = random.Random(f"printed {number}")
+    given = asked_of(chance, chance.choice(SMALL))
+    stream = stream_for(given)
+    due = printed(printer, given, stream)
+    if due[0] not in STATUSES[:3]:
+        fail(f"{given}: expected a status of a listing, came {due}")
+    for way in range(WAYS):
+        status, lines = printed(printer, given, harmed(chance, stream))
+        if status not in STATUSES or any("Sanitizer" in line or "runtime error" in line for line in lines):
+            fail(f"harm/{number}, {way}, {given}: ends with status {status}: {lines[-40:]}")
+    for length in sorted({chance.randrange(len(stream)) for _ in range(WAYS)}):
+        compare(f"harm/{number}, {given}, cut at {length}", printed(printer, given, stream[:length])[0], 4, fail)
+
+
+def parts() -> Iterator[Part]:
+    yield from (Part(f"stored/{stored.name}", check_stored, (stored,)) for stored in STORED)
+    yield from parts_of(check_options, check_named, check_harmed_names)
+    yield from (Part(f"harm/{number}", check_harmed, (number,)) for number in range(HARMED))
+
+
+PARTS = list(parts())
+
+
+def judge(given: argparse.Namespace, room: pathlib.Path, fail: Fail) -> None:
+    printer = build_printer(room, *SANITIZED)
+    printer.with_name(METHODS).write_text("".join(lines_of(True)), "utf-8")
+    play([part for part in PARTS if part.name in given.cases], printer, room, fail)
+
+
+if __name__ == "__main__":
+    check(judge, lambda: [part.name for part in PARTS])
