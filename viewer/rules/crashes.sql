@@ -1,8 +1,7 @@
 -- E9, E10: calls in which their server ended, several times. What ended once while it served a call may have been ended
 -- from outside (E3); and what ends several times as soon as it gets a call, is ended by that call.
--- needs: database/schema.sql: finding, raw_call, raw_delivery, raw_record, raw_send, raw_thread, side_time;
---   database/views.sql: process; paths.sql: finding_names; ages.sql: last, process_life; failures.sql: failure;
---   rule.sql: lossy
+-- needs: database/schema.sql: finding, raw_delivery, raw_record, raw_send, raw_thread, side_time; database/views.sql:
+--   open_call, process; paths.sql: finding_names; ages.sql: last, process_life; failures.sql: failure; rule.sql: lossy
 -- makes: temporary tables: ended_alone, serving, fell; indexes: ended_alone_upid, serving_upid
 
 -- ---- the rules
@@ -30,9 +29,9 @@ WHERE coalesce(p.since > :LONG, 1) AND last.ts - p.ended > :VERY_LONG AND p.upid
 CREATE UNIQUE INDEX temp.ended_alone_upid ON ended_alone(upid);
 -- How many calls they had not replied to.
 CREATE TEMP TABLE serving AS
-SELECT t.upid, count(*) AS n FROM (SELECT 1 FROM finding WHERE rule = 'E3' LIMIT 1) CROSS JOIN raw_call c
+SELECT t.upid, count(*) AS n FROM (SELECT 1 FROM finding WHERE rule = 'E3' LIMIT 1) CROSS JOIN open_call c
   JOIN raw_thread t USING (utid)
-WHERE c.served AND c.verdict = 0 AND t.upid IN (SELECT upid FROM ended_alone) GROUP BY 1;
+WHERE c.served AND t.upid IN (SELECT upid FROM ended_alone) GROUP BY 1;
 CREATE UNIQUE INDEX temp.serving_upid ON serving(upid);
 -- The calls that failed because of such an end, and were the only one that the process served. If only their thread
 -- ended, the call failed before. A process that is started again has the same name, and its calls the same interface.

@@ -15,7 +15,7 @@ from viewer.page.texts import APPS
 from viewer.rules.names import Names, short_of
 from viewer.rules.notes import note_text
 from viewer.rules.paths import call_words, name_words, object_words, path_text, thing_words
-from viewer.rules.plan import FOLDER, Plan, Statement, plan_of
+from viewer.rules.plan import FOLDER, Guard, Plan, Statement, plan_of
 from viewer.rules.thresholds import THRESHOLDS
 from viewer.rules.verdicts import RANKS
 from viewer.timing import Timing
@@ -75,11 +75,13 @@ def begin(database: sqlite3.Connection, finders: Finders) -> None:
 
 class Judging:
     """The rules at work on a database. Some rows come of other processes, if there are `finders`: of statements that
-    say `-- beside: FILE`, from the end of that file on."""
+    say `-- beside: FILE`, from the end of that file on. A database that is ruled has all tables, as ruled.py says."""
 
-    def __init__(self, database: sqlite3.Connection, plan: Plan, timing: Timing | None, finders: Finders | None):
+    def __init__(self, database: sqlite3.Connection, plan: Plan, timing: Timing | None, finders: Finders | None,
+                 is_ruled: bool = False):
         self.database, self.plan, self.timing = database, with_sums(database, plan), timing
-        self.finders = finders
+        self.finders, self.is_ruled = finders, is_ruled
+        self.empty: dict[str, dict[str, bool]] = {}
         self.numbers = numbers_of(database)
         self.packed = packed_tables(database)
 
@@ -96,11 +98,33 @@ class Judging:
 
     def run(self, number: int, statement: Statement) -> None:
         """Runs a statement, or takes its rows from another process."""
+        if self.is_ruled:
+            self.run_ruled(statement)
+            return
         if not self.finders or not self.finders.has(name_of(number)):
             self.database.execute(statement.text, self.numbers)
             return
         with self.finders.found(self.database, name_of(number)):
             self.database.execute(f"{statement.text[:statement.query]}SELECT * FROM found.rows")
+
+    def run_ruled(self, statement: Statement) -> None:
+        """Runs a statement where all tables are there, if it finds anything. A table is filled in place of made."""
+        if statement.makes and not statement.query:
+            return
+        text = f"INSERT INTO {statement.name} {statement.text[statement.query:]}" if statement.makes else statement.text
+        rows = 0 if self.finds_nothing(statement) else self.database.execute(text, self.numbers).rowcount
+        if rows or statement.makes:
+            self.empty[statement.name] = {"": not rows}
+
+    def finds_nothing(self, statement: Statement) -> bool:
+        return bool(statement.guards) and all(any(map(self.is_empty, part)) for part in statement.guards)
+
+    def is_empty(self, guard: Guard) -> bool:
+        """Whether a table has no row for which something holds. This is asked again after the table was changed."""
+        known = self.empty.setdefault(guard[0], {})
+        if guard[1] not in known:
+            known[guard[1]] = self.database.execute("SELECT 1 FROM {}{} LIMIT 1".format(*guard)).fetchone() is None
+        return known[guard[1]]
 
     def begin(self, file: str) -> None:
         """Has other processes find the rows of statements for which all is there after a file."""
@@ -136,9 +160,11 @@ class Judging:
         elif file == "rule.sql":
             for table, rows in self.plan.rows.items():
                 insert(self.database, table, rows)
+            self.empty.clear()
         elif file == "waits.sql" and self.database.execute("SELECT 1 FROM step LIMIT 1").fetchone():
             from viewer.rules import waiting
             waiting.count(self.database, int(THRESHOLDS["POOLS"]))
+            self.empty.clear()
 
 
 def packed_tables(database: sqlite3.Connection) -> set[str]:
@@ -182,22 +208,27 @@ def numbers_of(database: sqlite3.Connection) -> dict[str, float]:
             "FIRST_APP": APPS.start, "LAST_APP": APPS[-1]}
 
 
+def take_words(database: sqlite3.Connection, of_data: OfData) -> None:
+    """Has the database know the functions that statements call from the first one on."""
+    for name, ask in of_data._asdict().items():
+        database.create_function(name, 2, ask)
+    for name, function in WORDS.items():
+        database.create_function(name, -1, functools.lru_cache(4096)(function), deterministic=True)
+
+
 def judge(database: sqlite3.Connection, folder: pathlib.Path = FOLDER, timing: Timing | None = None,
-          finders: Finders | None = None, of_data: OfData = NO_DATA) -> None:
+          finders: Finders | None = None, of_data: OfData = NO_DATA, is_ruled: bool = False) -> None:
     """Gives each finding its verdict. In the statements `:BR_REPLY` is the number of that name, and `:LONG` a
     threshold. They make texts by the functions of WORDS, and after names.sql by `call_name(code, upid, ptr)`, the name
     of a call, and `moment(ts)`, the time of day. `short_name(interface)` is what an interface is called, and
     `bare_name(interface)` without its package, even if there is another one of that name. `hash_of(attachment, size)`
     is the number of the data of an attachment, and `exception_of` the exception with which they begin, for what is not
     in data_hash or exception yet."""
-    for name, ask in of_data._asdict().items():
-        database.create_function(name, 2, ask)
-    for name, function in WORDS.items():
-        database.create_function(name, -1, functools.lru_cache(4096)(function), deterministic=True)
-    for statement in BY_SECTION:
+    take_words(database, of_data)
+    for statement in () if is_ruled else BY_SECTION:
         database.execute(statement)
     database.execute("BEGIN")
-    Judging(database, plan_of(folder), timing, finders).judge()
+    Judging(database, plan_of(folder), timing, finders, is_ruled).judge()
     database.execute("COMMIT")
     for statement in NO_LONGER:
         database.execute(statement)

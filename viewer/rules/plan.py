@@ -17,21 +17,29 @@ KEPT = "rules"
 # Of the forms in which Python writes values the one that has the same bytes for the same values.
 FORM = 0
 
-# What a statement makes. Of an index the name is that of its table.
-MAKES = re.compile(r"^CREATE (?:UNIQUE )?(?:TEMP )?(TABLE|VIEW|INDEX) (?:\S+ ON )?(\w+)", re.M)
+# What a statement makes, and whether of a query; or the table that it changes. Of an index the name is its table's.
+MAKES = re.compile(r"^(?:CREATE (?:UNIQUE )?(?:TEMP )?(TABLE|VIEW|INDEX) (?:\S+ ON )?|UPDATE |INSERT (?:OR \w+ )?INTO "
+                   r"|DELETE FROM )(\w+)( AS\b)?", re.M)
 # After which file another process may find the rows of a statement, and its query.
 BESIDE, QUERY = re.compile(r"^-- beside: (\S+)$", re.M), re.compile(r"\b(?:SELECT|WITH)\b")
 
 
+# A table, and what must hold for a row of it, as ` WHERE section = 'calls'`, or nothing.
+Guard = tuple[str, str]
+
+
 class Statement(NamedTuple):
-    """A statement of a file, and what it makes, if it makes anything. `beside` is the file after which another process
-    may find its rows, and `query` where the query begins that does so; nothing and 0 if this one does."""
+    """A statement of a file, and what it makes, or else the name of the table that it changes. `beside` is the file
+    after which another process may find its rows; nothing if this one does. `query` is where the query begins that does
+    so, or of which it makes a table; 0 if there is none. It does nothing if each part of it has a guard without a
+    row."""
     file: str
     text: str
     makes: str
     name: str
     beside: str
     query: int
+    guards: tuple[tuple[Guard, ...], ...] = ()
 
 
 class Plan(NamedTuple):
@@ -40,18 +48,12 @@ class Plan(NamedTuple):
     rows: dict[str, list[tuple]]
 
 
-def beside_of(text: str) -> tuple[str, int]:
-    """The file after which another process may find the rows of a statement, and where the query begins that does so;
-    nothing and 0 if none may."""
-    said = BESIDE.search(text)
-    query = QUERY.search(text, said.end()) if said else None
-    return (said[1], query.start()) if said and query else ("", 0)
-
-
 def statement_of(file: str, text: str) -> Statement:
-    made = MAKES.search(text)
-    beside, query = beside_of(text)
-    return Statement(file, text, made[1] if made else "", made[2] if made else "", beside, query)
+    made, said = MAKES.search(text), BESIDE.search(text)
+    makes, name, of_query = made.groups("") if made else ("", "", "")
+    before = said or (made if makes == "TABLE" and of_query else None)
+    query = QUERY.search(text, before.end()) if before else None
+    return Statement(file, text, makes, name, said[1] if said else "", query.start() if query else 0)
 
 
 def texts_of(path: pathlib.Path) -> list[str]:
@@ -71,10 +73,22 @@ def plan_in(folder: pathlib.Path) -> Plan:
 # ---- the file in which it is kept
 
 
+def with_guards(statement: Statement, tables: set[str]) -> Statement:
+    """The statement with its guards. Of a view nobody knows when it gets a row, so only tables are asked."""
+    from viewer.rules.guards import guards_of
+    assert statement.name, statement.text  # else nobody knows which guards to ask again after it
+    return statement._replace(guards=tuple(
+        tuple((guard.table, guard.condition) for guard in part if guard.table in tables)
+        for part in guards_of(statement.text)))
+
+
 def write_plan(path: pathlib.Path) -> None:
     """Writes the plan of the rules of this folder."""
+    from viewer.database.raw_tables import schema
     statements, rows = plan_in(FOLDER)
-    path.write_bytes(marshal.dumps(([tuple(it) for it in statements], rows), FORM))
+    tables = {*re.findall(r"^CREATE TABLE (\w+)", schema(), re.M),
+              *(it.name for it in statements if it.makes == "TABLE")}
+    path.write_bytes(marshal.dumps(([tuple(with_guards(it, tables)) for it in statements], rows), FORM))
 
 
 @functools.cache

@@ -1,8 +1,8 @@
 -- What open calls wait for, and what the threads do that could take them.
 -- needs: database/schema.sql: book_call, book_open, book_process, finding, raw_call, raw_delivery, raw_process,
---   raw_record, raw_send, raw_thread, side_calls, side_thread, side_time; database/views.sql: came_to, process,
---   sent_to, thread; records.sql: from_before, to_frozen; ages.sql: last, life, old, process_life; rule.sql: narrowed;
---   judging.py: call_name, duration
+--   raw_record, raw_send, raw_thread, side_calls, side_thread, side_time; database/views.sql: came_to, open_call,
+--   process, sent_to, thread; records.sql: from_before, to_frozen; ages.sql: last, life, old, process_life; rule.sql:
+--   narrowed; judging.py: call_name, duration
 -- after: counts.sql
 -- makes: temporary tables: waits, few, waits_for, main_thread, ring_step, ring, lock_step, lock_way, lock_ring,
 --   own_ring, serves_on, queued, loop, taker, taken, came, occupies, pool, full_pool, pool_ring, step, waited; indexes:
@@ -163,7 +163,7 @@ SELECT k.utid, k.upid, k.earlier, coalesce(c.place, o.place) AS place, c.served,
     (SELECT call_name(v.code, v.upid, v.ptr) FROM sent_to v WHERE v.place = r.place), call_name(r.code, NULL, NULL))
   AS call
 FROM last, taker k LEFT JOIN life l ON l.utid = k.utid
-  LEFT JOIN raw_call c ON c.place = (SELECT place FROM raw_call i WHERE i.utid = k.utid AND i.verdict = 0
+  LEFT JOIN raw_call c ON c.place = (SELECT place FROM open_call i WHERE i.utid = k.utid
     ORDER BY place DESC LIMIT 1)
   LEFT JOIN raw_record o ON o.place = k.last_record AND o.kind IN (:BR_TRANSACTION, :BR_TRANSACTION_SEC_CTX)
     AND o.flags & :TF_ONE_WAY AND c.place IS NULL

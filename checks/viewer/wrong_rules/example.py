@@ -3,7 +3,7 @@
 from typing import Iterator
 
 from checks.viewer.wrong_rules.forms import forms_of
-from checks.viewer.wrong_rules.sql import norm
+from viewer.rules.sql import norm
 
 THRESHOLDS = {"OFTEN": 3, "LONG": 100_000_000, "MOST": 0.5}
 

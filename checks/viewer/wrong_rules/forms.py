@@ -17,7 +17,7 @@ import re
 from itertools import chain
 from typing import Iterator, Mapping, NamedTuple
 
-from checks.viewer.wrong_rules.sql import CLAUSES, Clause, Group, Item, Token, clauses, items_of, span, split
+from viewer.rules.sql import CLAUSES, Clause, Group, Item, Token, clauses, items_of, span, split
 
 # From here on a threshold is a time in nanoseconds.
 TIME = 1_000_000

@@ -9,7 +9,7 @@ import sqlite3
 import zlib
 from typing import Callable
 
-from checks.viewer.wrong_rules.sql import tokens_of
+from viewer.rules.sql import tokens_of
 from viewer.rules import judging
 
 # The rows of a database, by table, in little room: a process that has much is slow to copy.

@@ -14,9 +14,9 @@ import struct
 from typing import Callable, Mapping, NamedTuple, Sequence
 
 from checks.viewer.wrong_rules.forms import forms_of
-from checks.viewer.wrong_rules.guards import Guard, guards_of
+from viewer.rules.guards import Guard, guards_of
 from checks.viewer.wrong_rules.judge import Judged, Rows, changed_by, filling, query_of
-from checks.viewer.wrong_rules.sql import tokens_of
+from viewer.rules.sql import tokens_of
 
 # So many hundreds of thousands of steps of SQLite's machine may a statement take: a wrong one may never end.
 MOST_STEPS = 300

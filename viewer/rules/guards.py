@@ -1,9 +1,9 @@
-"""What a statement takes rows of. Where nothing of that is there, neither the statement nor a form of it does anything,
-as on a session without freeze notifications; and so none of them need be played there."""
+"""What a statement takes rows of. Where nothing of that is there, the statement does nothing, as for a capture without
+freeze notifications, and need not be compiled; nor does a form of it that checks try."""
 
 from typing import Iterator, NamedTuple
 
-from checks.viewer.wrong_rules.sql import Clause, Group, Item, Token, clauses, items_of, split
+from viewer.rules.sql import Clause, Group, Item, Token, clauses, items_of, split
 
 AGGREGATES = ("COUNT", "SUM", "MIN", "MAX", "AVG", "TOTAL", "GROUP_CONCAT")
 # By these a term says which findings it takes.
@@ -11,12 +11,16 @@ OF_FINDING = ("section", "rule", "what")
 
 
 class Guard(NamedTuple):
-    """A query without which rows nothing is done, the table that it asks, and the stretch of the statement that it
-    stands for: a form that changes this may do something."""
-    query: str
+    """A table, and a condition of its rows: without such a row nothing is done. It stands for a stretch of the
+    statement: a form that changes this may do something."""
     table: str
+    condition: str = ""
     start: int = 0
     end: int = 0
+
+    @property
+    def query(self) -> str:
+        return f"SELECT 1 FROM {self.table}{self.condition} LIMIT 1"
 
     def is_left_by(self, start: int, end: int) -> bool:
         return end <= self.start or self.end <= start
@@ -52,13 +56,13 @@ def guards_in(statement: str, part: list[Clause], queries: set[str]) -> Iterator
     aliases = set()
     for table, alias in tables_of(part):
         if table not in queries:
-            yield Guard(f"SELECT 1 FROM {table} LIMIT 1", table)
+            yield Guard(table)
             aliases |= {alias} if table == "finding" else set()
     for clause in part:
         for term in split(clause.items, "AND") if clause.says("WHERE") and not split(clause.items, "OR")[1:] else []:
             said = term_of_finding(statement, term, aliases)
             if said:
-                yield Guard(f"SELECT 1 FROM finding WHERE {said} LIMIT 1", "finding", term[0].start, term[-1].end)
+                yield Guard("finding", f" WHERE {said}", term[0].start, term[-1].end)
 
 
 def has_aggregate(items: list[Item]) -> bool:
