@@ -211,14 +211,14 @@ WITH said AS MATERIALIZED (
     WHERE served AND depth = 1 AND utid NOT IN (SELECT utid FROM said)),
   unanswered AS MATERIALIZED (
     SELECT utid, max(CASE WHEN served THEN place END) AS serving, max(CASE WHEN served THEN 0 ELSE place END) AS calling
-    FROM raw_call WHERE verdict = 0 GROUP BY utid),
+    FROM open_call GROUP BY utid),
   at_work AS MATERIALIZED (
     SELECT k.utid, k.entered, k.spawned, coalesce(u.serving, d.place) AS serving,
       CASE WHEN u.calling > coalesce(u.serving, d.place, 0) THEN u.calling END AS calling
     FROM taker k LEFT JOIN unanswered u USING (utid) LEFT JOIN raw_thread t USING (utid)
       LEFT JOIN raw_record r ON r.place = t.last_record AND r.kind IN (:BR_TRANSACTION, :BR_TRANSACTION_SEC_CTX)
         AND r.flags & :TF_ONE_WAY
-      LEFT JOIN raw_delivery d ON d.place = r.place AND d.freed_by IS NULL)
+      LEFT JOIN unfreed d ON d.place = r.place)
 SELECT
   l.utid,
   t.upid,

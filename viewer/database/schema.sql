@@ -258,7 +258,9 @@ CREATE TABLE raw_generation(id INTEGER PRIMARY KEY, upid INTEGER NOT NULL, handl
 -- frame is missing since its begin: by a delivery for which all that are left are of one generation and certain is 1,
 -- that this generation means the node; and by a sure pair, or the sure pair of a reply, of each object that it hands
 -- over. If that is a BINDER for one side and a HANDLE for the other, the generation of the handle means the node of the
--- BINDER; if it is a HANDLE for both, their generations mean the same. So for WEAK_BINDER and WEAK_HANDLE.
+-- BINDER; if it is a HANDLE for both, their generations mean the same. So for WEAK_BINDER and WEAK_HANDLE. At the end
+-- of a walk what was learnt of a generation is learnt of each that means the same: such pairs are gone through, in the
+-- order in which they were found, until that brings nothing more, or sixteen times.
 -- The capture is walked up to five times, the first time without oneway transactions, until a walk brings nothing new.
 -- Sure pairs are kept; what is learnt on a walk is known on the next one, and guesses are those of the last one.
 -- How the calls should lie matters for calls alone, not for oneway transactions. Let c be the row of raw_call of the

@@ -4,8 +4,8 @@
 --   raw_service, raw_thread, side_device, side_map, side_pc, side_process, side_thread, side_time, symbol; numbers.sql:
 --   cause, kind, sort, verdict; rules/nodes.sql: node_of; rules/matters.sql: traffic; rules/defects.sql: call_text,
 --   program
--- makes: views: device, process, thread, frame, record, interface, service, object, call, handle, send, delivery,
---   status, level, reference, listing, came_to, sent_to, node_interface, stack, node_service, talk
+-- makes: views: device, process, thread, frame, record, interface, service, object, call, open_call, unfreed, handle,
+--   send, delivery, status, level, reference, listing, came_to, sent_to, node_interface, stack, node_service, talk
 
 CREATE VIEW device AS
 SELECT DISTINCT p.device, s.name, s.driver FROM raw_process p LEFT JOIN side_device s USING (device);
@@ -56,6 +56,10 @@ FROM raw_call c JOIN raw_thread t USING (utid) JOIN raw_record r USING (place)
   LEFT JOIN side_time b ON b.seq = c.seq LEFT JOIN side_time z ON z.seq = c.seq + c.dur_seq
   LEFT JOIN raw_record a ON a.place = iif(r.code = :_NTF, c.closer, NULL)
   LEFT JOIN interface i ON i.id = coalesce(r.interface, a.interface);
+
+-- What is open at the end: the calls without an answer, and the deliveries whose buffer was not freed.
+CREATE VIEW open_call AS SELECT * FROM raw_call WHERE verdict = 0;
+CREATE VIEW unfreed AS SELECT * FROM raw_delivery WHERE freed_by IS NULL;
 
 CREATE VIEW handle AS
 SELECT g.id AS generation, g.upid, g.handle, g.n, g.begin, g.end, g.given_by, g.held_since, g.strong, g.weak,

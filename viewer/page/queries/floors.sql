@@ -2,16 +2,14 @@
 -- of each slice. Things are those of growth.sql, from 0 for buffers to 4 for calls being served. Steps count back from
 -- the end, since what came before the recording is not known.
 -- needs: database/schema.sql: raw_call, raw_delivery, raw_generation, raw_record, raw_slice, raw_thread;
---   database/numbers.sql: kind
+--   database/numbers.sql: kind; database/views.sql: open_call, unfreed
 -- makes: columns: thing, upid, slice, least
 WITH kept AS MATERIALIZED (
-  SELECT 0 AS thing, t.upid, count(*) AS left FROM raw_delivery d JOIN raw_thread t USING (utid)
-  WHERE d.freed_by IS NULL GROUP BY 2
-  UNION ALL SELECT 1, t.upid, CAST(min(total(r.data_size), 9e18) AS INTEGER) FROM raw_delivery d
-    JOIN raw_thread t USING (utid) JOIN raw_record r USING (place) WHERE d.freed_by IS NULL GROUP BY 2
+  SELECT 0 AS thing, t.upid, count(*) AS left FROM unfreed d JOIN raw_thread t USING (utid) GROUP BY 2
+  UNION ALL SELECT 1, t.upid, CAST(min(total(r.data_size), 9e18) AS INTEGER) FROM unfreed d
+    JOIN raw_thread t USING (utid) JOIN raw_record r USING (place) GROUP BY 2
   UNION ALL SELECT 2, upid, sum(strong) FROM raw_generation GROUP BY 2
-  UNION ALL SELECT 3 + c.served, t.upid, count(*) FROM raw_call c JOIN raw_thread t USING (utid)
-    WHERE c.verdict = 0 GROUP BY 1, 2),
+  UNION ALL SELECT 3 + c.served, t.upid, count(*) FROM open_call c JOIN raw_thread t USING (utid) GROUP BY 1, 2),
 some AS MATERIALIZED (SELECT * FROM kept WHERE left > 0),
 step AS (
   SELECT k.thing, k.upid, r.seq, 0 AS starts, iif(k.thing, r.data_size, 1) AS by

@@ -2,8 +2,8 @@
 -- come first. Of its buffers, how much space the driver has given for data and offsets, each rounded up to 8 bytes, and
 -- how much of this for oneway transactions. A call ends with its thread. ended_slice: the slice of its end, if it has
 -- one. ?1: the most rows.
--- needs: database/schema.sql: raw_call, raw_capture, raw_delivery, raw_generation, raw_level, raw_record, raw_slice,
---   raw_thread; database/numbers.sql: flag, kind; database/views.sql: process, thread
+-- needs: database/schema.sql: raw_capture, raw_generation, raw_level, raw_record, raw_slice, raw_thread;
+--   database/numbers.sql: flag, kind; database/views.sql: open_call, process, thread, unfreed
 -- makes: columns: upid, ended, space, oneway_space, buffers, buffers_left, bytes, bytes_left, refs, refs_left, calls,
 --   calls_left, served, served_left, ended_slice
 WITH lived AS MATERIALIZED (SELECT p.upid, iif(p.ended_after <= c.last_seq, p.ended_after, NULL) AS ended_after,
@@ -13,13 +13,12 @@ WITH lived AS MATERIALIZED (SELECT p.upid, iif(p.ended_after <= c.last_seq, p.en
       min(total(iif(oneway, space, 0)), 9e18) AS oneway
     FROM (SELECT t.upid, r.data_size, k.name <> 'BR_REPLY' AND r.flags & f.number AS oneway,
         max(8, (r.data_size + 7) / 8 * 8 + (r.offsets_size + 7) / 8 * 8) AS space
-      FROM raw_delivery d JOIN raw_record r USING (place) JOIN raw_thread t ON t.utid = d.utid
-        JOIN kind k ON k.number = r.kind JOIN flag f ON f.name = 'TF_ONE_WAY'
-      WHERE d.freed_by IS NULL) GROUP BY 1),
+      FROM unfreed d JOIN raw_record r USING (place) JOIN raw_thread t ON t.utid = d.utid
+        JOIN kind k ON k.number = r.kind JOIN flag f ON f.name = 'TF_ONE_WAY') GROUP BY 1),
   calling AS MATERIALIZED (
-    SELECT t.upid, sum(NOT c.served) AS calls, sum(c.served) AS served FROM raw_call c JOIN thread t USING (utid)
+    SELECT t.upid, sum(NOT c.served) AS calls, sum(c.served) AS served FROM open_call c JOIN thread t USING (utid)
       JOIN lived v USING (upid), raw_capture x
-    WHERE c.verdict = 0 AND (t.ended_after IS NULL OR t.ended_after >= coalesce(v.ended_after, x.last_seq + 1))
+    WHERE t.ended_after IS NULL OR t.ended_after >= coalesce(v.ended_after, x.last_seq + 1)
     GROUP BY 1),
   counted AS MATERIALIZED (SELECT upid, sum(strong) AS refs FROM raw_generation GROUP BY 1),
   levels AS (SELECT l.upid, l.slice, v.slice IS NOT NULL AND l.slice > v.slice AND v.ended_after IS NOT NULL AS ended,

@@ -1,5 +1,5 @@
 -- The threads that take calls; those that serve something come first, the longest before others. ?1: the most rows.
--- needs: database/schema.sql: raw_call, raw_delivery, raw_record, raw_thread; database/views.sql: thread;
+-- needs: database/schema.sql: raw_call, raw_record, raw_thread; database/views.sql: open_call, thread, unfreed;
 --   database/joined_views.sql: looper
 -- makes: columns: upid, thread, tid, serving, ts, age, oneway, code, ptr, interface, client_upid, calling, called_upid,
 --   handle, called_ptr, called_code, own_interface
