@@ -42,7 +42,7 @@ import signal
 import subprocess
 import sys
 import time
-from typing import Callable, Iterator
+from typing import Callable, Iterable, Iterator
 
 from checks.kit.checking import Fail, check
 from checks.kit.frames import frames_of
@@ -61,6 +61,9 @@ ENDING = "record: ending the recording on one"
 FETCHING = r"record: fetching \d+ files, \d+\.\d MB, from one"
 FETCHED = r"record: \d+ files, \d+ bytes fetched from one; next: \S+view {0}-1\.cap --side {0}\S*\.side.*"
 KEPT = r"; what was recorded stays in \S+/binder-record of one; to fetch it: \S+record --adb one --fetch -o {0}"
+OFFLINE = (r"record: the connection to one is lost \(error: device offline\); when one is back, this fetches what was"
+           r" recorded there: \S+record --adb one --fetch -o {0}")
+ALREADY = r"record: one has a recording in \S+/binder-record already; to fetch it: \S+ --adb one --fetch -o more"
 NONE = r"record: one has no recording in \S+/binder-record"
 WHOSE = r" \(process \d+ of \S+, begun \d+ s ago\)"
 PREPARES = (rf"record: another command prepares a recording in \S+/binder-record of one{WHOSE}: wait until that has"
@@ -82,6 +85,10 @@ COMMANDS = {
 def fetches(name: str) -> tuple[str, str]:
     """What is said of files that are fetched."""
     return FETCHING, FETCHED.format(name)
+
+
+def are_ours(files: Iterable[pathlib.Path]) -> bool:
+    return all(it.stat().st_mode & 0o777 == 0o600 for it in files)
 
 
 class Device:
@@ -161,11 +168,9 @@ class Device:
 
     def wait_until(self, what: str, holds: Callable[[], bool]) -> None:
         end = time.monotonic() + LIMIT
-        while not holds():
-            if time.monotonic() > end:
-                self.report(f"{self.what}: {what} has not come")
-                return
+        while not (has_come := holds()) and time.monotonic() < end:
             time.sleep(0.1)
+        self.must(has_come, f"{what} has not come")
 
     def wait_until_prepared(self) -> None:
         """The recorder is in the folder, in which nothing is recorded yet."""
@@ -180,8 +185,7 @@ class Device:
     def fetched(self, name: str) -> None:
         """All files are here, for their owner, and none is on the device."""
         files = list((self.room / "out").glob(f"{name}[-.]*"))
-        if len(files) < 8 or any(it.stat().st_mode & 0o777 != 0o600 for it in files):
-            self.report(f"{self.what}: the files are {files}")
+        self.must(len(files) >= 8 and are_ours(files), f"the files are {files}")
         self.left_nothing()
 
     def leave_folder(self) -> None:
@@ -191,9 +195,22 @@ class Device:
                            "pid": "1"}.items():
             (self.folder() / name).write_text(f"{text}\n", "ascii")
 
+    def must(self, holds: bool, what: object) -> None:
+        if not holds:
+            self.report(f"{self.what}: {what}")
+
     def left_nothing(self) -> None:
-        if self.folder().exists():
-            self.report(f"{self.what}: the device has its folder still")
+        self.must(not self.folder().exists(), "the device has its folder still")
+
+    def records(self, name: str, words: list[str], *lines: str, status: int = 0, said: str | None = None) -> None:
+        """A whole recording into files of this name, with these lines before it ends; all of it is here then."""
+        self.says(["-o", name, *words], status, *PREPARED, READY, *lines, COUNTS, *fetches(name), said=said)
+        self.fetched(name)
+
+    def fetches(self, name: str, *lines: str, status: int = 0) -> None:
+        """By --fetch all of a recording is here, after these lines."""
+        self.says(["--fetch", "-o", name], status, *lines, *fetches(name))
+        self.fetched(name)
 
 
 # ---- what goes well
@@ -201,9 +218,8 @@ class Device:
 
 def check_sessions(device: Device) -> None:
     device.what = "with PROGRAM"
-    device.says(["-o", "some", "--", "sh", "-c", r"echo 'a  word'; printf '\033[31mred\007\n' >&2; exit 7"], 7,
-                *PREPARED, READY, r"\\x1b\[31mred\\x07", COUNTS, *fetches("some"), said="a  word")
-    device.fetched("some")
+    device.records("some", ["--", "sh", "-c", r"echo 'a  word'; printf '\033[31mred\007\n' >&2; exit 7"],
+                   r"\\x1b\[31mred\\x07", status=7, said="a  word")
     device.what = "SIGINT"
     program = device.start("one", "-o", "until")
     device.wait_until_recording()
@@ -216,7 +232,6 @@ def check_sessions(device: Device) -> None:
 
 def check_words(device: Device) -> None:
     """Each wrong word is named, and nothing is recorded."""
-    device.what = "wrong words"
     begun = "the recording has begun with its options"
     device.says(["--bogus"], 64, *PREPARED, "record: there is no option --bogus; record --help has them",
                 "record: nothing was recorded on one")
@@ -242,7 +257,6 @@ def check_named(device: Device) -> None:
 
 def check_bar(device: Device) -> None:
     """On a terminal a bar shows how far the fetch is, and nothing of it stays in the line."""
-    device.what = "a terminal"
     ours, terminal = os.openpty()
     words = [device.room / "record", "--adb", "-o", "barred", "--", "true"]
     with subprocess.Popen(words, cwd=device.room / "out", env=device.environment, stdin=subprocess.DEVNULL,
@@ -253,10 +267,10 @@ def check_bar(device: Device) -> None:
             while piece := os.read(ours, 65536):
                 came += piece
         os.close(ours)
-    if program.returncode or not re.search(rb"\nrecord: fetching \d+ files.*\r\n.*\rrecord: \[[#.]{30}\] +\d+%,"
-                                           rb" \d+\.\d of \d+\.\d MB, \d+\.\d MB/s\x1b\[K\r\x1b\[Krecord: \d+ files",
-                                           came):
-        device.report(f"{device.what}: status {program.returncode}, came {came!r}")
+    due = (rb"\nrecord: fetching \d+ files.*\r\n.*\rrecord: \[[#.]{30}\] +\d+%, \d+\.\d of \d+\.\d MB, \d+\.\d MB/s"
+           rb"\x1b\[K\r\x1b\[Krecord: \d+ files")
+    device.must(not program.returncode and re.search(due, came) is not None,
+                f"status {program.returncode}, came {came!r}")
     device.fetched("barred")
 
 
@@ -285,10 +299,9 @@ def check_view(device: Device) -> None:
                     device.wait_until("the browser", opened.exists)
             words = (device.room / "out/view.words").read_text("utf-8")
             here = name if name[0] != "-" else f"./{name}"
-            if words != f"{here}-1.cap --side {here}.side\n":
-                device.report(f"{device.what}: the viewer was called with {words}")
-    if opened.read_text("utf-8") != f"file://{device.room}/out/viewed-1.cap.html\n":
-        device.report(f"{device.what}: opened {opened.read_text('utf-8')}")
+            device.must(words == f"{here}-1.cap --side {here}.side\n", f"the viewer was called with {words}")
+    shown_page = opened.read_text("utf-8")
+    device.must(shown_page == f"file://{device.room}/out/viewed-1.cap.html\n", f"opened {shown_page}")
 
 
 def check_detached(device: Device) -> None:
@@ -299,8 +312,7 @@ def check_detached(device: Device) -> None:
     device.says(["-o", "more"], 1, rf"record: one records already, into \S+/binder-record{WHOSE}; to end that, and"
                 r" fetch it: \S+ --adb one --fetch -o more")
     device.what = "--fetch"
-    device.says(["--fetch", "-o", "later"], 0, ENDING, COUNTS, *fetches("later"))
-    device.fetched("later")
+    device.fetches("later", ENDING, COUNTS)
     device.says(["--fetch", "-o", "again"], 1, NONE)
 
 
@@ -328,8 +340,8 @@ def check_kept(device: Device) -> None:
         sets = sorted((device.room / "out").glob("day.*"))
         lists = [max(it.glob("day-*.side"), key=lambda path: int(path.stem[4:])).read_text("utf-8") for it in sets]
         told = [re.findall(r" kept (\w+) ", text) + re.findall(r" end (recording) ", text[-80:]) for text in lists]
-        if sorted(told) != [["asked", "recording"], ["file", "recording"]] or list(device.folder().glob("*.kept-*")):
-            device.report(f"{device.what}: of {sets} the lists say {told}")
+        device.must(sorted(told) == [["asked", "recording"], ["file", "recording"]]
+                    and not list(device.folder().glob("*.kept-*")), f"of {sets} the lists say {told}")
         device.what = "--fetch with a set"
         with device.with_file("cut", "cat capture-"):
             device.says(["--keep", "-o", "day"], 1,
@@ -338,8 +350,7 @@ def check_kept(device: Device) -> None:
                     *[KEPT_THERE.format("somebody asked for it")] * 2, COUNTS, KEPT_HERE, FETCHING,
                     r"record: \d+ files, \d+ bytes fetched from one; next: \S+view day-\d+\.cap .*")
         kept = sorted((device.room / "out").glob("day.kept-*"))
-        if len(kept) != 3 or any(path.stat().st_mode & 0o777 != 0o600 for it in kept for path in it.iterdir()):
-            device.report(f"{device.what}: of three sets these are here: {kept}")
+        device.must(len(kept) == 3 and all(are_ours(it.iterdir()) for it in kept), f"three sets are due, came {kept}")
         for path in kept:
             path.rename(device.room / path.name)
     device.fetched("day")
@@ -348,23 +359,19 @@ def check_kept(device: Device) -> None:
 def check_packages(device: Device) -> None:
     """The packages are fetched with a recording, but for a redacted one, and hold up none."""
     package = "package:org.example.one uid:10123\n"
-    asked = (["-o", "named"], package), (["-o", "redacted", "--redact"], None), (["-o", "unnamed", "--no-names"], None)
+    asked = (["named"], package), (["redacted", "--redact"], None), (["unnamed", "--no-names"], None)
     with device.with_command("pm", f'[ "$*" = "list packages -U" ] && printf "a line\n{package}"'):
         for words, due in asked:
             device.what = f"packages, {words}"
-            device.says([*words, "--", "sleep", "1"], 0, *PREPARED, READY, COUNTS, *fetches(words[1]))
-            device.fetched(words[1])
-            path = device.room / f"out/{words[1]}.packages"
+            device.records(words[0], [*words[1:], "--", "sleep", "1"])
+            path = device.room / f"out/{words[0]}.packages"
             came = path.read_text("utf-8") if path.exists() else None
-            if came != due:
-                device.report(f"{device.what}: expected {due!r}, came {came!r}")
+            device.must(came == due, f"expected {due!r}, came {came!r}")
     device.what = "packages that do not come"
     with device.with_command("pm", "exec sleep 30"):
         began = time.monotonic()
-        device.says(["-o", "waiting", "--", "true"], 0, *PREPARED, READY, COUNTS, *fetches("waiting"))
-        if time.monotonic() - began > 20:
-            device.report(f"{device.what}: the recording waited for them")
-    device.fetched("waiting")
+        device.records("waiting", ["--", "true"])
+        device.must(time.monotonic() - began <= 20, "the recording waited for them")
 
 
 # Two processes as the zygote forks them. One has the name of an app and waits for SIGUSR1, as those of Java do, in a
@@ -414,8 +421,7 @@ def check_garbage(device: Device) -> None:
 
         def signals(count: int) -> None:
             device.wait_until(f"signal {count}", lambda: told().count("SIGUSR1") >= count)
-            if set(told()) - {"SIGUSR1"} != {"app", "other"}:
-                device.report(f"{device.what}: a process ended: {told()}")
+            device.must(set(told()) - {"SIGUSR1"} == {"app", "other"}, f"a process ended: {told()}")
 
         device.what = "garbage at Ctrl-C"
         program = device.start("--collect", "-o", "all-collect")
@@ -426,15 +432,13 @@ def check_garbage(device: Device) -> None:
         for name, words, count in (("named", f"com.example.none,{app}", 1), ("none", app[1:], 0), ("other", other, 0)):
             device.what = f"garbage of {words}"
             began = time.monotonic()
-            device.says([f"--collect={words}", "-o", f"{name}-collects", "--", "sh", "-c", "echo a  word; exit 7"], 7,
-                        *PREPARED, READY, collected(str(count)), COUNTS, *fetches(f"{name}-collects"),
-                        said="a word")
+            device.records(f"{name}-collects", [f"--collect={words}", "--", "sh", "-c", "echo a  word; exit 7"],
+                           collected(str(count)), status=7, said="a word")
             signals(2)
-            if time.monotonic() - began < 2:
-                device.report(f"{device.what}: the recording did not go on for 2 s")
+            device.must(time.monotonic() - began >= 2, "the recording did not go on for 2 s")
         device.what = "garbage when it is fetched"
         device.says(["--detach", f"--collect={app}", "-o", "collects"], 0, *PREPARED, READY, r"record: one records, .*")
-        device.says(["--fetch", "-o", "collects"], 0, ENDING, collected("1"), COUNTS, *fetches("collects"))
+        device.fetches("collects", ENDING, collected("1"), COUNTS)
         signals(3)
     device.what = "words for garbage"
     for words in ("--collect=,", "--collect=a b", "--collect=a,,b"):
@@ -447,7 +451,6 @@ def check_garbage(device: Device) -> None:
 
 def check_two(device: Device) -> None:
     """A second command does not touch what the first one prepares."""
-    device.what = "two commands"
     with device.held("chmod"):
         first = device.start("-o", "first", "--", "true", HELD="1")
         device.wait_until_prepared()
@@ -481,22 +484,18 @@ def check_left(device: Device) -> None:
 
 def check_restarted(device: Device) -> None:
     """What was recorded before the device was started anew stays there until it is fetched."""
-    device.what = "a device that was started anew"
-    device.says(["-o", "before", "--", "true"], 0, *PREPARED, READY, COUNTS, *fetches("before"))
+    device.records("before", ["--", "true"])
     device.folder().mkdir(mode=0o700)
     for path in (device.room / "out").glob("before[-.]*"):
         path.rename(device.folder() / f"capture{path.name.removeprefix('before')}")
     device.leave_folder()
-    device.says(["-o", "more"], 1, r"record: one has a recording in \S+/binder-record already; to fetch it:"
-                r" \S+ --adb one --fetch -o more")
-    device.says(["--fetch", "-o", "restarted"], 1, *fetches("restarted"))
-    device.fetched("restarted")
+    device.says(["-o", "more"], 1, ALREADY)
+    device.fetches("restarted", status=1)
 
 
 def check_power(device: Device) -> None:
     """What a device had recorded when it lost its power may end in zeros, which are left out."""
-    device.what = "a device that lost its power"
-    device.says(["-o", "powered", "--", "true"], 0, *PREPARED, READY, COUNTS, *fetches("powered"))
+    device.records("powered", ["--", "true"])
     device.folder().mkdir(mode=0o700)
     whole = {path.name.removeprefix("powered"): path.read_bytes()
              for path in (device.room / "out").glob("powered[-.]*")}
@@ -511,8 +510,8 @@ def check_power(device: Device) -> None:
     device.fetched("lost-power")
     for ending, data in whole.items():
         came = (device.room / f"out/lost-power{ending}").read_bytes()
-        if came not in (data, *(data[:frame.place] for frame in frames_of(data)[-1:] if ending == "-1.cap")):
-            device.report(f"{device.what}: lost-power{ending} is not what was there before")
+        cut = [data[:frame.place] for frame in frames_of(data)[-1:] if ending == "-1.cap"]
+        device.must(came in (data, *cut), f"lost-power{ending} is not what was there before")
 
 
 # What a shell would take for more than a word, as the start of the files' names; and how it is told.
@@ -537,7 +536,6 @@ def check_quoted(device: Device) -> None:
 
 
 def check_interrupted(device: Device) -> None:
-    device.what = "SIGINT before the recording"
     with device.held("chmod"):
         program = device.start(HELD="1")
         device.wait_until_prepared()
@@ -547,12 +545,10 @@ def check_interrupted(device: Device) -> None:
 
 
 def check_fetched_twice(device: Device) -> None:
-    device.what = "two that fetch"
     with device.held("sha256sum"):
         first = device.start("-o", "never", HELD="1")
         device.wait_until_recording()
-        device.says(["--fetch", "-o", "taken"], 0, ENDING, COUNTS, *fetches("taken"))
-        device.fetched("taken")
+        device.fetches("taken", ENDING, COUNTS)
     device.ends(first, 1, *PREPARED, READY, BEGUN, COUNTS, FETCHING, GONE)
 
 
@@ -574,7 +570,6 @@ def check_lacking(device: Device) -> None:
 
 def check_lacking_here(device: Device) -> None:
     """bash alone has what the script itself calls."""
-    device.what = "a system that lacks something"
     few = device.room / "few"
     few.mkdir()
     for name in "bash", "readlink", "dirname":
@@ -591,9 +586,7 @@ def check_lost(device: Device) -> None:
     program = device.start("-o", "lost")
     device.wait_until_recording()
     with device.with_file("cut", ""):
-        device.ends(program, 1, *PREPARED, READY, BEGUN,
-                    r"record: the connection to one is lost \(error: device offline\); when one is back, this fetches"
-                    r" what was recorded there: \S+record --adb one --fetch -o lost")
+        device.ends(program, 1, *PREPARED, READY, BEGUN, OFFLINE.format("lost"))
     device.what = "bytes come wrong"
     with device.with_file("wrong", ""):
         device.says(["--fetch", "-o", "lost"], 1, COUNTS, FETCHING, r"record: capture\S+ of one did not come as it"
@@ -602,8 +595,7 @@ def check_lost(device: Device) -> None:
     with device.with_file("out/lost.side", ""):
         device.says(["--fetch", "-o", "lost"], 1, "record: lost.side exists already, and is not overwritten")
     device.what = "after all that"
-    device.says(["--fetch", "-o", "lost"], 0, COUNTS, *fetches("lost"))
-    device.fetched("lost")
+    device.fetches("lost", COUNTS)
 
 
 # A system whose disk is full as soon as a file is to be on it.
@@ -615,41 +607,33 @@ os.fsync = full
 
 
 def check_full(device: Device) -> None:
-    device.what = "the disk of this system is full"
     (device.room / "full").mkdir()
     with device.with_file("full/sitecustomize.py", FULL):
         device.says(["-o", "full", "--", "true"], 1, *PREPARED, READY, COUNTS, FETCHING, r"record: full-1\.cap\.part"
                     r" can't be written here: the disk of this system is full" + KEPT.format("full"),
                     PYTHONPATH=str(device.room / "full"))
-    if left := list((device.room / "out").glob("full*")):
-        device.report(f"{device.what}: {left} are left")
-    device.says(["--fetch", "-o", "full"], 0, COUNTS, *fetches("full"))
-    device.fetched("full")
+    device.must(not list((device.room / "out").glob("full*")), "files are left")
+    device.fetches("full", COUNTS)
 
 
 def check_ownerless(device: Device) -> None:
     """What a recorder of long ago left has no owner, no script and no messages. It is fetched without the shell's
     words."""
-    device.what = "a folder without an owner"
     device.folder().mkdir(mode=0o700)
     for name, text in {"capture-1.cap": "", "capture.side": "", "state": "0\n", "record": ""}.items():
         (device.folder() / name).write_text(text, "ascii")
-    device.says(["-o", "more"], 1, r"record: one has a recording in \S+/binder-record already; to fetch it:"
-                r" \S+ --adb one --fetch -o more")
+    device.says(["-o", "more"], 1, ALREADY)
     device.says(["--fetch", "-o", "ownerless"], 0, *fetches("ownerless"))
     device.left_nothing()
 
 
 def check_gone(device: Device) -> None:
-    device.what = "a recorder whose folder and adb are gone"
     program = device.start("-o", "gone")
     device.wait_until_recording()
     recorder = pathlib.Path("/proc", (device.folder() / "pid").read_text("ascii").strip())
     shutil.rmtree(device.folder())
     with device.with_file("cut", ""):
-        device.ends(program, 1, *PREPARED, READY, BEGUN,
-                    r"record: the connection to one is lost \(error: device offline\); when one is back, this fetches"
-                    r" what was recorded there: \S+record --adb one --fetch -o gone")
+        device.ends(program, 1, *PREPARED, READY, BEGUN, OFFLINE.format("gone"))
     device.wait_until("the end of the recorder", lambda: not recorder.exists())
 
 
@@ -677,7 +661,6 @@ STRANGE = ("../capture-1.cap", "capture\x1b[31m", "capture-1.capx", "capture-x.s
 
 def check_strange(device: Device) -> None:
     """A device that means harm lists files that are none."""
-    device.what = "names that no recording makes"
     digest = hashlib.sha256(b"strange\n").hexdigest()
     (device.room / "out/strange").mkdir()
     with device.with_file("names", "".join(f"8 {name}\n" for name in STRANGE)), \
@@ -691,28 +674,24 @@ def check_strange(device: Device) -> None:
                     r" 'capture\\x1b\[31m', 'capture-1\.capx', 'capture-mine', 'capture-x\.side' and 3 more",
                     *fetches("strange/"))
     device.fetched("strange/")
-    if (device.room / "stranger").exists():
-        device.report(f"{device.what}: a file was made outside of the folder")
+    device.must(not (device.room / "stranger").exists(), "a file was made outside of the folder")
 
 
 def check_devices(device: Device) -> None:
-    device.what = "which device"
-    with device.with_file("devices", ""):
-        device.says([], 1, "record: adb has no device; adb devices lists them")
-    with device.with_file("devices", "one\tdevice\ntwo\tdevice\n"):
-        device.says([], 1, "record: adb has 2 devices: one, two; name one: --adb one")
-    with device.with_file("devices", "one\tunauthorized\n"):
-        device.says([], 1, "record: one: it does not trust this computer yet: .*")
+    """Which device is recorded, and what each must have."""
+    for name, text, line in (
+            ("devices", "", "adb has no device; adb devices lists them"),
+            ("devices", "one\tdevice\ntwo\tdevice\n", "adb has 2 devices: one, two; name one: --adb one"),
+            ("devices", "one\tunauthorized\n", "one: it does not trust this computer yet: .*"),
+            ("features", "cmd\n", "one: its adbd is too old: .*"),
+            ("machine", "armv7l\n", "one is a armv7l, and the recorder is for x86_64 and aarch64 alone: .*")):
+        with device.with_file(name, text):
+            device.says([], 1, f"record: {line}")
     device.says(["two"], 1, "record: adb has no device two; it has one")
-    with device.with_file("features", "cmd\n"):
-        device.says([], 1, "record: one: its adbd is too old: .*")
-    with device.with_file("machine", "armv7l\n"):
-        device.says([], 1, "record: one is a armv7l, and the recorder is for x86_64 and aarch64 alone: .*")
     device.says([], 1, "record: one does not allow root: .*", ADB_USER="2000")
 
 
 def check_server(device: Device) -> None:
-    device.what = "a server of another version"
     with server_of_version_39() as port:
         device.says([], 1, "record: the server of adb that runs is of version 39, and adb is of version 41: .*",
                     ANDROID_ADB_SERVER_PORT=port)
@@ -724,6 +703,7 @@ def judge(_: argparse.Namespace, room: pathlib.Path, fail: Fail) -> None:
                  check_packages, check_garbage, check_two, check_left, check_restarted, check_power, check_quoted,
                  check_interrupted, check_fetched_twice, check_lacking, check_lacking_here, check_lost, check_full,
                  check_ownerless, check_gone, check_lost_early, check_strange, check_devices, check_server):
+        device.what = part.__name__
         part(device)
 
 

@@ -40,13 +40,18 @@ static u32 run_program(const struct bpf_program *played, void (*hear)(const void
 	return run.retval;
 }
 
-static void *memory(u64 bytes)
+/* Memory that is not there before it is touched. */
+static void *memory_that_is_away(u64 bytes)
 {
-	u8 *made = mmap(NULL, bytes, PROT_READ | PROT_WRITE, MAP_PRIVATE | MAP_ANONYMOUS | MAP_POPULATE, -1, 0);
+	void *made = mmap(NULL, bytes, PROT_READ | PROT_WRITE, MAP_PRIVATE | MAP_ANONYMOUS, -1, 0);
 	if (made == MAP_FAILED)
 		fail("no memory");
-	memset(made, 7, bytes);
 	return made;
+}
+
+static void *memory(u64 bytes)
+{
+	return memset(memory_that_is_away(bytes), 7, bytes);
 }
 
 static void put_record(u8 *to, u32 word, const void *data, u64 bytes)
@@ -156,9 +161,7 @@ static void run(const struct bpf_program *played)
 static void play(u8 *commands)
 {
 	for (int i = 0; i < SENDS; i++) {
-		data_of[i] = mmap(NULL, sends[i].bytes, PROT_READ | PROT_WRITE, MAP_PRIVATE | MAP_ANONYMOUS, -1, 0);
-		if (data_of[i] == MAP_FAILED)
-			fail("no memory");
+		data_of[i] = memory_that_is_away(sends[i].bytes);
 		if (sends[i].is_there)
 			memset(data_of[i], i + 1, sends[i].bytes);
 		put_record(commands + i * RECORD, BC_TRANSACTION, data_of[i], sends[i].bytes);
@@ -265,12 +268,15 @@ static void fill_small(u8 *to, u32 first_word, u32 between, u32 second_word, u8 
 	first->data.ptr.offsets = (u64)data + 50;
 }
 
-static void *memory_that_is_away(void)
+/* The message must have these commands, the piece of the first record and, if it has that, the one of the second, and no
+ * more. */
+static void need_message(u32 direction, const u8 *commands, u32 bytes, int has_second)
 {
-	void *page = mmap(NULL, 4096, PROT_READ | PROT_WRITE, MAP_PRIVATE | MAP_ANONYMOUS, -1, 0);
-	if (page == MAP_FAILED)
-		fail("no memory");
-	return page;
+	const u8 *at = need_piece(need_commands(direction, commands, bytes), direction, FIRST, first);
+	if (has_second)
+		at = need_piece(at, direction, SECOND, second);
+	if (MULTIPLE_OF_8(small_bytes) != (u64)(at - small))
+		fail("a small frame: its message has %llu bytes", (unsigned long long)small_bytes);
 }
 
 static void play_small_read(u8 *data, u8 *returns)
@@ -281,16 +287,12 @@ static void play_small_read(u8 *data, u8 *returns)
 	program->bss->returns_from = (u64)returns;
 	if (run_small(played, SMALL_END) || program->bss->attachments != 2)
 		fail("a small read is not taken");
-	const u8 *at = need_commands(DIRECTION_READ, returns, SMALL_END);
-	at = need_piece(at, DIRECTION_READ, FIRST, first);
-	at = need_piece(at, DIRECTION_READ, SECOND, second);
-	if (MULTIPLE_OF_8(small_bytes) != (u64)(at - small))
-		fail("a small read: its message has %llu bytes", (unsigned long long)small_bytes);
+	need_message(DIRECTION_READ, returns, SMALL_END, 1);
 	need_left(played, "cut in a record", SMALL_END - 1);
 	second->data_size = 1 << 14;
 	need_left(played, "with much data", SMALL_END);
 	second->data_size = 3;
-	second->data.ptr.buffer = (u64)memory_that_is_away();
+	second->data.ptr.buffer = (u64)memory_that_is_away(4096);
 	need_left(played, "with data that is not there", SMALL_END);
 	for (u32 i = 0; i < 17; i++)
 		memcpy(returns + 4 * i, &noop, 4);
@@ -308,16 +310,11 @@ static void play_small_write(u8 *data, u8 *commands)
 	fill_small(commands, BC_TRANSACTION, BC_ENTER_LOOPER, BC_REPLY, data);
 	if (run_small(played, SMALL_END) || program->bss->attachments != 2 || program->bss->bytes_looked_at != SMALL_END)
 		fail("a small write is not taken");
-	const u8 *at = need_commands(DIRECTION_WRITE, commands, SMALL_END + BEYOND_END);
-	at = need_piece(at, DIRECTION_WRITE, FIRST, first);
-	at = need_piece(at, DIRECTION_WRITE, SECOND, second);
-	second->data.ptr.buffer = (u64)memory_that_is_away();
+	need_message(DIRECTION_WRITE, commands, SMALL_END + BEYOND_END, 1);
+	second->data.ptr.buffer = (u64)memory_that_is_away(4096);
 	if (run_small(played, SMALL_END) || program->bss->attachments != 1 || program->bss->bytes_looked_at != SECOND)
 		fail("a small write without some data is not taken");
-	at = need_commands(DIRECTION_WRITE, commands, SMALL_END + BEYOND_END);
-	at = need_piece(at, DIRECTION_WRITE, FIRST, first);
-	if (MULTIPLE_OF_8(small_bytes) != (u64)(at - small))
-		fail("a small write: its message has %llu bytes", (unsigned long long)small_bytes);
+	need_message(DIRECTION_WRITE, commands, SMALL_END + BEYOND_END, 0);
 	if (run_small(played, SECOND + 5) || program->bss->bytes_looked_at != SECOND || run_small(played, 512))
 		fail("a small write whose last command is cut is not taken");
 	need_commands(DIRECTION_WRITE, commands, 512 + BEYOND_END);

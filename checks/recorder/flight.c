@@ -138,7 +138,6 @@ void made_stop(void)
 enum { SLEPT = 1000 };		/* seconds */
 
 int __real_clock_gettime(clockid_t clock, struct timespec *time);
-int __wrap_clock_gettime(clockid_t clock, struct timespec *time);
 
 /* With FAILURES in the environment no time passes. So the log of failed transactions is looked at when the recorder
  * begins and when it ends, and never between, be the machine ever so busy. */

@@ -17,6 +17,7 @@ import pathlib
 import subprocess
 import sys
 import time
+from typing import Iterator
 
 from checks.kit.checking import Fail, check, compare
 from checks.recorder.guest import boot, image, kept, kernels
@@ -107,6 +108,20 @@ def check_starved(room: pathlib.Path, fail: Fail) -> None:
     compare("one that waits for a processor", came, "None", fail)
 
 
+class Ending(Program):
+    """One whose threads end: first one of two, then both."""
+    left: list[list[str]] = [["7000000000 0 1", "1000000000 0 1"], ["1000000000 0 1"], []]
+
+    def threads(self, file: str) -> Iterator[str]:
+        return iter(self.left.pop(0))
+
+
+def check_ending(room: pathlib.Path, fail: Fail) -> None:
+    ending = Ending(room, "pass")
+    compare("what one that ends has had of a processor", [ending.used() for _ in range(3)], [8.0, 8.0, 8.0], fail)
+    ending.process.wait()
+
+
 def check_told(room: pathlib.Path, fail: Fail) -> None:
     said: list[str] = []
     boot.say = said.append
@@ -120,7 +135,7 @@ def check_told(room: pathlib.Path, fail: Fail) -> None:
 
 
 def judge(_: argparse.Namespace, room: pathlib.Path, fail: Fail) -> None:
-    for one in (check_image, check_kept, check_unpacked, check_silence, check_starved, check_told):
+    for one in (check_image, check_kept, check_unpacked, check_silence, check_starved, check_ending, check_told):
         one(room, fail)
 
 

@@ -10,7 +10,6 @@
 #include "names.h"
 #include "parts.h"
 #include "redact.h"
-#include "side.h"
 #include "slice.h"
 #include "window.h"
 #include <malloc.h>
@@ -39,7 +38,6 @@ enum {
 
 static u64 last;			/* the number that was taken last */
 static u32 steps;			/* of this slice */
-static char *list;			/* the newest side list */
 
 /* In place of those of the loader, which look at the clock. */
 void slice_begin(void) { steps = 0; }
@@ -81,32 +79,17 @@ static void hear_return(void)
 	hear_frame(DIRECTION_READ, HOST, 0);
 }
 
-static void read_list(void)
-{
-	u64 bytes;
-	parts_flush();
-	free(list);
-	list = whole_file(side_path(), &bytes);
-}
-
 /* The host reads on until the next file is begun, and its side list has its first lines. */
 static void fill_file(void)
 {
 	for (u32 before = parts_count(); parts_count() == before; settle())
 		hear_return();
-	read_list();
-}
-
-static int times(const char *text)
-{
-	return times_in(list, text);
+	read_side_list();
 }
 
 static void open_process(u32 opening, enum met met)
 {
-	static const char name[NAME_BYTES] = "caller";
-	names_opening(opening, now(), 0, 1000 + opening, 1, name, met);
-	names_thread(opening, 1000 + opening, 1000 + opening, 1, name);
+	made_process(opening, 1000 + opening, 1, "caller", met);
 }
 
 /* Each file but the newest one has as many frames as one without any first lines. */
@@ -180,7 +163,7 @@ static void refused_sends(void)
 	char line[64];
 	should(left_of_send(MUCH, BR_FAILED_REPLY) == 0, "much data of a send that was refused", MUCH);
 	snprintf(line, sizeof line, " unattached %llu at=0 why=refused\n", (unsigned long long)last - 1);
-	read_list();
+	read_side_list();
 	should(times(line) == 1, "lines of a send that was refused", times(" unattached "));
 	should(left_of_send(MUCH, BR_DEAD_REPLY) == 0, "much data of a send to a process that is dead", MUCH);
 	should(left_of_send(4096, BR_FAILED_REPLY) == 4096, "little data of a send that was refused", 4096);
@@ -226,7 +209,7 @@ static void many_openings(void)
 	hear_handles(late, 1, 1);
 	int looks = settle();
 	should(looks + 2 > OPENINGS / SLICE && looks < 4 * OPENINGS / SLICE, "looks at the ring during the first lines", looks);
-	read_list();
+	read_side_list();
 	snprintf(line, sizeof line, "process 0 %u ", 1000 + late);
 	char *came = strstr(list, line), *file = strstr(list, " file ");
 	should(times(" met opening=") == OPENINGS, "openings that are told", times(" met opening="));
@@ -235,7 +218,6 @@ static void many_openings(void)
 }
 
 /* In place of the one of the loader: this process lets its reader wait. */
-u64 __wrap_process_read(u32 process, u64 start, const char *name, char *text, u64 room);
 u64 __wrap_process_read(u32 process, u64 start, const char *name, char *text, u64 room)
 {
 	(void)start, (void)name, (void)text, (void)room;
@@ -254,11 +236,11 @@ static void a_silent_process(void)
 	name_handles(SILENT, 1, 1);
 	names_look();
 	should(now() - began < 500000000u, "seconds for a process that is silent", (double)(now() - began) / 1e9);
-	read_list();
+	read_side_list();
 	should(times(" uid=10123 ") == 0, "command lines before the end", times(" uid=10123 "));
 	names_end();
 	should(now() - began < 3000000000u, "seconds for the end", (double)(now() - began) / 1e9);
-	read_list();
+	read_side_list();
 	should(times(" uid=10123 name=\n") == 1, "a command line that nobody can read", times(" uid=10123 "));
 }
 

@@ -181,9 +181,7 @@ long ring_drain(struct ring *ring, hearer *to)
 /* ---- the time: each look is a twentieth of a second later */
 
 int __real_clock_gettime(clockid_t clock, struct timespec *time);
-int __wrap_clock_gettime(clockid_t clock, struct timespec *time);
 int __real_nanosleep(const struct timespec *time, struct timespec *left);
-int __wrap_nanosleep(const struct timespec *time, struct timespec *left);
 
 int __wrap_clock_gettime(clockid_t clock, struct timespec *time)
 {
@@ -270,11 +268,9 @@ static int count_call(void)
 }
 
 int __real_mkdir(const char *path, mode_t mode);
-int __wrap_mkdir(const char *path, mode_t mode);
 int __wrap_mkdir(const char *path, mode_t mode) { return count_call() ? -1 : __real_mkdir(path, mode); }
 
 int __real_linkat(int from, const char *old, int to, const char *name, int flags);
-int __wrap_linkat(int from, const char *old, int to, const char *name, int flags);
 int __wrap_linkat(int from, const char *old, int to, const char *name, int flags)
 {
 	if (count_call())
@@ -284,14 +280,12 @@ int __wrap_linkat(int from, const char *old, int to, const char *name, int flags
 }
 
 ssize_t __real_write(int to, const void *bytes, size_t count);
-ssize_t __wrap_write(int to, const void *bytes, size_t count);
 ssize_t __wrap_write(int to, const void *bytes, size_t count)
 {
 	return count_call() ? -1 : __real_write(to, bytes, count);
 }
 
 int __real_fsync(int file);
-int __wrap_fsync(int file);
 int __wrap_fsync(int file)
 {
 	struct stat status;
@@ -303,11 +297,9 @@ int __wrap_fsync(int file)
 }
 
 int __real_rename(const char *from, const char *to);
-int __wrap_rename(const char *from, const char *to);
 int __wrap_rename(const char *from, const char *to) { return count_call() ? -1 : __real_rename(from, to); }
 
 int __real_fstatvfs(int file, struct statvfs *space);
-int __wrap_fstatvfs(int file, struct statvfs *space);
 int __wrap_fstatvfs(int file, struct statvfs *space)
 {
 	int status = __real_fstatvfs(file, space);

@@ -2,6 +2,8 @@
 #define _GNU_SOURCE
 #include "kit.h"
 #include "common.h"
+#include "parts.h"
+#include "side.h"
 #include "window.h"
 #include <errno.h>
 #include <linux/bpf.h>
@@ -13,6 +15,7 @@
 #include <unistd.h>
 
 int failed;
+char *list;
 
 void should(int is_so, const char *what, double value)
 {
@@ -73,8 +76,16 @@ u64 own_start(void)
 	return ticks * (1000000000u / (u64)sysconf(_SC_CLK_TCK));
 }
 
+void read_side_list(void)
+{
+	u64 bytes;
+	parts_flush();
+	free(list);
+	list = whole_file(side_path(), &bytes);
+}
+
 /* With the sanitizers strstr looks at the whole rest each time. */
-int times_in(const char *list, const char *text)
+int times(const char *text)
 {
 	int found = 0;
 	for (const char *at = list; *at; at++) {

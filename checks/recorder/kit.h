@@ -13,7 +13,11 @@ u64 own_start(void);			/* when this process began, as the kernel counts it */
 
 void *all_of(FILE *, u64 *bytes);	/* what is left of a file, and a NUL behind it */
 void *whole_file(const char *path, u64 *bytes);
-int times_in(const char *list, const char *text);	/* how often the list has the text */
+
+/* The newest side list, as it was when it was read last. */
+extern char *list;
+void read_side_list(void);			/* with all that was told by now */
+int times(const char *text);		/* how often it has the text */
 
 /* A ring that no program in the kernel fills. It begins anew each time that it is empty. */
 struct made_ring {

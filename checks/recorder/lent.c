@@ -83,20 +83,16 @@ static void put_pieces(const struct made_frame *made, u32 from, u32 to)
 	}
 }
 
+static void put(const void *message, u64 bytes)
+{
+	made_ring_put(&ring, message, bytes, NULL, 0);
+}
+
 static void put_commands(const struct made_frame *made)
 {
-	struct {
-		struct chunk chunk;
-		u8 bytes[RECORD];
-	} message = { .chunk = { .head = head(made, MESSAGE_CHUNK), .commands = RECORD } };
-	int is_write = made->direction == DIRECTION_WRITE;
-	u32 word = is_write ? BC_TRANSACTION : BR_TRANSACTION;
-	struct binder_transaction_data record = { .flags = one_of(4) ? 0 : TF_CLEAR_BUF, .data_size = made->data,
-						  .offsets_size = made->offsets };
-	message.chunk.next = is_write ? RECORD : 0;
-	memcpy(message.bytes, &word, sizeof word);
-	memcpy(message.bytes + sizeof word, &record, sizeof record);
-	made_ring_put(&ring, &message.chunk, sizeof message.chunk, message.bytes, RECORD);
+	made_send(made->direction == DIRECTION_WRITE ? BC_TRANSACTION : BR_TRANSACTION, (struct binder_transaction_data){
+		.flags = one_of(4) ? 0 : TF_CLEAR_BUF, .data_size = made->data, .offsets_size = made->offsets });
+	made_begun(put, head(made, MESSAGE_CHUNK), NULL, 0);
 }
 
 /* What the ring had is overwritten, as the kernel does once its room was given back. */
@@ -113,10 +109,8 @@ static void look(void)
 
 static void end_write(u32 thread)
 {
-	struct event event = { .head = head_of(MESSAGE_WRITTEN, DIRECTION_WRITE, waiting[thread], 1, thread),
-			       .written = { RECORD } };
 	if (waiting[thread])
-		made_ring_put(&ring, &event, sizeof event, NULL, 0);
+		made_written(put, head_of(MESSAGE_WRITTEN, DIRECTION_WRITE, waiting[thread], 1, thread), RECORD);
 	waiting[thread] = 0;
 }
 

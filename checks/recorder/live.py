@@ -83,7 +83,10 @@ class Terminal:
                 return shown
             time.sleep(0.2)
 
-    def close(self) -> None:
+    def __enter__(self) -> "Terminal":
+        return self
+
+    def __exit__(self, *_: object) -> None:
         self.tmux("kill-server")
 
 
@@ -109,10 +112,13 @@ class Stage:
                             for key in ("ADB_ROOM", "PATH", "ANDROID_ADB_SERVER_PORT")}
         return Terminal(self.room, width, height, self.words(name, *words), environment)
 
-    def must_show(self, what: str, shown: str, *patterns: str) -> None:
+    def must_show(self, what: str, terminal: Terminal, *patterns: str) -> str:
+        """What is shown when a line of it fits each pattern."""
+        shown = terminal.wait_for(*patterns)
         for pattern in patterns:
             if not re.search(pattern, shown, re.MULTILINE):
                 self.fail(f"{what}: nothing fits {pattern!r} in\n{shown}")
+        return shown
 
     def must_fit(self, what: str, shown: str, width: int, height: int) -> None:
         """Nothing is wider or higher than the screen, and no sign is strange: the keys are in the last line."""
@@ -140,77 +146,62 @@ NARROW = (r"^ *\d+\.\d  com\.exa\S* 2000  ICamera\.open +camerase\S* 3001 +answe
 
 def check_hang(stage: Stage) -> None:
     """Wide, narrow, very small and wide again: the whole of what hangs, with a quit at the end."""
-    terminal = stage.terminal("hang", "hang", 200, 40, "--live", "--methods", f"{stage.room}/methods")
-    try:
-        shown = terminal.wait_for(*HUNG)
-        stage.must_show("a hang at 200 columns", shown, *HUNG, r"^\d\d:\d\d:\d\d UTC  \d+ calls  \d+ oneways a second"
-                        "  0 lost")
+    with stage.terminal("hang", "hang", 200, 40, "--live", "--methods", f"{stage.room}/methods") as terminal:
+        shown = stage.must_show("a hang at 200 columns", terminal, *HUNG, r"^\d\d:\d\d:\d\d UTC  \d+ calls  \d+ oneways"
+                                " a second  0 lost")
         stage.must_fit("a hang at 200 columns", shown, 200, 40)
         for width, height in (80, 24), (20, 6), (80, 24):
             terminal.resize(width, height)
-            shown = terminal.wait_for("^s sort", *(NARROW if width == 80 else ()))
+            stage.must_show(f"a hang at {width} columns", terminal, "^s sort", *(NARROW if width == 80 else ()))
             time.sleep(0.5)
             stage.must_fit(f"a hang at {width} columns", terminal.shown(), width, height)
-            stage.must_show(f"a hang at {width} columns", shown, *(NARROW if width == 80 else ()))
         terminal.press("k")
-        stage.must_show("a key", terminal.wait_for("can be kept$"), r"only what --files records can be kept$")
+        stage.must_show("a key", terminal, r"only what --files records can be kept$")
         terminal.resize(200, 40)
-        stage.must_show("a hang at 200 columns again", terminal.wait_for(*HUNG), *HUNG)
+        stage.must_show("a hang at 200 columns again", terminal, *HUNG)
         terminal.press("q")
-        shown = terminal.wait_for("^ended with")
-        stage.must_show("after a quit", shown, r"^record: \d+ frames, 0 lost; 1 file, \d+ bytes; next: ",
-                        "^ended with 0$")
+        shown = stage.must_show("after a quit", terminal, r"^record: \d+ frames, 0 lost; 1 file, \d+ bytes; next: ",
+                                "^ended with 0$")
         if "sort" in shown:
             stage.fail(f"after a quit the table is still there:\n{shown}")
-    finally:
-        terminal.close()
 
 
 def check_flood(stage: Stage) -> None:
     """As many rows as have room, in the order that is asked for, and those that are asked for."""
-    terminal = stage.terminal("flood", "flood", 80, 24, "--live")
-    try:
-        shown = terminal.wait_for(r"^calls and oneways by calls \(20 of 61\)$")
-        stage.must_show("a flood", shown, r"^calls and oneways by calls \(20 of 61\)$",
-                        r"^ +\d+ +[\d,]+  caller-00 7000  flooded 6000  IFlood code 20 \(oneway\)$")
+    with stage.terminal("flood", "flood", 80, 24, "--live") as terminal:
+        shown = stage.must_show("a flood", terminal, r"^calls and oneways by calls \(20 of 61\)$",
+                                r"^ +\d+ +[\d,]+  caller-00 7000  flooded 6000  IFlood code 20 \(oneway\)$")
         stage.must_fit("a flood", shown, 80, 24)
         found = re.search(r"UTC  ([\d,]+) calls", shown)
         if not found or int(found[1].replace(",", "")) < 100:
             stage.fail(f"a flood has few calls:\n{shown}")
         terminal.press("s", "s", "s", "s")
-        stage.must_show("a flood, sorted", terminal.wait_for("by method"), r"^calls and oneways by method \(",
+        stage.must_show("a flood, sorted", terminal, r"^calls and oneways by method \(",
                         r"\n +\d+ +[\d,]+  caller-00 7000  flooded 6000  IFlood code 1\n +\d+ +[\d,]+  caller-07")
         terminal.press("/", "-", "4", "2", "Enter")
-        stage.must_show("a flood, filtered", terminal.wait_for("filter: -42$", r"^calls and oneways by method$"),
-                        r"q quit  filter: -42$",
+        stage.must_show("a flood, filtered", terminal, r"q quit  filter: -42$",
                         r"^calls and oneways by method\n.*\n +\d+ +[\d,]+  caller-42 7042  flooded 6000  IFlood"
                         r" code 1\n\n")
         terminal.press("/", "Escape")
         terminal.wait_for("by method \\(")
         terminal.press("C-c")
-        stage.must_show("after Ctrl-C", terminal.wait_for("^ended with"), "^ended with 0$",
-                        r"^record: \d+ frames, 0 lost")
-    finally:
-        terminal.close()
+        stage.must_show("after Ctrl-C", terminal, "^ended with 0$", r"^record: \d+ frames, 0 lost")
 
 
 def check_hostile(stage: Stage) -> None:
     """Names that would clear the screen, color it, turn it or take it all."""
     for width in 80, 200:
-        terminal = stage.terminal(f"hostile-{width}", "hang,hostile,disturbs", width, 30, "--live")
-        try:
-            shown = terminal.wait_for(r"IHostile code 1$", "IHostile code 2")
+        with stage.terminal(f"hostile-{width}", "hang,hostile,disturbs", width, 30, "--live") as terminal:
+            shown = stage.must_show(f"hostile names at {width}", terminal,
+                                    r"^ +\d+\.\d  \\x1b\[.*…\S* 400\d .*IHostile",
+                                    r"^ +\d+ +\d+  \\x1b\[31\S*…\S* 4000 +\\x1b\[31\S*…\S* 4000 +IHostile code 1$",
+                                    "IHostile code 2", "cameraserver 3000$")
             stage.must_fit(f"hostile names at {width}", shown, width, 30)
-            stage.must_show(f"hostile names at {width}", shown, r"^ +\d+\.\d  \\x1b\[.*…\S* 400\d .*IHostile",
-                            r"^ +\d+ +\d+  \\x1b\[31\S*…\S* 4000 +\\x1b\[31\S*…\S* 4000 +IHostile code 1$",
-                            "cameraserver 3000$")
             title = terminal.tmux("display-message", "-p", "#{pane_title}")
             if title.rstrip("\n") == "no":
                 stage.fail(f"a name has set the title: {title!r}")
             terminal.press("q")
             terminal.wait_for("^ended with")
-        finally:
-            terminal.close()
 
 
 # ---- through a pipe
@@ -293,18 +284,13 @@ def check_adb_piped(stage: Stage) -> None:
 
 
 def check_adb(stage: Stage) -> None:
-    terminal = stage.terminal("phone", "hang", 200, 40, "--adb", "--live", "--methods", f"{stage.room}/methods")
-    try:
-        shown = terminal.wait_for(*HUNG)
-        stage.must_show("over adb", shown, *HUNG)
-        stage.must_fit("over adb", shown, 200, 40)
+    words = "--adb", "--live", "--methods", f"{stage.room}/methods"
+    with stage.terminal("phone", "hang", 200, 40, *words) as terminal:
+        stage.must_fit("over adb", stage.must_show("over adb", terminal, *HUNG), 200, 40)
         terminal.press("q")
-        shown = terminal.wait_for("^ended with")
-        stage.must_show("after a quit over adb", shown, "^ended with 0$", "^record: ending the recording on one$",
+        stage.must_show("after a quit over adb", terminal, "^ended with 0$", "^record: ending the recording on one$",
                         r"^record: \d+ frames, 0 lost; 1 file, \d+ bytes$", "^record: fetching 8 files, ",
                         "^record: 8 files, .* fetched from one; next: ")
-    finally:
-        terminal.close()
     stage.device.what = "live over adb"
     stage.device.left_nothing()
 

@@ -160,27 +160,21 @@ static void wait_for_lines(void)
 		usleep(1000);
 		names_look();
 	}
-	parts_flush();
 }
 
 /* Whether the side list has this line, after its time. */
 static int has_line(const char *line)
 {
-	u64 bytes;
-	char *text = whole_file(side_path(), &bytes);
-	int found = strstr(text, line) != NULL;
-	free(text);
-	return found;
+	read_side_list();
+	return strstr(list, line) != NULL;
 }
 
 /* Whether the side list ends with this. */
 static int is_last_line(const char *line)
 {
-	u64 bytes, length = strlen(line);
-	char *text = whole_file(side_path(), &bytes);
-	int is_last = bytes > length && !strcmp(text + bytes - length, line);
-	free(text);
-	return is_last;
+	read_side_list();
+	u64 bytes = strlen(list), length = strlen(line);
+	return bytes > length && !strcmp(list + bytes - length, line);
 }
 
 /* What is kept of a command line if payloads are redacted: what the program is called. */
@@ -190,7 +184,6 @@ static void redacted_command(const char *text, const char *due)
 	u32 bytes = (u32)strlen(text) + 1;
 	hear_command(1, "another", 7, 7);
 	hear_command(1, text, bytes < COMMAND_BYTES ? bytes : COMMAND_BYTES, bytes);
-	parts_flush();
 	snprintf(line, sizeof line, " uid=10123 name=%s\n", due);
 	should(is_last_line(line), text, (double)bytes);
 }
@@ -201,7 +194,6 @@ static void redacted_commands(void)
 	char longest[COMMAND_BYTES + 32] = "/";
 	memset(longest + 1, 'a', COMMAND_BYTES);
 	hear_command(1, "first\0SECRET", 12, 12);
-	parts_flush();
 	should(has_line(" uid=10123 name=first\n"), "what is kept of a command line", 0);
 	redacted_command("postgres: alice SECRET 10.0.0.5 SELECT", "postgres:");
 	redacted_command("title:\tSECRET", "title:");
@@ -231,8 +223,7 @@ static void own_line(char *line, int is_redacted)
 /* A process with this id that began at this time calls through a new opening. */
 static void open_process(u32 opening, u32 process, u64 start)
 {
-	names_opening(opening, now(), 0, process, start, "reader\0\0\0\0\0\0\0\0\0", MET_FROM_START);
-	names_thread(opening, process, process, start, "reader\0\0\0\0\0\0\0\0\0");
+	made_process(opening, process, start, "reader", MET_FROM_START);
 	names_of(opening, opening, now());
 }
 
@@ -269,11 +260,9 @@ static void command_lines(void)
 	strcat(due, "\n");
 	hear_command(1, "a\n \\\0b\0\0", 8, 8);
 	hear_command(1, "a\n \\\0b", 6, 6);
-	parts_flush();
 	should(has_line(due), "the longest command line", (double)strlen(due));
 	should(has_line(" uid=10123 name=a\\x0a \\x5c\\x00b\n"), "a command line with NULs", 0);
 	hear_command(1, "\xc3\x85\xc2\x85\xc2\xa0\xc2", 7, 7);
-	parts_flush();
 	should(has_line(" uid=10123 name=\xc3\x85\\x85\xc2\xa0\xc2\n"), "a command line with control characters of UTF-8", 0);
 	should(!has_line("name=a\\x0a \\x5c\\x00b\\x00"), "NULs at the end of a command line", 0);
 	lines_of_processes(5, 0);
@@ -309,7 +298,6 @@ static void hear_read(struct message head)
 {
 	made_begun(window_hear, head, NULL, 0);
 	window_settle();
-	parts_flush();
 }
 
 static void hear_failure(u32 opening)
@@ -334,13 +322,11 @@ static void hear_object(u32 opening, u32 type, u64 offset)
 static int looks(const char *why)
 {
 	char word[32];
-	u64 bytes;
-	char *text = whole_file(side_path(), &bytes), *line = strstr(text, " descriptors ");
 	int count = 0;
+	read_side_list();
 	snprintf(word, sizeof word, " why=%s\n", why);
-	for (; line; line = strstr(line + 1, " descriptors "))
+	for (char *line = strstr(list, " descriptors "); line; line = strstr(line + 1, " descriptors "))
 		count += !*why || !strncmp(strchr(line, '\n') - strlen(word) + 1, word, strlen(word));
-	free(text);
 	return count;
 }
 
@@ -369,12 +355,8 @@ static int has_look(const char *why)
  * whatever their objects and offsets are, and none at what has ended. */
 static void received_descriptors(void)
 {
-	static const char name[NAME_BYTES] = "receiver";
-	u32 own = (u32)getpid();
-	names_opening(RECEIVER, now(), 0, own, own_start(), name, MET_FROM_START);
-	names_thread(RECEIVER, own, own, own_start(), name);
-	made_opening(GONE, own + 1, "gone");
-	made_thread(GONE, own + 1, own + 1, "gone");
+	made_process(RECEIVER, (u32)getpid(), own_start(), "receiver", MET_FROM_START);
+	made_process(GONE, (u32)getpid() + 1, 1, "gone", MET_FROM_START);
 	u64 at = sizeof(struct flat_binder_object);
 	hear_object(RECEIVER, BINDER_TYPE_BINDER, at);
 	hear_object(RECEIVER, BINDER_TYPE_FD, 2 * at - 3);
@@ -397,17 +379,14 @@ static void received_descriptors(void)
 	descriptors_look();
 	should(looks("end") == 0, "looks of the end before all is written", looks("end"));
 	descriptors_tell();
-	parts_flush();
 	should(has_look("end"), "what is open at the end", open_here());
 	descriptors_tell_again();
-	parts_flush();
 	should(looks("first") == 2, "first looks, of two files", looks("first"));
 	names_closed(RECEIVER, now(), last);
 	names_settled(last + 1);
 	descriptors_look();
 	descriptors_tell();
 	descriptors_tell_again();
-	parts_flush();
 	should(looks("") == 4, "looks, with none at what has ended", looks(""));
 	close(more[1]);
 	close(more[2]);
@@ -417,9 +396,9 @@ static void received_descriptors(void)
  * much later than the one before it; the time of the first one is 0. */
 static u64 read_back(u64 first, u64 later)
 {
-	u64 bytes, next = first;
-	char *text = whole_file(side_path(), &bytes);
-	for (char *line = text, *at; line; line = strchr(line + 1, '\n')) {
+	u64 next = first;
+	read_side_list();
+	for (char *line = list, *at; line; line = strchr(line + 1, '\n')) {
 		u64 time = strtoull(line, &at, 10);
 		if (strncmp(at, " frames ", 8) || strtoull(at + 8, &at, 10) != next)
 			continue;
@@ -429,19 +408,17 @@ static u64 read_back(u64 first, u64 later)
 				break;
 		}
 	}
-	free(text);
 	return next - first;
 }
 
 /* How many bytes the longest line of frames has, with its end. */
 static u64 longest_line(void)
 {
-	u64 bytes, longest = 0;
-	char *text = whole_file(side_path(), &bytes);
-	for (char *line = strtok(text, "\n"); line; line = strtok(NULL, "\n"))
+	u64 longest = 0;
+	read_side_list();
+	for (char *line = strtok(list, "\n"); line; line = strtok(NULL, "\n"))
 		if (strstr(line, " frames ") && strlen(line) + 1 > longest)
 			longest = strlen(line) + 1;
-	free(text);
 	return longest;
 }
 

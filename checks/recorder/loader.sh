@@ -24,17 +24,26 @@ here=$(dirname -- "$(readlink -f -- "${BASH_SOURCE[0]}")")
 room=$(mktemp -d -t checks-loader.XXXXXX)
 trap 'rm -rf -- "$room"' EXIT
 
+failed=0
+says() { # WHAT DUE CAME: what came fits a pattern
+  if [[ ! $3 =~ ^$2$ ]]; then
+    printf 'checks/loader: %s: expected %s, came %s\n' "$1" "$2" "$3" && failed=1
+  fi
+}
+
+is() { # WHAT DUE CAME
+  if [[ $3 != "$2" ]]; then
+    printf 'checks/loader: %s: expected %s, came %s\n' "$1" "$2" "$3" && failed=1
+  fi
+}
+
 # Checks what side lists say of the driver's books and of the end, and that each copy has the length that they name.
 tells() { # OUT DUE SIDE..
   local told name size
   told=$(sed -nE 's/^[0-9]+ (books|end) ([a-z]+)( [a-z]+)? .*/\2\3/p' "${@:3}" | paste -sd ,)
-  if [[ $told != "$2" ]]; then
-    printf 'checks/loader: expected %s, came %s\n' "$2" "$told" && failed=1
-  fi
+  is "what the side lists of $1 tell" "$2" "$told"
   while read -r name size; do
-    if [[ $(stat -c %s -- "$1.$name") != "$size" ]]; then
-      printf 'checks/loader: %s has not %s bytes\n' "$1.$name" "$size" && failed=1
-    fi
+    is "the bytes of $1.$name" "$size" "$(stat -c %s -- "$1.$name")"
   done < <(sed -nE 's/^[0-9]+ books ([a-z]+) ([a-z]+) .* bytes=([0-9]+)$/\1.\2 \3/p' "${@:3}")
 }
 
@@ -53,9 +62,7 @@ ends_at_once() { # SIDE
       last = $3; if ($1 > latest) latest = $1 }
     $2 == "end" || $2 == "lost" { time = $1; sub(/^[0-9]+ /, ""); print }
     END { print "frame", last, (latest > time ? "late" : "in time") }')
-  if [[ $told != "$due" ]]; then
-    printf 'checks/loader: the end of a recording: %s\n' "$told" && failed=1
-  fi
+  is 'the end of a recording' "$due" "$told"
 }
 
 # Checks by how many seconds CLOCK_BOOTTIME and the wall clock went further than CLOCK_MONOTONIC, at each line `clocks`.
@@ -65,12 +72,9 @@ sleeps() { # DUE SIDE
     awk 'function seconds(time) { return int(time / 1e9 + (time < 0 ? -0.5 : 0.5)) }
       $1 == "begin" { wall = $3 - $2; boot = $4 - $2; next }
       { printf "%s%d %d", comma, seconds($3 - $2 - wall), seconds($4 - $2 - boot); comma = "," }')
-  if [[ $told != "$1" ]]; then
-    printf 'checks/loader: %s: what the clocks show: expected %s, came %s\n' "${2##*/}" "$1" "$told" && failed=1
-  fi
+  is "${2##*/}: what the clocks show" "$1" "$told"
 }
 
-failed=0
 "$here/build.sh" loader "$room"
 "$room/loader" "$room/out" || failed=1
 
@@ -96,9 +100,7 @@ done
 ends='pid,end state,end transactions,end stats,recording'
 "$room/flight" -o "$room/whole" 2>/dev/null
 told=$(cd -- "$room" && ./flight -o -dash 2>&1)
-if [[ $told != *'next: ./audit report ./-dash-1.cap' ]]; then
-  printf 'checks/loader: of files whose names begin with a dash: %s\n' "$told" && failed=1
-fi
+says 'of files whose names begin with a dash' '.*next: ./audit report ./-dash-1.cap' "$told"
 tells "$room/whole" "begin state,begin transactions,begin stats,$ends" "$room/whole.side"
 ends_at_once "$room/whole.side"
 sleeps '1000 1000,1000 1000' "$room/whole.side"
@@ -106,16 +108,13 @@ SET_BACK=1 "$room/flight" -o "$room/set" 2>/dev/null
 sleeps '-1000 0,-1000 0' "$room/set.side"
 "$room/flight" -o "$room/kept" --size 65536 --files 2 2>"$room/told"
 lists=("$room"/kept-*.side)
-if [[ ${#lists[@]} != 2 || -e $room/kept-1.side ]]; then
-  printf 'checks/loader: a flight recorder kept %s: %s\n' "${lists[*]}" "$(<"$room/told")" && failed=1
-fi
+says "a flight recorder keeps, and says $(<"$room/told")" '[^ ]*kept-[2-9].side [^ ]*kept-[2-9].side' "${lists[*]}"
 tells "$room/kept" "$ends" "${lists[@]}"
 sleeps '1000 1000' "${lists[0]}"
 sleeps '1000 1000,1000 1000' "${lists[1]}"
 told=$(for list in "${lists[@]}"; do sed -n '/ file [0-9]*$/,$d; / missed /p' "$list"; done | uniq -c)
-if [[ ! $told =~ ^\ *2\ [0-9]+\ missed\ 3\ what=events\ from=2\ after=103$ ]]; then
-  printf 'checks/loader: before their files two side lists say that this was missed: %s\n' "$told" && failed=1
-fi
+says 'what two side lists say before their files of what was missed' ' *2 [0-9]+ missed 3 what=events from=2 after=103' \
+  "$told"
 
 # Of the log of failed transactions all is told that was not there at the beginning, but not what the driver has only
 # begun to write; and if the log has all of its entries since then, that there may have been others.
@@ -123,9 +122,7 @@ fails() { # FAILURES DUE
   local told
   FAILURES=$1 "$room/flight" -o "$room/failed-$1" 2>/dev/null
   told=$(sed -nE 's/^[0-9]+ ((failed|overrun) .*)/\1/p' "$room/failed-$1.side" | sed -E '3,$!b; $!d')
-  if [[ $told != "$2" ]]; then
-    printf 'checks/loader: of %s failures: %s\n' "$1" "$told" && failed=1
-  fi
+  is "of $1 failures" "$2" "$told"
 }
 of='to=8 handle=3 data=40 offsets=8 answer=29201 errno=28 from=0 after=103 name=a node 5\x5cb'
 fails 2 ''
@@ -139,9 +136,7 @@ narrowed() { # OUT DUE WORD..: the recorder with these words
   "$room/flight" -o "$room/$1" "${@:3}" 2>/dev/null
   told=$(for list in "$room/$1"*.side; do sed -nE 's/^[0-9]+ begin .* payloads=(.*) drivers=.*/\1/p' "$list"; done |
     uniq -c)
-  if [[ ! $told =~ ^\ *$2$ ]]; then
-    printf 'checks/loader: what alone is recorded: %s\n' "$told" && failed=1
-  fi
+  says 'what alone is recorded' " *$2" "$told"
 }
 narrowed all-of-it '1 whole'
 narrowed part '2 none narrowed=pid:412,pid:7,only:my\\x20app\\x2cx\\x5c,only:10123,device:binder' --pid 412 --pid 7 \
@@ -157,9 +152,7 @@ due='missed 5 what=calls-without-number,holder openings=1024 name=flight,holder 
 for list in "$room/crowd.side" "$room"/crowds-*.side; do
   told=$(sed -nE 's/^[0-9]+ (missed 5 what=calls-without-number) .*/\1/p; s/^[0-9]+ (holder) pid=[0-9]+/\1/p' "$list" |
     head -n 3 | paste -sd ,)
-  if [[ $told != "$due" ]]; then
-    printf 'checks/loader: %s: who has the most openings: %s\n' "${list##*/}" "$told" && failed=1
-  fi
+  is "${list##*/}: who has the most openings" "$due" "$told"
 done
 
 # The names that somebody makes meanwhile are OUT-2.cap, OUT-3.side and OUT.end.state. The last one has its name from
@@ -168,12 +161,8 @@ planted() { # OUT DUE WORD..: the recorder with these words, whose standard erro
   local told
   PLANTED="$1-2.cap $1-3.side $1.end.state" "$room/flight" -o "$1" --size 65536 "${@:3}" 2>"$room/told"
   told=$(sed "s|$room/||g; s|next: [^ ]*|next:|" "$room/told")
-  if [[ ! $told =~ ^$2$ ]]; then
-    printf 'checks/loader: with names that others have made, the recorder says: %s\n' "$told" && failed=1
-  fi
-  if [[ $(cat -- "$1-2.cap" "$1-3.side") != plantedplanted ]]; then
-    printf 'checks/loader: %s: a file of somebody else was changed\n' "${1##*/}" && failed=1
-  fi
+  says 'with names that others have made, the recorder says' "$2" "$told"
+  is "${1##*/}: files of somebody else" plantedplanted "$(cat -- "$1-2.cap" "$1-3.side")"
 }
 passed='record: OUT-2.cap exists already, and is not overwritten: the next file is OUT-'
 planted "$room/all" "${passed//OUT/all}3.cap"$'\n''record: 103 frames,.* next: report all-1.cap all-\{3..8\}.cap'

@@ -21,7 +21,6 @@ static u64 end_number;
 /* ---- its books: the text of a book is its name */
 
 int __real_open(const char *path, int flags, ...);
-int __wrap_open(const char *path, int flags, ...);
 
 static int open_book(const char *name)
 {

@@ -1,6 +1,5 @@
 /* Frames of callers that are made up: see made_frame.h. */
 #include "made_frame.h"
-#include "names.h"
 #include <string.h>
 
 #define MOST_BEHIND 16383u	/* bytes of data in the message of a small frame: small.bpf.h */
@@ -23,18 +22,28 @@ struct message head_of(u32 type, u32 direction, u64 number, u32 opening, u32 thr
 	return (struct message){ type, direction, number, now(), opening, thread };
 }
 
+/* The name as the kernel has it. */
+static const char *name_of(const char *name)
+{
+	static char its_name[NAME_BYTES];
+	memset(its_name, 0, sizeof its_name);
+	return memcpy(its_name, name, strnlen(name, NAME_BYTES - 1));
+}
+
+void made_process(u32 opening, u32 process, u64 start, const char *name, enum met met)
+{
+	names_opening(opening, now(), 0, process, start, name_of(name), met);
+	names_thread(opening, process, process, start, name_of(name));
+}
+
 void made_opening(u32 opening, u32 process, const char *name)
 {
-	char its_name[NAME_BYTES] = { 0 };
-	memcpy(its_name, name, strnlen(name, NAME_BYTES - 1));
-	names_opening(opening, now(), 0, process, 1, its_name, MET_FROM_START);
+	names_opening(opening, now(), 0, process, 1, name_of(name), MET_FROM_START);
 }
 
 void made_thread(u32 thread, u32 id, u32 process, const char *name)
 {
-	char its_name[NAME_BYTES] = { 0 };
-	memcpy(its_name, name, strnlen(name, NAME_BYTES - 1));
-	names_thread(thread, id, process, 1, its_name);
+	names_thread(thread, id, process, 1, name_of(name));
 }
 
 void made_record(u32 word, const void *payload, u32 bytes)

@@ -3,6 +3,7 @@
 #define MADE_FRAME_H
 #include "common.h"
 #include "messages.h"
+#include "names.h"
 #include <linux/android/binder.h>
 
 enum { RECORD = 4 + sizeof(struct binder_transaction_data) };	/* bytes of a send, or of an answer */
@@ -11,6 +12,8 @@ typedef void hearer(const void *message, u64 bytes);
 
 struct message head_of(u32 type, u32 direction, u64 number, u32 opening, u32 thread);
 
+/* A process that began then, with an opening, and its first thread, which has the number of the opening. */
+void made_process(u32 opening, u32 process, u64 start, const char *name, enum met met);
 /* An opening from the beginning, and a thread. */
 void made_opening(u32 opening, u32 process, const char *name);
 void made_thread(u32 thread, u32 id, u32 process, const char *name);

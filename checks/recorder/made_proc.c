@@ -88,7 +88,6 @@ static FILE *text_of(const char *name)
 }
 
 FILE *__real_fopen(const char *path, const char *how);
-FILE *__wrap_fopen(const char *path, const char *how);
 FILE *__wrap_fopen(const char *path, const char *how)
 {
 	const char *name = strrchr(path, '/');
@@ -131,7 +130,6 @@ static int mapped_file(void)
 }
 
 int __real_open(const char *path, int flags, ...);
-int __wrap_open(const char *path, int flags, ...);
 int __wrap_open(const char *path, int flags, ...)
 {
 	va_list more;
@@ -147,7 +145,6 @@ int __wrap_open(const char *path, int flags, ...)
 
 /* The file that is there may be another one than that of the line. */
 int __real_fstat(int file, struct stat *status);
-int __wrap_fstat(int file, struct stat *status);
 int __wrap_fstat(int file, struct stat *status)
 {
 	int failed = __real_fstat(file, status);
@@ -157,7 +154,6 @@ int __wrap_fstat(int file, struct stat *status)
 }
 
 ssize_t __real_pread(int file, void *to, size_t bytes, off_t at);
-ssize_t __wrap_pread(int file, void *to, size_t bytes, off_t at);
 ssize_t __wrap_pread(int file, void *to, size_t bytes, off_t at)
 {
 	ssize_t got = __real_pread(file, to, bytes, at);

@@ -25,20 +25,6 @@ enum {
 };
 
 static u64 last;
-static char *list;		/* what the side list has so far */
-
-static void read_list(void)
-{
-	u64 bytes;
-	side_flush();
-	free(list);
-	list = whole_file(side_path(), &bytes);
-}
-
-static int times(const char *text)
-{
-	return times_in(list, text);
-}
 
 /* ---- files */
 
@@ -130,7 +116,7 @@ static void own_stacks(void)
 		hear_call((u32)getpid(), own_start(), 1, first, 3);
 	hear_call((u32)getpid(), own_start(), 1, other, 1);
 	wait_for_maps();
-	read_list();
+	read_side_list();
 	should(times(" stack 1 memory=1 ") == 1 && times(" stack 2 memory=1 ") == 1 && times(" stack ") == 2,
 	       "stacks of this process", times(" stack "));
 	should(times(" stack=1\n") == 3 && times(" stack=2\n") == 1, "calls with a stack", times(" call "));
@@ -146,7 +132,7 @@ static void others_stacks(void)
 	hear_call((u32)getpid(), own_start() + 5000000000u, 2, stack, 1);
 	hear_call(STRANGER, 1, 3, stack, 1);
 	wait_for_maps();
-	read_list();
+	read_side_list();
 	should(times(" unmapped 2 ") == 1 && times(" unmapped 3 ") == 1 && times(" why=ended\n") == 2,
 	       "processes without maps", times(" unmapped "));
 	should(times(" map 2 ") + times(" map 3 ") == 0 && stacks_unmapped() == 2,
@@ -165,7 +151,7 @@ static void many_stacks(void)
 		hear_call(STRANGER, 1, 3, stack, MOST_OF_STACK);
 		hear_call(STRANGER, 1, 3, stack, MOST_OF_STACK);
 	}
-	read_list();
+	read_side_list();
 	should(times(" call ") - before == 2 * MANY && stacks_forgotten() == 0, "calls with new stacks",
 	       times(" call ") - before);
 	should(mebibytes() < 600, "MiB with new stacks", mebibytes());
@@ -191,7 +177,7 @@ static void new_list(const char *out)
 	begin_list(out, "other");
 	hear_call((u32)getpid(), own_start(), 1, stack, 1);
 	hear_call((u32)getpid(), own_start(), 1, stack, 1);
-	read_list();
+	read_side_list();
 	should(times(" stack ") == 1 && times(" map ") == 1 && times(" call ") == 2, "lines of a new side list",
 	       times(" stack "));
 }
@@ -211,7 +197,7 @@ static void forgotten_stacks(const char *out)
 	begin_list(out, "third");
 	for (u32 i = 0; i < MANY; i++)
 		stacks_tell_call(1, i, numbers[i]);
-	read_list();
+	read_side_list();
 	int forgotten = times(" unstacked 1 what=forgotten ");
 	should(forgotten > 0 && forgotten == (int)stacks_forgotten(), "calls whose stack was not kept", forgotten);
 	should(times(" call ") + forgotten == MANY && times(" call ") > 1000, "calls of kept stacks", times(" call "));

@@ -481,7 +481,6 @@ static void act(void)
 static u64 ahead;
 
 int __real_clock_gettime(clockid_t clock, struct timespec *time);
-int __wrap_clock_gettime(clockid_t clock, struct timespec *time);
 int __wrap_clock_gettime(clockid_t clock, struct timespec *time)
 {
 	if (clock != CLOCK_MONOTONIC)
@@ -562,7 +561,6 @@ static void end_fuzzed(void)
 		_exit(1);
 }
 
-int LLVMFuzzerTestOneInput(const u8 *bytes, size_t count);
 int LLVMFuzzerTestOneInput(const u8 *bytes, size_t count)
 {
 	if (!script) {

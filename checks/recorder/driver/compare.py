@@ -76,7 +76,7 @@ class Scenario:
         if wrong := self.unreadable():
             return [wrong], {wrong[0]}
         kinds = [kind for kind in KINDS if kind.of(self)]
-        found = [difference for kind in kinds for difference in kind.found(self)]
+        found = [it for kind in kinds for it in kind.found(self) if it[3] != it[4]]
         seen = {section for kind in kinds for section in kind.sections.split()}
         if whole(self):
             sides = both(self.recording, self.report, books_of.Books(texts or self.books))

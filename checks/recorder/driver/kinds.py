@@ -1,5 +1,6 @@
 """The kinds of differences that may be found in a scenario, as a table at the end: what each is of, and how it is
-found."""
+found. Each function yields a section, whom and what it is of, what came and what is due; if both are the same, it is no
+difference."""
 
 import contextlib
 import functools
@@ -56,7 +57,7 @@ def purpose_differences(scenario, report, recording):
     side = {"left-out": recording.left_out, "unattached": recording.unattached}
     for (section, name), number in purposes(scenario).items():
         found = side[name] if section == "side" else report.head(section, name)
-        if number is not None and found != number:
+        if number is not None:
             yield section, "all", name, found, number
 
 
@@ -108,10 +109,8 @@ def lost_differences(recording):
     used = [frame.sequence for frame in recording.frames]
     first = used[0] if recording.is_cut else 1
     unused = set(range(first, used[-1] + 1)) - set(used) if used else set()
-    if not unused <= told:
-        yield "lost", "all", "untold", len(unused - told), 0
-    if untimed := set(used) - recording.timed:
-        yield "lost", "all", "untimed", len(untimed), 0
+    yield "lost", "all", "untold", len(unused - told), 0
+    yield "lost", "all", "untimed", len(set(used) - recording.timed), 0
     for why, count in sorted(Counter(why for _, why in recording.lost).items()):
         yield "lost", "all", why, count, 0
 
@@ -135,12 +134,9 @@ def end_differences(recording):
         return
     time, after = recording.end
     numbers = [*(number for number, _ in recording.lost), *(frame.sequence for frame in recording.frames)]
-    if late := sum(one > time for one in recording.times):
-        yield "end", "all", "late", late, 0
-    if late := sum(one > time for one in recording.ends):
-        yield "end", "all", "ended", late, 0
-    if after != max(numbers, default=0):
-        yield "end", "all", "after", after, max(numbers, default=0)
+    yield "end", "all", "late", sum(one > time for one in recording.times), 0
+    yield "end", "all", "ended", sum(one > time for one in recording.ends), 0
+    yield "end", "all", "after", after, max(numbers, default=0)
 
 
 # What a scenario makes the recorder miss.
@@ -154,11 +150,8 @@ def missed_differences(name, recording, output):
     """What the side list says was missed must be what the recorder counted in all, and what the scenario wanted."""
     for what, words in COUNTS.items():
         counted = sum(map(int, re.findall(rf"; {words} (\d+)", output)))
-        told = recording.missed[what]
-        if told != counted:
-            yield "missed", "all", what, told, counted
-        if (told > 0) != (MISSED.get(name) == what):
-            yield "missed", "all", what, told, "some" if MISSED.get(name) == what else 0
+        yield "missed", "all", what, recording.missed[what], counted
+        yield "missed", "all", f"any-{what}", recording.missed[what] > 0, MISSED.get(name) == what
 
 
 MOST_FILES = 4  # that a flight recorder keeps
@@ -166,19 +159,14 @@ MOST_FILES = 4  # that a flight recorder keeps
 
 def flight_differences(recording, folder):
     """A flight recorder keeps the newest files, each with a side list that says whose the frames in it are."""
-    most = int((folder / "most-files").read_text("utf-8"))
-    if most != MOST_FILES or len(recording.captures) != MOST_FILES:
-        yield "flight", "all", "files", most, MOST_FILES
-    if not recording.is_cut:
-        yield "flight", "all", "removed", 0, "some"
-    names = [path.stem for path in recording.captures]
-    if names != [path.stem for path in recording.sides]:
-        yield "flight", "all", "side", len(recording.sides), len(names)
+    yield "flight", "all", "files", int((folder / "most-files").read_text("utf-8")), MOST_FILES
+    yield "flight", "all", "captures", len(recording.captures), MOST_FILES
+    yield "flight", "all", "removed", recording.is_cut, True
+    yield "flight", "all", "side", [path.stem for path in recording.sides], [path.stem for path in recording.captures]
     for path in recording.sides:
         one = Recording(folder, path.stem)
         strangers = {(frame.device, frame.process, frame.thread) for frame in one.frames} - set(one.tids)
-        if strangers:
-            yield "flight", path.stem, "strangers", len(strangers), 0
+        yield "flight", path.stem, "strangers", len(strangers), 0
 
 
 def kept_differences(scenario):
@@ -187,19 +175,17 @@ def kept_differences(scenario):
     if " frames, 0 lost; files removed " not in scenario.output or " has been open for 5." not in scenario.output:
         yield "kept", "all", "said", scenario.output.strip(), "0 lost"
     folders = sorted(scenario.folder.glob("capture.kept-*"))
-    if len(folders) != 1:
-        yield "kept", "all", "sets", len(folders), 1
+    yield "kept", "all", "sets", len(folders), 1
     for folder in folders:
         yield from set_differences(Recording(folder), folder)
 
 
 def set_differences(recording, folder):
     numbers = [frame.sequence for frame in recording.frames]
-    if numbers != list(range(numbers[0], numbers[-1] + 1)) or recording.lost or len(recording.captures) > MOST_FILES:
-        yield "kept", folder.name, "frames", len(numbers), numbers[-1] - numbers[0] + 1
-    why = re.findall(r" kept (hang) .* limit=5000000000 name=$", recording.side, re.M)
-    if why != ["hang"]:
-        yield "kept", folder.name, "why", why, ["hang"]
+    yield "kept", folder.name, "follows", numbers == list(range(numbers[0], numbers[-1] + 1)), True
+    yield "kept", folder.name, "lost", recording.lost, []
+    yield "kept", folder.name, "many-files", len(recording.captures) > MOST_FILES, False
+    yield "kept", folder.name, "why", recording.told(r" kept (hang) .* limit=5000000000 name=$"), ["hang"]
     yield from end_differences(recording)
     yield from form_differences(recording, False)
     yield from copy_differences("flight", recording, folder)
@@ -234,10 +220,8 @@ def secret_differences(recording):
     for which, secret in SECRETS.items():
         found = sum(secret[at:at + 8] in written for at in range(len(secret) - 7))
         due = 0 if which == TO_CLEAR or recording.is_redacted else len(secret) - 7
-        if found != due:
-            yield "secret", "all", which, found, due
-    if TOKEN not in written:
-        yield "secret", "all", "token", 0, 1
+        yield "secret", "all", which, found, due
+    yield "secret", "all", "token", TOKEN in written, True
 
 
 # ---- command lines, and the driver's books
@@ -263,8 +247,7 @@ def program_in(command):
 def command_differences(recording):
     """The command lines of the scenario; only what the programs are called if payloads are redacted."""
     came = defaultdict(list)
-    for device, number, user, name in re.findall(r"^\d+ command (\d+) (\d+) after=\d+ uid=(\d+) name=(.*)$",
-                                                 recording.side, re.M):
+    for device, number, user, name in recording.told(r"^\d+ command (\d+) (\d+) after=\d+ uid=(\d+) name=(.*)$"):
         raw = re.sub(rb"\\x([0-9a-f]{2})", lambda found: bytes([int(found[1], 16)]),
                      name.encode(errors="surrogateescape"))
         came[int(device), int(number)].append((int(user), raw))
@@ -272,8 +255,7 @@ def command_differences(recording):
         key = sorted(recording.names)[nth]
         if recording.is_redacted:
             due = [(user, program_in(text)) for user, text in due]
-        if came[key] != due:
-            yield "names", recording.names[key], "command", came[key], due
+        yield "names", recording.names[key], "command", came[key], due
 
 
 BOOKS = [(when, which) for when in ("begin", "end") for which in ("state", "transactions", "stats")]
@@ -282,15 +264,14 @@ BOOKS = [(when, which) for when in ("begin", "end") for which in ("state", "tran
 def copy_differences(how, recording, folder):
     """Each copy of the driver's books has the length that the side list names. Only a recorder that was killed has none
     at the end, and the list of the beginning may be gone where old files are."""
-    told = {(when, which): int(size) for when, which, size in re.findall(
-        r"^\d+ books (\S+) (\S+) from=\d+ after=\d+ bytes=(\d+)$", recording.side, re.M)}
+    told = {(when, which): int(size) for when, which, size in recording.told(
+        r"^\d+ books (\S+) (\S+) from=\d+ after=\d+ bytes=(\d+)$")}
     for when, which in BOOKS:
         if when == ("end" if how == "killed" else "begin" if recording.is_cut else None):
             continue
         path = folder / f"capture.{when}.{which}"
         size = path.stat().st_size if path.exists() else 0
-        if told.get((when, which)) != size:
-            yield "books", "all", f"{when}-{which}", told.get((when, which)), size
+        yield "books", "all", f"{when}-{which}", told.get((when, which)), size
 
 
 @contextlib.contextmanager
@@ -313,10 +294,8 @@ def view_differences(folder):
                 "SELECT who, what, report, books FROM disagreement JOIN who USING (upid)"):
             yield "view", who, what, report, books
         rules = dict(database.execute("SELECT rule, count(*) FROM finding GROUP BY 1"))
-        if rules != RULES_BEFORE:
-            yield "view", "all", "rules", rules, RULES_BEFORE
-        if facts != FACTS_BEFORE:
-            yield "view", "all", "facts", facts, FACTS_BEFORE
+        yield "view", "all", "rules", rules, RULES_BEFORE
+        yield "view", "all", "facts", facts, FACTS_BEFORE
 
 
 # The rules of all findings of the scenario before, and how many of its openings are compared at the end.
@@ -340,8 +319,7 @@ def reason_differences(scenario):
         refused, logged = count("raw_send WHERE refused NOTNULL"), count("side_failed")
         came = dict(database.execute("SELECT errno, count(*) FROM refusal GROUP BY 1"))
     due = {} if scenario.driver == "Rust" else {NO_HANDLE: FEW_REFUSED, NO_SPACE: refused - FEW_REFUSED}
-    if came != due:
-        yield "reasons", "all", "known", came, due
+    yield "reasons", "all", "known", came, due
     if scenario.driver == "C" and logged <= refused:
         yield "reasons", "all", "later", logged, refused
 
@@ -367,18 +345,15 @@ def changed_differences(recording, output, folder):
     the page say, which name the process. The calls of the others go on after them."""
     changed = sum(map(int, re.findall(r"^changing: user 1000, (\d+) writes were changed$", output, re.M)))
     losers = [(recording.names.get(who), why, count) for (who, why), count in recording.losers.items()]
-    if not changed or losers != [(CHANGING, "broken", changed)]:
-        yield "changed", "all", "side", losers, changed
+    yield "changed", "all", "any", changed > 0, True
+    yield "changed", "all", "side", losers, [(CHANGING, "broken", changed)]
     if f" frames, {changed} lost (broken {changed}); 1 file, " not in output:
         yield "changed", "all", "last-line", output.strip(), changed
     last = max((number for number, _ in recording.lost), default=0)
     after = {recording.names[frame.device, frame.process] for frame in recording.frames if frame.sequence > last}
-    if not {"client", "later"} <= after:
-        yield "changed", "all", "after", sorted(after), "client later"
-    rows = lost_on_page(folder)
-    if [(why, count, who.split(" ")[0], most) for why, count, who, most in rows] != [
-            ("broken", changed, CHANGING, changed)]:
-        yield "changed", "all", "page", rows, changed
+    yield "changed", "all", "after", sorted({"client", "later"} & after), ["client", "later"]
+    rows = [(why, count, who.split(" ")[0], most) for why, count, who, most in lost_on_page(folder)]
+    yield "changed", "all", "page", rows, [("broken", changed, CHANGING, changed)]
 
 
 # ---- namespaces, and openings from before the recording
@@ -404,8 +379,7 @@ def sender_differences(recording):
 
 def bits_differences(how, recording):
     """The side list says of each thread that made 32-bit calls that it did."""
-    if wrong := recording.bits["" if how == "record32" else " bits=32"]:
-        yield "names", "all", "bits", wrong, 0
+    yield "names", "all", "bits", recording.bits["" if how == "record32" else " bits=32"], 0
 
 
 OPENINGS_BEFORE = 4  # of the load: manager, service and two clients
@@ -426,9 +400,7 @@ MOST_CUT = 8192  # bytes of a last frame of the load that a killed recorder may 
 def partly_lost(scenario):
     """What a recorder that does not record all loses is told, and is lost for lack of room where that is small."""
     recording, why = scenario.recording, {why for _, why in scenario.recording.lost}
-    for item in lost_differences(recording):
-        if item[2] in ("untold", "untimed", "broken", "not-written"):
-            yield item
+    yield from (it for it in lost_differences(recording) if it[2] in ("untold", "untimed", "broken", "not-written"))
     if scenario.how == "full" and "ring-full" not in why:
         yield "lost", "all", "ring-full", 0, "some"
     if scenario.how == "narrow" and not why:
@@ -438,25 +410,22 @@ def partly_lost(scenario):
 def cut_differences(scenario):
     """A recording that begins late or is cut has frames, and no more than a frame of it is cut."""
     recording = scenario.recording
-    if scenario.how in ("late", "hidden") and recording.met != OPENINGS_BEFORE:
+    if scenario.how in ("late", "hidden"):
         yield "names", "all", "met", recording.met, OPENINGS_BEFORE
     if recording.cut > MOST_CUT:
         yield "capture", "all", "cut", recording.cut, 0
-    if not recording.frames:
-        yield "capture", "all", "frames", 0, 1
+    yield "capture", "all", "frames", bool(recording.frames), True
     if scenario.how == "late" and (lasted := recording.lasted_after_frames()) > MOST_AFTER:
         yield "end", "all", "without-frames", lasted, MOST_AFTER
 
 
 def said_differences(scenario):
     for words in SAYS.get(scenario.how, ()):
-        if words not in scenario.output:
-            yield "status", "all", "unsaid", words, 0
+        yield "status", "all", f"says-{words}", words in scenario.output, True
 
 
 def status_differences(scenario):
-    if scenario.status != "0":
-        yield "status", "all", "program", scenario.status, 0
+    yield "status", "all", "program", scenario.status, "0"
 
 
 class Kind(NamedTuple):

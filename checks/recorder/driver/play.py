@@ -35,9 +35,11 @@ SERIES = ("6.1", "6.12", "newest", "5.10")
 # What is stored of a recording with the driver in Rust.
 OF_RUST = ("clean", "leaks", "objects", "deaths", "oneway", "before", "cut", "fork", "outsider", "two-drivers",
            "denied", "errors", "freeze", "pending", "too-large", "copies", "lock", "refusals")
-PROVED = ("binder_audit", "binder_listing", "binder_tables")
-# Scenarios that a series can't play: BINDER_FREEZE is of 5.12, and rust_kernel.config leaves out ns_last_pid.
-LACKING = {"5.10": {"freeze", "pending"}, "rust": {"reuse"}}
+PROVED = ("binder_audit", "binder_tables")
+# Scenarios that a series can't play, and why.
+LACKING = {"5.10": (("freeze", "pending"), "BINDER_FREEZE is of 5.12"),
+           "rust": (("reuse",), "ns_last_pid, by which it gives numbers again, takes CONFIG_CHECKPOINT_RESTORE, which"
+                                " rust_kernel.config leaves out")}
 # The sources of the program that plays scenarios.
 SOURCES = [path for path in sorted(SCENARIOS.glob("*.c")) if path.stem not in ("gbinder", "witness")]
 
@@ -147,16 +149,21 @@ class Play:
     """Kernels that are played, each by a guest for the plans in its own time and one for those on four processors."""
 
     def __init__(self, given: argparse.Namespace, machine: Machine) -> None:
-        self.given, self.machine, self.wrong = given, machine, list[str]()
+        self.given, self.machine, self.wrong, self.played = given, machine, list[str](), 0
         words = "--redact" if given.redact else "--stacks" if given.stacks else ""
         self.files: Files = {**first_files(machine, SCENARIOS / "init.sh", given.limit), **dynamic_files(machine),
                              **recorder_of(given, machine), "words": f"{words}\n"}
 
     def lines(self, series: str, names: list[str]) -> list[list[str]]:
         """The lines of plans that --only leaves, and that the kernel can play."""
+        lacking, why = LACKING.get(series, ((), ""))
         found = [words for words in plan_of([SCENARIOS / f"{name}.txt" for name in names])
-                 if words[0] not in LACKING.get(series, ()) and (not self.given.only or words[0] in self.given.only)]
-        return [[*words[:3], str(self.given.flight)] if words[1] == "flight" else words for words in found]
+                 if not self.given.only or words[0] in self.given.only]
+        for words in found:
+            if words[0] in lacking:
+                say(f"{words[0]} is left out on {series}: {why}")
+        return [[*words[:3], str(self.given.flight)] if words[1] == "flight" else words for words in found
+                if words[0] not in lacking]
 
     def play(self, kernel: Kernel, series: str, plans: list[str], out: str, words: str = "") -> pathlib.Path | None:
         """Plays plans, each line on the processors that it needs. Returns the folder with what came of them."""
@@ -168,6 +175,7 @@ class Play:
                 guest = Guest(self.machine, kernel, {**self.files, "plan": plan_text(lines)},
                               accelerated(self.given, processors), "4G", f"security=selinux selinux=1 {words}")
                 self.wrong += filter(None, [boot(guest, out + ending, len(lines), to)])
+                self.played += len(lines)
         return to if to.exists() else None
 
     def try_plans(self, kernel: Kernel, series: str, plans: list[str], out: str, words: str = "", whole: bool = False
@@ -208,7 +216,9 @@ def play_all_series(given: argparse.Namespace) -> list[str]:
             found += 1
         except Missing as error:
             say(f"checks/driver: {error}")
-    return play.wrong if found else ["no kernel was found"]
+    if not found:
+        return ["no kernel was found"]
+    return play.wrong if play.played else [*play.wrong, "nothing was played: no kernel's plan has such a line"]
 
 
 def play_arm64(given: argparse.Namespace) -> list[str]:
@@ -226,8 +236,8 @@ def check_compiler_of_32() -> None:
     made = subprocess.run([*X86_64.compiler_of_32, "-static", "-x", "c", "-o", "/dev/null", "-"],
                           input=b"int main(void) { return 0; }", stderr=subprocess.DEVNULL)
     if made.returncode:
-        stop("gcc makes no 32-bit programs: apt-get install gcc-multilib, or gcc-12-multilib beside a compiler for"
-             " arm64")
+        stop("gcc makes no 32-bit programs: apt-get install gcc-multilib, or beside a compiler for arm64"
+             " --no-install-recommends gcc-12-multilib")
 
 
 def judge(given: argparse.Namespace) -> list[str]:

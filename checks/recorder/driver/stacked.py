@@ -6,6 +6,7 @@ from typing import NamedTuple
 
 from checks.kit.captures import BC_TRANSACTION
 from checks.kit.frames import records_of
+from checks.recorder.driver.recording import numbers
 from viewer.database import symbols
 
 # The commands that make the recorder take the stack of their call, by number.
@@ -24,18 +25,16 @@ class Stacks:
     """The stacks of a recording, with the functions of the program of the scenario."""
 
     def __init__(self, recording, program):
-        side = recording.side
-        calls = re.findall(r"^\d+ call (\d+) stack=(\d+)$", side, re.M)
-        self.calls = {int(number): int(stack) for number, stack in calls}
-        self.lines = re.findall(r"^\d+ stack (\d+) memory=(\d+) pid=\d+ pcs=(\S+)$", side, re.M)
+        self.calls = dict(map(numbers, recording.told(r"^\d+ call (\d+) stack=(\d+)$")))
+        self.lines = recording.told(r"^\d+ stack (\d+) memory=(\d+) pid=\d+ pcs=(\S+)$")
         self.stacks = {int(stack): (int(memory), [int(pc, 16) for pc in pcs.split(",")])
                        for stack, memory, pcs in self.lines}
-        self.unstacked = sum(map(int, re.findall(r"^\d+ unstacked (\d+) ", side, re.M)))
-        self.unmapped = len(re.findall(r"^\d+ unmapped ", side, re.M))
+        self.unstacked = sum(map(int, recording.told(r"^\d+ unstacked (\d+) ")))
+        self.unmapped = len(recording.told(r"^\d+ unmapped "))
         self.maps = {}
-        for memory, start, end, address, build_id, path in re.findall(
+        for memory, start, end, address, build_id, path in recording.told(
                 r"^\d+ map (\d+) pid=\d+ start=0x(\w+) end=0x(\w+) offset=0x\w+ address=(\S+) build-id=(\S+)"
-                r" name=(.*)$", side, re.M):
+                r" name=(.*)$"):
             known = None if address == "-" else int(address, 16)
             self.maps.setdefault(int(memory), []).append(Map(int(start, 16), int(end, 16), known, build_id, path))
         self.names = self.named(program) if program else {}
@@ -69,20 +68,17 @@ def stack_differences(recording, is_frameless, program):
     due = {frame.sequence for frame in recording.frames if needs_stack(frame)}
     if len(due - stacks.calls.keys()) > stacks.unstacked:
         yield "stacks", "all", "missing", len(due - stacks.calls.keys()), stacks.unstacked
-    if set(stacks.calls.values()) - stacks.stacks.keys():
-        yield "stacks", "all", "untold", len(set(stacks.calls.values()) - stacks.stacks.keys()), 0
-    if len(stacks.lines) != len(stacks.stacks):
-        yield "stacks", "all", "twice", len(stacks.lines), len(stacks.stacks)
+    yield "stacks", "all", "untold", len(set(stacks.calls.values()) - stacks.stacks.keys()), 0
+    yield "stacks", "all", "twice", len(stacks.lines), len(stacks.stacks)
     first = {int(stack): at for at, stack in ((found.start(), found[1]) for found in re.finditer(
         r"^\d+ stack (\d+) ", recording.side, re.M))}
     early = [found[1] for found in re.finditer(r"^\d+ call \d+ stack=(\d+)$", recording.side, re.M)
              if first.get(int(found[1]), 0) > found.start()]
-    if early:
-        yield "stacks", "all", "early", len(early), 0
+    yield "stacks", "all", "early", len(early), 0
     innermost = {(memory, pcs[0]) for memory, pcs in stacks.stacks.values()}
     unknown = [pc for memory, pc in innermost if stacks.map_of(memory, pc) is None and memory in stacks.maps]
-    if unknown or stacks.unmapped:
-        yield "stacks", "all", "unmapped", len(unknown), stacks.unmapped
+    yield "stacks", "all", "unknown", len(unknown), 0
+    yield "stacks", "all", "unmapped", stacks.unmapped, 0
     if program:
         yield from name_differences(recording, is_frameless, stacks)
 
@@ -107,10 +103,11 @@ def name_differences(recording, is_frameless, stacks):
             frames, due = stacks.frames(frame.sequence), DUE[code]
             if not frames or not (frames[0][0] or "").endswith("/libc.so.6"):
                 yield "stacks", "all", "innermost", frames[:1], "libc.so.6"
-            called = [name for _, functions in frames for name in functions if name in OF_SCENARIO]
+            called = [name for _, functions in frames for name in functions if name in OF_SCENARIO][:len(due)]
             seen += 1
-            whole += called[:len(due)] == due
-            if not is_frameless and called[:len(due)] != due:
+            whole += called == due
+            if not is_frameless:
                 yield "stacks", "all", f"code-{code}", called, due
-    if seen == 0 or is_frameless and whole == seen:
-        yield "stacks", "all", "whole", whole, seen
+    yield "stacks", "all", "seen", seen > 0, True
+    if is_frameless:
+        yield "stacks", "all", "all-whole", whole == seen, False

@@ -8,10 +8,9 @@ second reading must both write this report, and the listing must have as many re
 compared as for a guest. If all is well it prints nothing. Otherwise each difference has a line, and the status is 1.
 """
 
-import subprocess
-
 from checks.kit.checking import FLAG, check
-from checks.kit.programs import DRIVER, LISTING
+from checks.kit.listed import listed
+from checks.kit.programs import DRIVER
 from checks.kit.second_reading import reading_of_parts
 from checks.kit.stored import renew
 from checks.recorder.driver.compare import Scenario, explained, row_of, unfound
@@ -24,8 +23,7 @@ def faults_of(scenario, reasons):
         yield "the auditor writes another report"
     if reading_of_parts([path.read_bytes() for path in captures]) != (0, wanted.splitlines()):
         yield "the second reading has another report"
-    listed = subprocess.run([LISTING, *captures], capture_output=True).stdout
-    if listed.count(b"\n") != int(wanted.split()[6]):
+    if listed(*captures)[1].count(b"\n") != int(wanted.split()[6]):
         yield "the listing has another number of records"
     for difference in scenario.differences()[0]:
         row = row_of(scenario.name, difference)

@@ -74,9 +74,8 @@ class Running:
                 yield line.decode(errors="replace").rstrip()
 
     def used(self) -> float:
-        """The seconds for which it had a processor."""
-        if ran := sum(int(text.split()[0]) for text in self.threads("schedstat")):  # else it has ended
-            self.last_used = ran / 1e9
+        """The seconds for which it had a processor. While it ends, its threads go one after another."""
+        self.last_used = max(self.last_used, sum(int(text.split()[0]) for text in self.threads("schedstat")) / 1e9)
         return self.last_used
 
     def is_runnable(self) -> bool:

@@ -25,8 +25,6 @@ static void hand_out(struct exchange *exchange, transaction *delivered)
 	free_buffer(exchange, delivered);
 }
 
-static void library(void) { serve_with(hand_out); }
-
 static int descriptor_from(struct exchange *exchange, uint32_t handle)
 {
 	transaction reply;
@@ -52,7 +50,7 @@ static void closing_client(struct exchange *exchange, uint32_t handle) { get_des
 
 static void copies(void)
 {
-	manager_and_service("library", library);
+	manager_and_service("library", serve_played);
 	start_client("copying", copying_client);
 	start_client("closing", closing_client);
 	wait_until(&shared->resting, 2);
@@ -87,4 +85,5 @@ static void refusals(void)
 	rest_until_stopped();
 }
 
-const struct scenario alive_scenarios[] = {{"copies", .run = copies}, {"refusals", .run = refusals}, {0}};
+const struct scenario alive_scenarios[] = {
+	{"copies", .run = copies, .serve = hand_out}, {"refusals", .run = refusals}, {0}};

@@ -15,8 +15,8 @@
 /* Two pages of which only the first one is there. Returns where that one ends. */
 static uint8_t *edge(void)
 {
-	uint8_t *pages = mmap(NULL, 2 * PAGE, PROT_READ | PROT_WRITE, MAP_PRIVATE | MAP_ANONYMOUS, -1, 0);
-	if (pages == MAP_FAILED || munmap(pages + PAGE, PAGE)) fail("cut: memory");
+	uint8_t *pages = own_memory(2 * PAGE, 0);
+	if (munmap(pages + PAGE, PAGE)) fail("cut: memory");
 	return pages + PAGE;
 }
 
@@ -55,15 +55,12 @@ static void cutting_client(void)
 	ready_to_rest(exchange);
 }
 
-static void cut(void) { play(cutting_client); }
-
 /* ---- unwritten: a write of which the driver can't tell how much it consumed */
 
 static void unwritable_client(void)
 {
 	struct exchange *exchange = opened("binder");
-	struct binder_write_read *call = mmap(NULL, PAGE, PROT_READ | PROT_WRITE, MAP_PRIVATE | MAP_ANONYMOUS, -1, 0);
-	if (call == MAP_FAILED) fail("unwritten: memory");
+	struct binder_write_read *call = own_memory(PAGE, 0);
 	uint8_t *end = edge();		/* nothing is mapped after that: it might be the page that is away */
 	put_commands(end - COMMAND, 1);
 	call->write_buffer = (binder_uintptr_t)(uintptr_t)(end - COMMAND);
@@ -72,8 +69,6 @@ static void unwritable_client(void)
 	if (ioctl(exchange->opening->descriptor, BINDER_WRITE_READ, call) >= 0 || errno != EFAULT) fail("unwritten");
 	ready_to_rest(exchange);
 }
-
-static void unwritten(void) { play(unwritable_client); }
 
 /* ---- outsider: a service of which no thread says that it takes calls. The driver in C hands a call to any thread that
  * reads, and the one in Rust to none. It reads again and again without waiting, also into room for a code word
@@ -124,4 +119,5 @@ static void outsiders(void)
 }
 
 const struct scenario apart_scenarios[] = {
-	{"cut", .run = cut}, {"unwritten", .run = unwritten}, {"outsider", .run = outsiders}, {0}};
+	{"cut", .process = cutting_client}, {"unwritten", .process = unwritable_client}, {"outsider", .run = outsiders},
+	{0}};

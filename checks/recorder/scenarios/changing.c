@@ -131,18 +131,16 @@ static void later(struct exchange *exchange, uint32_t handle)
 	let_go(exchange, handle);
 }
 
-static void beside_clients(void (*changing)(void))
+static void beside_clients(void)
 {
 	if (chmod("/dev/binder", 0666)) fail("changing: chmod");	/* as in Android */
 	manager_and_service("service", service);
 	start_ready_client("client", steady_client);
-	start("changing", changing);
+	start("changing", played->process);
 	wait_until(&shared->resting, 2);
 	clients_to_rest(1, "later", later);
 }
 
-static void changed_record(void) { beside_clients(changing_record); }
-static void changed_inside(void) { beside_clients(changing_inside); }
-
 const struct scenario changing_scenarios[] = {
-	{"changed-record", .run = changed_record}, {"changed-inside", .run = changed_inside}, {0}};
+	{"changed-record", .run = beside_clients, .process = changing_record},
+	{"changed-inside", .run = beside_clients, .process = changing_inside}, {0}};

@@ -19,8 +19,6 @@ static void serve_with_lock(struct exchange *exchange, transaction *delivered)
 	serve(exchange, delivered);
 }
 
-static void spooler(void) { serve_with_pool(serve_with_lock); }
-
 static void query_slowly(struct exchange *exchange, transaction *delivered)
 {
 	if (delivered->code == QUERY) usleep(1200000);
@@ -53,11 +51,11 @@ static void asking_client(struct exchange *exchange, uint32_t handle)
 
 static void lock(void)
 {
-	manager_and_service("spooler", spooler);
+	manager_and_service("spooler", serve_played);
 	start_ready_client("plugin", slow_plugin);
 	for (int i = 0; i < USERS; i++) start_client("user", asking_client);
 	start_client("refreshing", refreshing_client);
 	wait_until(&shared->resting, USERS + 1);
 }
 
-const struct scenario lock_scenarios[] = {{"lock", .run = lock}, {0}};
+const struct scenario lock_scenarios[] = {{"lock", .run = lock, .serve = serve_with_lock, .has_pool = true}, {0}};
