@@ -1,5 +1,5 @@
-"""Checks that the rules find the same, however their statements are run: by one process; and with other processes that
-find rows, beside tables that are packed.
+"""Checks that the rules find the same, however their statements are run: by one process, which makes the tables or has
+them from the first; and with other processes that find rows, beside tables that are packed.
 
     checks/run alike                plays a share of the stored captures, and what is made for the sums
     checks/run alike -- CASE..      plays these alone, as `leaks`
@@ -11,6 +11,7 @@ sum_cases.py, and one with more groups than have room at first.
 """
 
 import argparse
+import enum
 import itertools
 import os
 import pathlib
@@ -100,25 +101,40 @@ def rows_by(database: sqlite3.Connection, statement: Statement) -> list[str]:
     return list(map(repr, rows))
 
 
-def judged(room: pathlib.Path, name: str, beside: bool) -> tuple[Rows, list[str]]:
-    """The rows that come of a capture, with other processes or without; and the sums that are wrong, where they are
-    packed."""
-    folder = room / f"{name}-{beside}"
+class Way(enum.Enum):
+    """How rules are run: in a database that is kept, in one that has their tables, or with other processes."""
+    KEPT, RULED, BESIDE = range(3)
+
+
+def judged(room: pathlib.Path, name: str, way: Way) -> tuple[Rows, list[str]]:
+    """The rows that come of a capture; and the sums that are wrong, where they are packed."""
+    folder = room / f"{name}-{way.name}"
     folder.mkdir()
     files, side = files_of(folder, name)
     made = folder / "capture.db"
-    least = mock.patch.object(finders, "LEAST_RECORDS", 0 if beside else 2**63)
-    with least, mock.patch.object(loading, "LEAST_PACKED", 0):
-        loading.database_of(ROOT, files, side, made, lambda _: None, kept=not beside)
-    return rows_of(made), list(sums_of(name, made)) if beside else []
+    least = mock.patch.object(finders, "LEAST_RECORDS", 0 if way is Way.BESIDE else 2**63)
+    with least, mock.patch.object(loading, "LEAST_PACKED", 2**63 if way is Way.RULED else 0):
+        loading.database_of(ROOT, files, side, made, lambda _: None, kept=way is Way.KEPT)
+    return rows_of(made), list(sums_of(name, made)) if way is Way.BESIDE else []
 
 
 def compared(room: pathlib.Path, name: str) -> list[str]:
-    """What differs of a capture."""
-    (due, _), (came, sums) = judged(room, name, False), judged(room, name, True)
+    """What differs of a capture. A database that has the tables of the rules has also those that else are temporary."""
+    (due, _), (ruled, _), (came, sums) = (judged(room, name, way) for way in Way)
     wrong = [f"{name}: {table} has other rows" for table in sorted(due.keys() | came.keys())
              if came.get(table) != due.get(table) and table not in MADE_IN_PART]
+    wrong += [f"{name}: {table} has other rows if it is there from the first" for table in sorted(due)
+              if ruled.get(table) != due[table]]
     return wrong + [f"{name}: {sum} has other rows than the view" for sum in sums]
+
+
+def filled_before(room: pathlib.Path) -> Iterator[str]:
+    """The tables of the rules that are not empty where they are there from the first."""
+    raw_tables.write_ruled(room / "ruled.db")
+    with closing(open_database(room / "ruled.db")) as database:
+        for it in plan_of(judging.FOLDER).statements:
+            if it.makes == "TABLE" and database.execute(f"SELECT 1 FROM {it.name}").fetchone():
+                yield it.name
 
 
 def names(given: argparse.Namespace) -> Iterator[str]:
@@ -132,6 +148,8 @@ def names(given: argparse.Namespace) -> Iterator[str]:
 def judge(given: argparse.Namespace, room: pathlib.Path, fail: Fail) -> None:
     build_programs(ROOT)
     raw_tables.loader()
+    for table in filled_before(room):
+        fail(f"{table} has rows before a capture is read")
     with ProcessPoolExecutor(os.cpu_count()) as pool:
         for wrong in pool.map(compared, itertools.repeat(room), names(given)):
             for what in wrong:

@@ -20,7 +20,7 @@ from viewer.database.sqlite import statements_in
 from viewer.rules import judging
 from viewer.rules.catalogue import files_in_order
 from viewer.rules.judging import LOADING
-from viewer.rules.plan import beside_of, texts_of
+from viewer.rules.plan import statement_of, texts_of
 
 VIEWER = ROOT / "viewer"
 ORDER = files_in_order(judging.FOLDER)
@@ -154,7 +154,7 @@ class Watched:
         """What other processes find while it is changed."""
         rules = [it for it in self.ran if it.path.parent == judging.FOLDER]
         for at, it in enumerate(rules):
-            since, _ = beside_of(it.statement)
+            since = statement_of(it.path.name, it.statement).beside
             if not since:
                 continue
             begin = max((number + 1 for number, other in enumerate(rules) if other.path.name == since), default=0)

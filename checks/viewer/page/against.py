@@ -30,12 +30,10 @@ def leaks(kept: dict[int, int], met: tuple[int, ...] = ()) -> Session:
     s = Session()
     service, client = s.two()
     for code, count in kept.items():
-        for _ in range(count):
-            client.main.asks(service.main, code, free=False, body=IDS)
+        client.main.asks(service.main, code, free=False, body=IDS, times=count)
     for code in met:
         client.main.asks(service.main, code, body=IDS)
-    for _ in range(4):
-        client.main.asks(service.main, 2, body=IDS)
+    client.main.asks(service.main, 2, body=IDS, times=4)
     s.wait(300)
     client.main.asks(service.main, 2, body=IDS)
     return s
@@ -45,8 +43,7 @@ def hangs(wait: int) -> Session:
     """A call that hangs, for so long: explained, maybe or real."""
     s = Session()
     service, client = s.two()
-    for _ in range(3):
-        client.main.asks(service.main, 7, body=IDS)
+    client.main.asks(service.main, 7, body=IDS, times=3)
     service.main.gets(client.main.sends(0, 7, body=IDS))
     s.wait(wait)
     return s

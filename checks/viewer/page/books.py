@@ -66,8 +66,7 @@ def play(s: Session, client: str = CLIENT, service: str = SERVICE, later: int = 
         s.books("begin", of_200=held or (asking if asked else str)(ref(1, 2)), of_100="")
         s.wait(0 if busy else 200)
     ours, theirs = s.two("in-mid-life" if had else "from-start")
-    if lost:
-        s.loses(theirs)
+    s.loses(theirs, lost)
     if restarted:
         old = s.process(300, "old")
         theirs.main.is_given(old.main, 1, node=0x900)

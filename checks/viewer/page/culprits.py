@@ -28,8 +28,7 @@ def filled(first_file: int, sizes: dict[str, int]) -> Session:
         app = s.process(number, name)
         app.is_called(name)
         refused(app.main, size=size)
-    for _ in range(3):
-        client.main.asks(service.main)
+    client.main.asks(service.main, times=3)
     return s
 
 

@@ -24,8 +24,7 @@ def session() -> Session:
     server.main.gives(manager.main, 3, 3, 0x9000, about, numbers(12, 0, 15))
     server.main.gives(manager.main, 4, 2, 0x9100, OF_HIDL)
     client.main.is_given(manager.main, 1, 2, server_handle=3, body=about)
-    for _ in range(3):
-        client.main.asks(server.main, 10, 1, 0x9000, body=IDS)
+    client.main.asks(server.main, 10, 1, 0x9000, body=IDS, times=3)
     server.main.gets(client.main.sends(1, 11, body=IDS), 0x9000)
     s.wait(300)
     return s

@@ -273,8 +273,7 @@ def play_freed(program: Program, refreshed: int, printed: int) -> Session:
                                              (client, 2, 7, printed, True), (other, 2, 7, 5, True),
                                              (client, 2, 8, 5, True)):
         s.with_stack(stack)
-        for _ in range(times):
-            thread.main.asks(service.main, code, free=free)
+        thread.main.asks(service.main, code, free=free, times=times)
     s.wait(300)
     return s
 

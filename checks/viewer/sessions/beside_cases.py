@@ -7,7 +7,7 @@ from checks.kit.captures import (BC_ACQUIRE, BC_CLEAR_DEATH_NOTIFICATION, BC_CLE
                                  BR_CLEAR_FREEZE_NOTIFICATION_DONE, BR_DEAD_BINDER, BR_FAILED_REPLY, BR_REPLY, ENTER,
                                  changed, each, each_long, frozen, of_handle, offsets, record, u32, u64, watch)
 from checks.viewer.sessions.book_cases import begun
-from checks.viewer.sessions.cases import case, with_server
+from checks.viewer.sessions.cases import case, each_of, with_server
 from checks.viewer.sessions.freeze_cases import watching
 from checks.viewer.sessions.kept_cases import Quarters
 from checks.viewer.sessions.name_cases import ONE, TWO
@@ -27,13 +27,11 @@ def two_paths(s, other):
     if other == "status":
         return client, first, (server, 1, 0x9000, 7, 2)
     if other == "node":
-        server.main.gives(manager.main, 4, node=0x9100)
-        client.main.is_given(manager.main, 2, server_handle=4)
+        client.main.is_passed(server.main, manager.main, 2, 4, node=0x9100)
         return client, first, (server, 2, 0x9100, 7, 1)
     if other == "process":
         twin = s.process(301, "server")
-        twin.main.gives(manager.main, 4, node=0x9000)
-        client.main.is_given(manager.main, 2, server_handle=4)
+        client.main.is_passed(twin.main, manager.main, 2, 4, node=0x9000)
         return client, first, (twin, 2, 0x9000, 7, 1)
     for handle, code in (2, 5), (3, 6):
         client.main.is_given(server.main, handle, code, via=1, ptr=0x9000)
@@ -42,14 +40,8 @@ def two_paths(s, other):
 
 @case("R1:3 R2:1", other="code")
 @case("R1:4 R2:1", other="status", first=(4, 0), second=(1, 0))
-@case("R1:3 R2:1", other="node")
-@case("R1:3 R2:1", other="process")
-@case("R1:3 R2:1", other="way")
-@case("R2:4", other="code", first=(2, 0), second=(2, 0))
-@case("R2:4", other="status", first=(2, 0), second=(2, 0))
-@case("R2:4", other="node", first=(2, 0), second=(2, 0))
-@case("R2:4", other="process", first=(2, 0), second=(2, 0))
-@case("R2:4", other="way", first=(2, 0), second=(2, 0))
+@case("R1:3 R2:1", other=each_of("node", "process", "way"))
+@case("R2:4", other=each_of("code", "status", "node", "process", "way"), first=(2, 0), second=(2, 0))
 def statuses_of_two_paths(s, other, first=(3, 0), second=(1, 1)):
     """So many calls of each path are answered with its status, and so many without one."""
     client, *paths = two_paths(s, other)
@@ -57,16 +49,11 @@ def statuses_of_two_paths(s, other, first=(3, 0), second=(1, 1)):
         for _ in range(wrong):
             address = server.main.gets(client.main.sends(handle, code), ptr)
             client.main.answered(server.main.replies(address, u32(status), flags=STATUS_CODE))
-        for _ in range(right):
-            client.main.asks(server.main, code, handle, ptr)
+        client.main.asks(server.main, code, handle, ptr, times=right)
 
 
-@case("U3:3 U4:1", other="code")
-@case("U3:3 U4:1", other="node")
-@case("U3:3 U4:1", other="process")
-@case("U4:4", other="code", first=(2, 0), second=(2, 0))
-@case("U4:4", other="node", first=(2, 0), second=(2, 0))
-@case("U4:4", other="process", first=(2, 0), second=(2, 0))
+@case("U3:3 U4:1", other=each_of("code", "node", "process"))
+@case("U4:4", other=each_of("code", "node", "process"), first=(2, 0), second=(2, 0))
 def replies_of_two_paths(s, other, first=(3, 0), second=(1, 1)):
     """So many replies of each path are kept, and so many are freed."""
     client, *paths = two_paths(s, other)
@@ -78,21 +65,18 @@ def replies_of_two_paths(s, other, first=(3, 0), second=(1, 1)):
 
 
 @case("U3:3")
-def replies_kept_by_two(s):
+def replies_kept_by_two(s, service, client):
     """Two processes keep all replies to a code, and none of them keeps many."""
-    service, client = s.two()
     for process, kept in (client, 2), (s.process(300, "other"), 1):
-        for _ in range(kept):
-            process.main.asks(service.main, 7, free=False)
+        process.main.asks(service.main, 7, free=False, times=kept)
         process.main.asks(service.main, 2)
     s.wait(200)
 
 
 @case("U3:3 U4:1", calls=(3, 0), oneway=(1, 1))
 @case("U4:4", calls=(2, 0), oneway=(2, 0))
-def calls_and_oneway_sends_kept(s, calls, oneway):
+def calls_and_oneway_sends_kept(s, service, client, calls, oneway):
     """Of calls and of oneway sends with one code a service keeps so many, and frees so many."""
-    service, client = s.two()
     for flags, (kept, freed) in (0, calls), (ONE_WAY, oneway):
         for at in range(kept + freed):
             address = service.main.gets(client.main.sends(0, 1, flags))
@@ -108,18 +92,14 @@ def calls_and_oneway_sends_kept(s, calls, oneway):
 @case("U4:2 T1:2", before=2, leaving=2)
 @case("U3:4 U6:1", before=4, wait=50, last=1, leaving=0, ends=False)
 @case("U4:2 U6:1", before=2, wait=50, last=1, leaving=0, ends=False)
-def replies_kept_to_the_end(s, before, leaving=1, last=0, wait=200, ends=True):
+def replies_kept_to_the_end(s, service, client, before, leaving=1, last=0, wait=200, ends=True):
     """So many replies are kept for long, then so many shortly before the process ends, which its thread goes on after,
     or does not."""
-    service, client = s.two()
-    for _ in range(before):
-        client.main.asks(service.main, free=False)
+    client.main.asks(service.main, free=False, times=before)
     client.main.asks(service.main, 2)
     s.wait(200)
-    for _ in range(leaving + last):
-        client.main.asks(service.main, free=False)
-    for _ in range(leaving):
-        client.main.asks(service.main, 2)
+    client.main.asks(service.main, free=False, times=leaving + last)
+    client.main.asks(service.main, 2, times=leaving)
     if ends:
         client.ends()
     s.wait(wait)
@@ -141,9 +121,8 @@ def second_refused(thread):
 
 @case("L1:1", late=True)
 @case("S1:1", late=False)
-def refusal_read(s, late):
+def refusal_read(s, service, client, late):
     """The refusal of one of two sends is read after the end of the recording."""
-    service, client = s.two()
     client.main.asks(service.main)
     service.main.frees(service.main.gets(sends_two(client.main)))
     s.stops(late)
@@ -151,10 +130,9 @@ def refusal_read(s, late):
 
 
 @case("S1:1 S3:2", "the send at")
-def crossed_within_a_call(s):
+def crossed_within_a_call(s, service, client):
     """While a thread serves a call within its own, the second of its two oneway sends is refused. The error reply
     crosses the served call, the reply to that crosses the outer call, whose answer is a stray."""
-    service, client = s.two()
     client.main.gives(service.main, 7)
     outer = service.main.gets(client.main.sends(0, 1))
     served = client.main.gets(service.main.sends(7, 2), 0x9700)
@@ -167,12 +145,10 @@ def crossed_within_a_call(s):
 
 @case("S1:1 S3:1 U4:1", keeps=True)
 @case("S1:1 S3:1 S4:1", before=True)
-@case("S1:1 S3:1 S4:1", after="thread")
-@case("S1:1 S3:1 S4:1", after="process")
-def strays_beside_a_crossed_call(s, keeps=False, before=False, after=""):
+@case("S1:1 S3:1 S4:1", after=each_of("thread", "process"))
+def strays_beside_a_crossed_call(s, service, client, keeps=False, before=False, after=""):
     """As `after_a_crossed_call`. The buffer of the served call is kept; or its thread replies to nothing before; or
     another thread does afterwards, of the same process or of another one."""
-    service, client = s.two()
     client.main.gives(service.main, 7)
     if before:
         service.main.replies()
@@ -220,17 +196,15 @@ def watches(thread, handle, cookie):
     thread.writes(watch(BC_REQUEST_DEATH_NOTIFICATION, handle, cookie))
 
 
-@case("D2:1 D5:2", "the one before is at", other="process")
-@case("D2:1 D5:2", "the one before is at", other="handle")
+@case("D2:1 D5:2", "the one before is at", other=each_of("process", "handle"))
 @case("D1:2", lets_go=True)
 @case("D2:1 D5:1", cleared=True)
 @case("D2:1 D5:1 U6:1", frozen_too=True)
 @case("D2:1 D5:1 U6:1", other="handle", cleared=True, told=True)
-def requested_again(s, other="", lets_go=False, cleared=False, frozen_too=False, told=False):
+def requested_again(s, service, client, other="", lets_go=False, cleared=False, frozen_too=False, told=False):
     """A handle is requested twice, with two cookies. Another process, or another handle, has only a request with the
     second cookie, by which a death is told or not. Or the handle is let go of; or the second request is cleared, or its
     cookie is also that of a freeze notification that is not acknowledged."""
-    service, client = s.two()
     client.main.is_given(service.main, 1)
     watches(client.main, 1, 0xD)
     watches(client.main, 1, 0xE)
@@ -249,8 +223,7 @@ def requested_again(s, other="", lets_go=False, cleared=False, frozen_too=False,
         client.main.reads(frozen(0xE, 1))
 
 
-@case("U6:2", death=("first", 0xD), clear=("second", 0xD))
-@case("U6:2", death=("first", 0xD), clear=("first", 0xE))
+@case("U6:2", death=("first", 0xD), clear=each_of(("second", 0xD), ("first", 0xE)))
 @case("D3:1 U6:1", death=("first", 0xD), clear=("first", 0xD))
 @case("U6:2", death=("first", 0xD), clear=("first", 0xD), death_is="freeze")
 @case("U6:2", death=("first", 0xD), clear=("first", 0xD), clear_is="freeze")
@@ -258,11 +231,10 @@ def requested_again(s, other="", lets_go=False, cleared=False, frozen_too=False,
 @case("D3:1 U6:1", death=("first", 0xD), clear=("first", 0xD), death_is="freeze", clear_is="freeze")
 @case("U6:2", death=("first", 0xD), clear=("second", 0xD), death_is="freeze", clear_is="freeze")
 @case("U6:2", death=("first", 0xD), clear=("first", 0xE), death_is="freeze", clear_is="freeze")
-def told_and_cleared(s, death, clear, death_is="death", clear_is="death"):
+def told_and_cleared(s, service, client, death, clear, death_is="death", clear_is="death"):
     """A process is told of a death, or freeze, by a cookie, and does not acknowledge it, or acknowledges a death that
     was not told; and a clear with a cookie, by this process or another one, is not confirmed. Requests for deaths have
     the same cookies as those for freezes."""
-    service, client = s.two()
     both = {"first": client, "second": s.process(300, "second")}
     for process in both.values():
         for handle, cookie in (1, 0xD), (2, 0xE):
@@ -291,9 +263,8 @@ def confirmed_freeze_without_a_clear(s):
 @case("D8:3 U4:1", deaths=(3, 1))
 @case("D8:3 U4:1", deaths=(3,), clears=1)
 @case("U4:3", deaths=(2,), clears=1)
-def deaths_of_two(s, deaths, clears=0):
+def deaths_of_two(s, service, client, deaths, clears=0):
     """So many deaths are told to each process, and not acknowledged; and clears of the first one are not confirmed."""
-    service, client = s.two()
     for at, told in enumerate(deaths):
         process = s.process(300 + at, "server")
         for cookie in range(1, 1 + told + clears):
@@ -302,20 +273,16 @@ def deaths_of_two(s, deaths, clears=0):
         process.main.reads(*each_long(BR_DEAD_BINDER, *range(1, 1 + told)))
         for handle in range(1 + told, 1 + told + (0 if at else clears)):
             process.main.writes(watch(BC_CLEAR_DEATH_NOTIFICATION, handle, handle))
-        for _ in range(2):
-            process.main.writes(ENTER)
+        process.main.goes_on(2)
     s.wait(200)
 
 
 @case("D4:1 D6:1", events="done death death done done")
-@case("D4:3", events="death done done done other")
-@case("D4:3", events="done done death done confirm")
-@case("D4:2", events="confirm done")
-@case("D4:2", events="elsewhere done")
-def more_answers(s, events):
+@case("D4:3", events=each_of("death done done done other", "done done death done confirm"))
+@case("D4:2", events=each_of("confirm done", "elsewhere done"))
+def more_answers(s, service, client, events):
     """Deaths with one cookie are acknowledged, also before they are told or again, and clears with that cookie
     confirmed that nobody made. `other`: an acknowledgement with another cookie; `elsewhere`: by another process."""
-    service, client = s.two()
     other = s.process(300, "other")
     for event in events.split():
         thread = other.main if event == "elsewhere" else client.main
@@ -393,8 +360,7 @@ def freed_and_given_again(s, again=False, keeps=False):
 TAKES = {"A": BC_ACQUIRE, "R": BC_RELEASE, "I": BC_INCREFS, "D": BC_DECREFS}
 
 
-@case("", changes="IAARR")
-@case("", changes="AIIDD")
+@case("", changes=each_of("IAARR", "AIIDD"))
 @case("H4:1", "(2 times, and let go of 0 times)", changes="AA")
 @case("H4:1", "(2 times, and let go of 1 time)", changes="AAR")
 @case("H4:1", "(3 times, weakly, and let go of 0 times)", changes="IIAARRI")
@@ -402,10 +368,9 @@ TAKES = {"A": BC_ACQUIRE, "R": BC_RELEASE, "I": BC_INCREFS, "D": BC_DECREFS}
 @case("H4:1", "(2 times, weakly, and let go of 1 time)", changes="IID")
 @case("C4:1 H4:1 A1:2", changes="AA", called=True)
 @case("H4:1 H11:1", changes="AA", more=True)
-def taken_and_let_go(s, changes, called=False, more=False):
+def taken_and_let_go(s, service, client, changes, called=False, more=False):
     """A handle is acquired, released, taken weakly and let go of so, in this order. A call to it is never answered; or
     another handle is taken more and more often."""
-    service, client = s.two()
     client.main.is_given(service.main, 1, take=False)
     client.main.is_given(service.main, 2, take=False)
     for change in changes:
@@ -419,9 +384,8 @@ def taken_and_let_go(s, changes, called=False, more=False):
 
 
 @case("H3:1")
-def dead_taken_again(s):
+def dead_taken_again(s, service, client):
     """A handle was taken twice, and its process holds it long after its death was told."""
-    service, client = s.two()
     client.main.is_given(service.main, 1)
     client.main.writes(*each(BC_ACQUIRE, 1))
     watches(client.main, 1, 0xD)
@@ -434,9 +398,8 @@ def dead_taken_again(s):
 @case("H4:1", "handle 65, service 100 node 0x4100", count=65)
 @case("H4:1", "handle 64, service 100 node 0x4000", count=64)
 @case("H4:1", "handle 3, service 100 node 0x300", count=3)
-def taken_of_many(s, count):
+def taken_of_many(s, service, client, count):
     """A reply gives so many objects, of which the client takes the last one twice."""
-    service, client = s.two()
     theirs = b"".join(node_object(0x100 * at) for at in range(1, count + 1))
     ours = b"".join(of_handle(2, at) for at in range(1, count + 1))
     address = service.main.gets(client.main.sends(0, 5))
@@ -451,9 +414,8 @@ def taken_of_many(s, count):
 @case("C4:1 H5:4 A1:2", called=True)
 @case("C4:1 H9:8 A1:2", "(4 held at half of its time, 8 at the end; 8 of 8 that are kept are in use)", called=True,
       grows=True)
-def kept_beside(s, twice=0, called=False, grows=False):
+def kept_beside(s, manager, client, server, twice=0, called=False, grows=False):
     """A client keeps what replies gave it. Another one of these it took twice, or a call to one is never answered."""
-    manager, client, server = with_server(s)
     Quarters(s, client, manager).plays(server, (2, 2, 2, 2) if grows else (1, 2, 1, 0), 2 if grows else 0,
                                        twice=(0, 0, 0, twice), uses=grows)
     if called:
@@ -470,14 +432,12 @@ def kept_beside(s, twice=0, called=False, grows=False):
 @case("W3:1", wait=200)
 @case("E3:1 W2:1", wait=20, late=True)
 @case("W2:1 W3:1", wait=20, late=True, other="process")
-@case("W3:1", wait=50, other="node")
-@case("W3:1", wait=50, other="cookie")
+@case("W3:1", wait=50, other=each_of("node", "cookie"))
 @case("W3:1 W5:1", freed=False, other="cookie")
-def oneway_beside_another(s, flags=ONE_WAY, held=300, wait=0, freed=True, other="", late=False):
+def oneway_beside_another(s, service, client, flags=ONE_WAY, held=300, wait=0, freed=True, other="", late=False):
     """As `oneway_after_another`, and the process does more before it ends. A send replaces the one before it, or goes
     to another object: of another address, process or cookie. `late`: one more follows, shortly before the end or, of
     two processes, to the one that ends."""
-    service, client = s.two()
     given(client, service, 1, 0x9100)
     if other == "process":
         given(s.process(300, "twin"), service, 2, 0x9100)
@@ -512,11 +472,10 @@ def given(giver, taker, handle, ptr, cookie=0):
 
 @case("W3:1 U6:1", kept=True)
 @case("O3:2 W3:1", kept=False)
-def oneway_to_a_twin(s, kept):
+def oneway_to_a_twin(s, manager, client, server, kept):
     """Two processes have an object at the same address. A oneway send to one of them never comes. That process keeps a
     reply of the other one that has the flag of a oneway transaction, or makes oneway sends to it with an unknown
     flag."""
-    manager, client, server = with_server(s)
     client.main.gives(manager.main, 7, node=0x9000)
     if kept:
         address = server.main.gets(client.main.sends(1, 7), 0x9000)

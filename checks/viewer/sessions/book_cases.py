@@ -3,7 +3,7 @@
 from checks.kit.captures import (BC_ACQUIRE, BC_DEAD_BINDER_DONE, BC_RELEASE, BC_REPLY, BC_REQUEST_DEATH_NOTIFICATION,
                                  BR_CLEAR_DEATH_NOTIFICATION_DONE, BR_DEAD_BINDER, BR_RELEASE, BR_REPLY,
                                  BR_SPAWN_LOOPER, ENTER, each, each_long, node, record, watch)
-from checks.viewer.sessions.cases import case
+from checks.viewer.sessions.cases import case, each_of
 from checks.viewer.sessions.session import DONE, ONE_WAY, Sent
 
 
@@ -65,16 +65,14 @@ def begun(s, client="", service="", early=False, **given):
 def lets_go(s, had, times, lost=False, early=False):
     """A process lets go of a handle that it held before, or did not."""
     service, client = begun(s, ref(7, had) if had else ref(8), own(0x700), early)
-    if lost:
-        s.loses(client)
+    s.loses(client, lost)
     client.main.writes(*each(BC_RELEASE, *[7] * times))
 
 
 @case("D9:1 H7:1", had=1)
 @case("H6:1 U4:1", had=2)
 @case("D9:1 H7:1", had=1, asked=False, waits=False)
-@case("H7:1 U4:1", had=1, asked=False, waits=True)
-@case("H7:1 U4:1", had=1, asked=False, waits=None)
+@case("H7:1 U4:1", had=1, asked=False, waits=each_of(True, None))
 def lets_go_of_dead(s, had, asked=True, waits=None):
     """A process lets go of a handle that it held before, when it was told of the death, and does not acknowledge that.
     `asked`: it asked for the death after the recording began. `waits`: whether the book of the end has a death that
@@ -84,8 +82,7 @@ def lets_go_of_dead(s, had, asked=True, waits=None):
         client.main.writes(watch(BC_REQUEST_DEATH_NOTIFICATION, 7, 0xD7))
     client.main.reads(*each_long(BR_DEAD_BINDER, 0xD7))
     client.main.writes(*each(BC_RELEASE, 7))
-    for _ in range(2):
-        client.main.writes(ENTER)
+    client.main.goes_on(2)
     s.wait(1100)
     if waits is not None:
         s.books("end", of_200=DEAD if waits else "", of_100="")
@@ -140,8 +137,7 @@ def request_from_before(s, had, early=False, again=False):
 @case("P2:1 P1:1", lines=["outgoing"], answers=2)
 @case("P2:1 S4:1", lines=["outgoing"], answers=2, writes=True)
 @case("P2:2", lines=["outgoing", "outgoing"], answers=2)
-@case("P2:1", lines=["pending"], answers=1)
-@case("P2:1", lines=["error"], answers=1)
+@case("P2:1", lines=each_of(["pending"], ["error"]), answers=1)
 @case("P1:1", lines=["incoming"], answers=1)
 @case("S4:1", lines=["incoming"], answers=1, writes=True)
 @case("P1:1", lines=[], answers=1)
@@ -154,8 +150,7 @@ def answers_to_calls_from_before(s, lines, answers, writes=False, early=False, l
     told = ["transaction error: 29189" if kind == "error" else transaction_of(kind, int(kind != "pending"))
             for kind in lines]
     _, client = begun(s, thread(200, *told), early=early)
-    if lost:
-        s.loses(client)
+    s.loses(client, lost)
     if writes:
         client.main.writes(ENTER)
     for _ in range(answers):

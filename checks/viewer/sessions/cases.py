@@ -1,10 +1,13 @@
 """Small sessions on either side of each threshold and order of the rules, with the rules that their findings get:
 calls, oneway sends and buffers. state_cases.py has the others.
 
-A case is a function that plays a session. Its text counts the rules of all findings: `C4:1 A1:1` is one finding with
-rule C4 and one with A1.
+A case is a function that plays a session, which begins with the processes that its parameters name: see `begun`. Its
+text counts the rules of all findings: `C4:1 A1:1` is one finding with rule C4 and one with A1.
 """
 
+import functools
+import inspect
+import itertools
 from typing import Callable, NamedTuple
 
 from checks.kit.captures import (BC_DEAD_BINDER_DONE, BC_EXIT_LOOPER, BC_RELEASE, BC_REPLY,
@@ -28,15 +31,48 @@ class Case(NamedTuple):
 
 
 CASES: list[Case] = []
+PROCESSES = {"manager", "service", "client", "server"}
+
+
+def begun(play):
+    """A session that begins as its function asks, by parameters without a default: with `server` by with_server, with
+    `service`, `manager` or `client` by `two`, which gets what is given as `met`."""
+    asked = PROCESSES & {name for name, one in inspect.signature(play, follow_wrapped=False).parameters.items()
+                         if one.default is one.empty}
+    if not asked:
+        return play
+
+    @functools.wraps(play)
+    def whole(s, met="from-start", **given):
+        there = dict(zip(("manager", "client", "server"), with_server(s) if "server" in asked else s.two(met)))
+        there["service"] = there["manager"]
+        play(s, **{name: there[name] for name in asked}, **given)
+    return whole
+
+
+class Each(NamedTuple):
+    """Values of a parameter: there is a case with each of them."""
+    values: tuple
+
+
+def each_of(*values):
+    return Each(values)
 
 
 def case(due, *words, has_side=True, **given):
-    """A case of a function: the counts of the rules that its findings must get, and words of notes and paths."""
+    """A case of a function: the counts of the rules that its findings must get, and words of notes and paths. Where a
+    value is Each, there are as many cases."""
     def add(play):
+        play = begun(play)
+        listed = [value.values[::-1] if isinstance(value, Each) else [value] for value in given.values()]
+        for values in itertools.product(*listed):
+            add_one(play, dict(zip(given, values)))
+        return play
+
+    def add_one(play, given):
         name = " ".join([play.__name__, *(f"{key}={value}" for key, value in given.items())])
         CASES.append(Case(name if has_side else f"{name} without a side list", lambda s: play(s, **given), due, words,
                           has_side))
-        return play
     return add
 
 
@@ -46,8 +82,7 @@ def case(due, *words, has_side=True, **given):
 @case("C4:1 A1:2", "(open for ≥ 201 ms; service 100 got it at", "has done nothing since", "C4 by service 100: 1",
       wait=200)
 @case("U6:1 A1:2", "U6 by service 100: 1", wait=50)
-def never_answered(s, wait):
-    service, client = s.two()
+def never_answered(s, service, client, wait):
     service.main.gets(client.main.sends(0, 1))
     s.wait(wait)
 
@@ -65,10 +100,8 @@ def others_queue(s, wait, took=0, enters=True, killed=False):
     took as long; or the looper has not said that it is one, but takes calls; or the service is killed after the last
     frame."""
     service, client = s.two(enters=enters)
-    for _ in range(5):
-        client.main.asks(service.main, 2)
-    for _ in range(2 if took else 0):
-        client.main.asks(service.main, 10, took=took)
+    client.main.asks(service.main, 2, times=5)
+    client.main.asks(service.main, 10, took=took, times=2 if took else 0)
     service.main.gets(client.main.sends(0, 10))
     for number in 300, 301:
         s.process(number, "other").main.sends(0, 1)
@@ -78,13 +111,10 @@ def others_queue(s, wait, took=0, enters=True, killed=False):
 
 
 @case("C4:1 C6:1 C7:2 A1:4")
-def two_pools(s):
+def two_pools(s, service, client):
     """The only loopers of two services never answer. At one of them another call waits for long, at the other not."""
-    service, client = s.two()
-    server = s.process(300, "server")
-    server.main.writes(ENTER)
-    server.main.gives(service.main, 3, node=0x9000)
-    client.main.is_given(service.main, 1, server_handle=3)
+    server = s.process(300, "server", enters=True)
+    client.main.is_passed(server.main, service.main, 1, 3, node=0x9000)
     server.main.gets(client.main.sends(1, 10), 0x9000)
     service.main.gets(client.thread(1).sends(0, 10))
     s.process(400, "other").main.sends(0, 1)
@@ -96,10 +126,9 @@ def two_pools(s):
 @case("C3:2 A1:4", mains=True)
 @case("U6:2 A1:4", mains=True, wait=50)
 @case("C9:2 A1:4", "its main thread waits for the call at", mains=False)
-def embrace_of_mains(s, mains, wait=300):
+def embrace_of_mains(s, service, client, mains, wait=300):
     """The loopers of two processes wait for their main threads, which wait for each other. The other way: the second
     call is not by the main thread."""
-    service, client = s.two()
     client.main.is_given(service.main, 1)
     looper, back = service.looper(1), client.looper(1)
     looper.gets(client.main.sends(0, 11))
@@ -138,8 +167,7 @@ def ring_of_locks(s, good=3, took=0, wait=300, active=0, lost=False, others=0, s
     for _ in range(good):
         client.main.asks(one, 11, took=took)
         two.asks(back, 2, 7, 0x9700, took=took + slow)
-    if lost:
-        s.loses(service)
+    s.loses(service, lost)
     sink = s.process(300, "sink") if others or before else None
     if sink:
         sink.main.gives(service.main, 8)
@@ -173,10 +201,8 @@ def comes_back_and_hangs(s, wait, good=0, took=0, active=False, other=False, los
     Or that thread writes something later, or another thread of its process gets the call back. More calls may wait for
     the service, also one of the main thread of that process."""
     service, client, back = with_each_other(s)
-    for _ in range(good):
-        service.main.asks(back, 2, 7, 0x9700, took=took)
-    if lost:
-        s.loses(client)
+    service.main.asks(back, 2, 7, 0x9700, took=took, times=good)
+    s.loses(client, lost)
     calls = back if main_calls else client.main
     service.main.gets(calls.sends(0, 11))
     hanging = back if other else calls
@@ -228,8 +254,7 @@ def embrace_through_a_pool(s):
     service."""
     service, client = s.two(enters=False)
     other = s.process(300, "other")
-    client.main.gives(service.main, 7)
-    other.main.is_given(service.main, 1, server_handle=7)
+    other.main.is_passed(client.main, service.main, 1, 7)
     looper, back = service.looper(1), client.looper(1)
     back.gets(other.main.sends(1, 3), 0x9700)
     looper.gets(client.main.sends(0, 2))
@@ -242,10 +267,9 @@ def embrace_through_a_pool(s):
 @case("C4:2 A1:4 C5:1", "C5 by service 100: 1", free=True)
 @case("C6:2 A1:4 C7:1", free=True, exits=True)
 @case("C4:2 A1:4 C5:1", free=False, rests=True)
-def pool_of_two(s, free, exits=False, rests=False):
+def pool_of_two(s, service, client, free, exits=False, rests=False):
     """Two loopers of a service are in calls, and a third call waits; or a third looper is free, and did not get it; or
     that one is no looper any more. `rests`: the one that is free is the main thread."""
-    service, client = s.two()
     first, second = service.looper(3) if rests else service.main, service.looper(1)
     if free:
         third = service.looper(2)
@@ -259,9 +283,8 @@ def pool_of_two(s, free, exits=False, rests=False):
 
 @case("C6:1 C7:1", "its only looper is in oneway code 7 since", wait=1100)
 @case("W5:1 C7:1", wait=20)
-def pool_in_oneway(s, wait):
+def pool_in_oneway(s, service, client, wait):
     """The only looper of a service is in a oneway transaction, and a call waits."""
-    service, client = s.two()
     client.main.asks(service.main, 2)
     service.main.gets(client.main.sends(0, 7, ONE_WAY))
     client.main.sends(0, 1)
@@ -302,8 +325,7 @@ def only_looper_serves_on(s, serves):
     s.tell(f"calls 0 300 301 made=0 served={serves}")
     manager, client = s.two("before-file")
     server = s.process(300, "server", "before-file")
-    server.main.gives(manager.main, 3, node=0x9000)
-    client.main.is_given(manager.main, 1, server_handle=3)
+    client.main.is_passed(server.main, manager.main, 1, 3, node=0x9000)
     client.main.sends(1, 1)
     client.thread(1).sends(1, 1)
     s.wait(1100)
@@ -312,11 +334,9 @@ def only_looper_serves_on(s, serves):
 @case("T1:1", "replied at", ends=1)
 @case("C1:1", "replied at", "C1 by client 200: 1", wait=200)
 @case("C2:1", "replied at", wait=50)
-def answer_unread(s, ends=0, wait=0):
+def answer_unread(s, service, client, ends=0, wait=0):
     """A call is answered after its thread has ended; or long, or shortly, before the end."""
-    service, client = s.two()
-    for _ in range(3):
-        client.main.asks(service.main)
+    client.main.asks(service.main, times=3)
     address = service.main.gets(client.main.sends(0, 2))
     s.wait(300)
     if ends:
@@ -330,8 +350,7 @@ def answer_unread(s, ends=0, wait=0):
 
 @case("E3:1", "E3 by short-lived 300: 1", sends=1, after=500)
 @case("E13:1", "told at 1380", "E13 by client 200: 1", sends=1, after=1500)
-@case("E13:2", "told at", sends=2, after=10)
-@case("E13:2", "told at", sends=2, after=500)
+@case("E13:2", "told at", sends=2, after=each_of(10, 500))
 @case("E1:2", "told at", "E1 by client 200: 2", sends=2, after=1500)
 @case("E1:3", "told at", sends=3, after=10)
 @case("E1:10", "told at", sends=10, after=1500)
@@ -340,13 +359,11 @@ def answer_unread(s, ends=0, wait=0):
 @case("E13:2 E3:1", "told at", sends=2, after=10, once=1)
 @case("E3:3", sends=1, after=10, codes=3)
 @case("E13:4", "told at", sends=2, after=10, codes=2)
-def calls_the_dead(s, sends, after, threads=1, once=0, codes=1):
+def calls_the_dead(s, service, client, sends, after, threads=1, once=0, codes=1):
     """The client is told of a death, and calls the dead object, each of some threads so many times with each of some
     codes; `once`: so many more threads call it once each."""
-    service, client = s.two()
     other = s.process(300, "short-lived")
-    other.main.gives(service.main, 3)
-    client.main.is_given(service.main, 1, server_handle=3)
+    client.main.is_passed(other.main, service.main, 1, 3)
     client.main.writes(watch(BC_REQUEST_DEATH_NOTIFICATION, 1, 0xD))
     other.ends()
     client.main.reads(*each_long(BR_DEAD_BINDER, 0xD))
@@ -355,17 +372,14 @@ def calls_the_dead(s, sends, after, threads=1, once=0, codes=1):
     callers = [client.main, *(client.thread(1 + at) for at in range(threads + once - 1))]
     for one in callers[:threads] * sends + callers[threads:]:
         for code in range(1, 1 + codes):
-            one.sends(1, code)
-            one.reads(record(BR_DEAD_REPLY))
+            one.sends(1, code, told=BR_DEAD_REPLY)
 
 
 @case("E3:2")
-def news_during_calls(s):
+def news_during_calls(s, service, client):
     """Two threads are in calls of an object when a third reads of its death."""
-    service, client = s.two()
     other = s.process(300, "short-lived")
-    other.main.gives(service.main, 3)
-    client.main.is_given(service.main, 1, server_handle=3)
+    client.main.is_passed(other.main, service.main, 1, 3)
     client.main.writes(watch(BC_REQUEST_DEATH_NOTIFICATION, 1, 0xD))
     both = client.main, client.thread(1)
     for one in both:
@@ -391,10 +405,9 @@ def news_during_calls(s):
 @case("E2:10 E3:1", sends=10, pause=90)
 @case("E11:10 E3:1", wait=1100, sends=10)
 @case("E2:10 E3:1", sends=5, pause=250, then=5)
-def dead_reply_before(s, crossing=False, sends=1, before=0, wait=0, then=0, pause=0):
+def dead_reply_before(s, service, client, crossing=False, sends=1, before=0, wait=0, then=0, pause=0):
     """Two threads call an object that ends, both before it ends; or the second after the first has read so, soon or
     not, once or more often, with pauses. `then`: so many times the first one calls it again."""
-    service, client = s.two()
     one, two = client.main, client.thread(1)
     one.sends(0, 1)
     s.wait(before)
@@ -408,33 +421,27 @@ def dead_reply_before(s, crossing=False, sends=1, before=0, wait=0, then=0, paus
         two.reads(record(BR_DEAD_REPLY))
         s.wait(pause)
     for _ in range(then):
-        one.sends(0, 1)
-        one.reads(record(BR_DEAD_REPLY))
+        one.sends(0, 1, told=BR_DEAD_REPLY)
 
 
 @case("E3:4", times=2)
 @case("E2:4 E3:2", times=3)
-def two_dead_objects(s, times):
+def two_dead_objects(s, service, client, times):
     """A thread calls two objects that have ended, so many times each."""
-    service, client = s.two()
     client.main.is_given(service.main, 1)
     for _ in range(times):
         for handle in 0, 1:
-            client.main.sends(handle, 1)
-            client.main.reads(record(BR_DEAD_REPLY))
+            client.main.sends(handle, 1, told=BR_DEAD_REPLY)
 
 
 @case("E4:1", "E4 by service 100: 1", then="nothing")
-@case("E4:1", then="oneway")
-@case("E4:1", then="work")
+@case("E4:1", then=each_of("oneway", "work"))
 @case("E8:1", "service 100 was frozen, and got a call again at", "E8 by service 100: 1", then="call")
-def frozen(s, then):
+def frozen(s, service, client, then):
     """A call is refused, since its server is frozen, which was called before. Then it gets a call, or a oneway
     transaction, which does not say that it was thawed, or does something of its own, or nothing."""
-    service, client = s.two()
     client.main.asks(service.main)
-    client.main.sends(0, 1)
-    client.main.reads(record(BR_FROZEN_REPLY))
+    client.main.sends(0, 1, told=BR_FROZEN_REPLY)
     if then == "call":
         client.main.asks(service.main)
     elif then == "oneway":
@@ -460,16 +467,13 @@ def frozen(s, then):
 @case("E4:9", "E4 by client 200: 9", freezes=((9,),), pause=150)
 @case("E4:10", freezes=((10,),), pause=100)
 @case("E4:10", freezes=((5,), (5,)), pause=250)
-def goes_on_calling_the_frozen(s, freezes, thaws=True, servers=1, pause=0):
+def goes_on_calling_the_frozen(s, service, client, freezes, thaws=True, servers=1, pause=0):
     """In each freeze of a service threads make so many calls, with pauses; then it is thawed, and gets a call.
     `servers`: so many are frozen at the same time, and called by the same threads."""
-    service, client = s.two()
     frozen = [(0, 0, service)]
     if servers > 1:
-        server = s.process(300, "server")
-        server.main.writes(ENTER)
-        server.main.gives(service.main, 3, node=0x9000)
-        client.main.is_given(service.main, 1, server_handle=3)
+        server = s.process(300, "server", enters=True)
+        client.main.is_passed(server.main, service.main, 1, 3, node=0x9000)
         frozen.append((1, 0x9000, server))
     threads = [client.main, *(client.thread(1 + at) for at in range(max(map(len, freezes)) - 1))]
     for handle, ptr, process in frozen:
@@ -477,8 +481,7 @@ def goes_on_calling_the_frozen(s, freezes, thaws=True, servers=1, pause=0):
     for calls in freezes:
         for one, times in zip(threads, calls):
             for handle, _, _ in frozen * times:
-                one.sends(handle, 1)
-                one.reads(record(BR_FROZEN_REPLY))
+                one.sends(handle, 1, told=BR_FROZEN_REPLY)
                 s.wait(pause)
         for handle, ptr, process in frozen if thaws else ():
             client.main.asks(process.main, 1, handle, ptr)
@@ -492,12 +495,10 @@ def goes_on_calling_the_frozen(s, freezes, thaws=True, servers=1, pause=0):
 @case("R2:2", wrong=2, right=0)
 @case("R1:4", wrong=4, right=1)
 @case("R2:3", wrong=3, right=1)
-def answered_with_a_status(s, wrong, right, others=0):
+def answered_with_a_status(s, service, client, wrong, right, others=0):
     """Calls are answered with a status; the last ones are of another process."""
-    service, client = s.two()
     other = s.process(300, "other") if others else None
-    for _ in range(right):
-        client.main.asks(service.main, 7)
+    client.main.asks(service.main, 7, times=right)
     for at in range(wrong):
         caller = client if at < wrong - others else other
         address = service.main.gets(caller.main.sends(0, 7))
@@ -520,15 +521,13 @@ def with_server(s):
     """A manager, a client, and a server that the client has handle 1 of, by way of the manager."""
     manager, client = s.two()
     server = s.process(300, "server")
-    server.main.gives(manager.main, 3, node=0x9000)
-    client.main.is_given(manager.main, 1, server_handle=3)
+    client.main.is_passed(server.main, manager.main, 1, 3, node=0x9000)
     return manager, client, server
 
 
 @case("R1:4", "code 1 to objects given by replies to code 5 of server 300 node 0x9000: 1")
-def status_of_many_objects(s):
+def status_of_many_objects(s, client, server):
     """Each of four objects that came the same way gets one call, and answers with a status."""
-    _, client, server = with_server(s)
     for handle in range(2, 6):
         client.main.is_given(server.main, handle, via=1, ptr=0x9000)
         address = server.main.gets(client.main.sends(handle, 1), 0x100 * handle)
@@ -545,10 +544,9 @@ def status_of_many_objects(s):
 @case("E5:1 W5:2 W2:2", "E5 by service 100: 1",
       "defect: sends that were refused (BR_FAILED_REPLY) | service on binder | oneway to service; ", others=2, got=2)
 @case("E5:2 U6:4", "E5 by other 300: 1", "E5 by client 200: 1", others=2, call=True)
-def oneway_space_full(s, others=0, got=0, call=False):
+def oneway_space_full(s, service, client, others=0, got=0, call=False):
     """A oneway send is refused, after three of which two may be of another process. The service gets some of the three.
     A call of the same process is refused, too, or not."""
-    service, client = s.two()
     client.main.asks(service.main)
     other = s.process(300, "other")
     sent = [(other if at < others else client).main.sends(0, 7, ONE_WAY, bytes(1020), seen=False) for at in range(3)]
@@ -558,8 +556,7 @@ def oneway_space_full(s, others=0, got=0, call=False):
     client.main.reads(record(BR_FAILED_REPLY))
     client.main.sends(0, 7, ONE_WAY, bytes(4), seen=False)
     if call:
-        client.main.sends(0, 7)
-        client.main.reads(record(BR_FAILED_REPLY))
+        client.main.sends(0, 7, told=BR_FAILED_REPLY)
 
 
 @case("E5:1 W11:3 W3:1", "(the driver refused the one at ")
@@ -567,10 +564,9 @@ def oneway_space_full(s, others=0, got=0, call=False):
 @case("E5:1 W3:4", other_receiver=True)
 @case("E4:1 W3:4", kind=BR_FROZEN_REPLY)
 @case("E5:2 W11:4", "(the driver refused the one at 2012)", again=True)
-def full_at_a_frozen(s, call=False, other_receiver=False, kind=BR_FAILED_REPLY, again=False):
+def full_at_a_frozen(s, service, client, call=False, other_receiver=False, kind=BR_FAILED_REPLY, again=False):
     """A client takes none of three oneway sends, and the driver refuses another one to it, or a call, or one to another
     client. Then one more is taken, and maybe one more refused."""
-    service, client = s.two()
     other = s.process(300, "other")
     client.main.gives(service.main, 1)
     other.main.gives(service.main, 2)
@@ -587,8 +583,7 @@ def full_at_a_frozen(s, call=False, other_receiver=False, kind=BR_FAILED_REPLY, 
 
 
 @case("E7:1", "code 7 to service 100 node 0x0")
-def spam(s):
-    service, client = s.two()
+def spam(s, service, client):
     client.main.asks(service.main)
     sent = Sent(client.main, 7, ONE_WAY, b"", b"")
     client.main.writes(sent.record(BC_TRANSACTION))
@@ -600,10 +595,9 @@ def spam(s):
 
 
 @case("E3:3", "service 100 to client 200 code 7: 3 of 3", "service 100 to brief 302 code 7: 0 of 1", short=3)
-def oneway_to_short_lives(s, short):
+def oneway_to_short_lives(s, service, client, short):
     """A service sends alike to a long-lived client and to short-lived ones that end before it comes. Each of the
     long-lived one's is delivered, and only these."""
-    service, client = s.two()
     client.main.gives(service.main, 1)
     looper = client.looper(1)
     for number in range(300, 300 + short):
@@ -620,9 +614,8 @@ def oneway_to_short_lives(s, short):
 @case("W2:1", freed=True, wait=50)
 @case("W3:1", freed=True, wait=200)
 @case("W2:1 W6:1", freed=False, wait=200)
-def oneway_after_another(s, freed, wait):
+def oneway_after_another(s, service, client, freed, wait):
     """A oneway send waits for the one before it, which is freed before the end of its process, or not at all."""
-    service, client = s.two()
     client.main.gives(service.main, 1)
     looper = client.looper(1)
     for _ in range(3):
@@ -641,14 +634,12 @@ def oneway_after_another(s, freed, wait):
 @case("U2:1", writes=4)
 @case("U4:1", writes=1, reads=4)
 @case("U4:1", writes=1, empty=4)
-def oneway_kept_by_a_thread_that_goes_on(s, writes, reads=0, empty=0):
+def oneway_kept_by_a_thread_that_goes_on(s, service, client, writes, reads=0, empty=0):
     """A oneway transaction is not freed, and its thread writes and reads so often after it, or writes nothing."""
-    service, client = s.two()
     for _ in range(3):
         service.main.frees(service.main.gets(client.main.sends(0, 7, ONE_WAY)))
     service.main.gets(client.main.sends(0, 7, ONE_WAY))
-    for _ in range(writes):
-        service.main.writes(ENTER)
+    service.main.goes_on(writes)
     for _ in range(reads):
         service.main.reads(record(BR_NOOP))
     for _ in range(empty):
@@ -657,10 +648,9 @@ def oneway_kept_by_a_thread_that_goes_on(s, writes, reads=0, empty=0):
 
 
 @case("W2:1")
-def oneway_after_another_of_its_object(s):
+def oneway_after_another_of_its_object(s, service, client):
     """As the first of these; and later ones come, and are freed at once, by the same ptr in another process, and in the
     same process by another ptr, by another cookie, and as a call. One more goes to a handle whose node is not known."""
-    service, client = s.two()
     twin, main = s.process(300, "twin"), client.main
     address = service.main.gets(main.sends(0, 7, ONE_WAY))
     main.sends(0, 7, ONE_WAY)
@@ -688,10 +678,9 @@ def oneway_after_another_of_its_object(s):
 @case("U6:1 W2:1", wait=50, goes_on=True)
 @case("W2:1 W5:1", "(1 waits for it)", wait=0, has_side=False)
 @case("U6:1 W2:1 W5:1", wait=500, beside=True)
-def oneway_handler(s, wait, sends=1, good=0, goes_on=False, beside=False):
+def oneway_handler(s, service, client, wait, sends=1, good=0, goes_on=False, beside=False):
     """The handler of a oneway transaction is at work for so long, and other sends wait for it; or its thread goes on.
     Earlier ones were quick. Beside it a client keeps its last reply, which says that it is oneway."""
-    service, client = s.two()
     client.main.gives(service.main, 1)
     looper = client.looper(1)
     for _ in range(good):
@@ -722,14 +711,12 @@ def oneway_handler(s, wait, sends=1, good=0, goes_on=False, beside=False):
 @case("W2:3 W6:1", good=3, goes_on=False, wait=950)
 @case("M2:1 W2:3", lost=True)
 @case("U4:1 W2:3", has_side=False)
-def blocked_object(s, wait=1100, sends=3, late=0, good=0, took=0, goes_on=True, lost=False):
+def blocked_object(s, service, client, wait=1100, sends=3, late=0, good=0, took=0, goes_on=True, lost=False):
     """A oneway transaction is not freed, sends wait for it, some of them only lately, and its thread goes on or not.
     Earlier ones took so long."""
-    service, client = s.two()
     client.main.gives(service.main, 1)
     looper = client.looper(1)
-    if lost:
-        s.loses(client)
+    s.loses(client, lost)
     for _ in range(good):
         address = looper.gets(service.main.sends(1, 7, ONE_WAY), 0x9100)
         s.wait(took)
@@ -745,13 +732,11 @@ def blocked_object(s, wait=1100, sends=3, late=0, good=0, took=0, goes_on=True, 
     s.wait(wait / 2)
 
 
-@case("W5:1 W3:1", kept="node")
-@case("W5:1 W3:1", kept="process")
+@case("W5:1 W3:1", kept=each_of("node", "process"))
 @case("U6:1 W3:1", kept="call")
-def oneway_beside_another(s, kept):
+def oneway_beside_another(s, service, client, kept):
     """A oneway send does not come, while its receiver keeps a delivery for which it does not wait: a oneway one at
     another node, one at a node of this address in another process, or a call at its own node."""
-    service, client = s.two()
     for handle in (1, 2):
         client.main.gives(service.main, handle)
     looper = client.looper(1)
@@ -778,10 +763,8 @@ def kept_buffers(s, kept, good, then=4, wait=200, held=0, lost=False, ends=False
         address = service.main.gets(client.main.sends(0, 1))
         s.wait(held if at < good else 0)
         client.main.answered(service.main.replies(address if at < good else None))
-    if lost:
-        s.loses(service)
-    for _ in range(then):
-        client.main.asks(service.main, 2)
+    s.loses(service, lost)
+    client.main.asks(service.main, 2, times=then)
     s.wait(wait)
     if ends:
         service.ends()
@@ -798,8 +781,7 @@ def kept_buffers(s, kept, good, then=4, wait=200, held=0, lost=False, ends=False
 @case("M2:1", kept=1, good=3, lost=True)
 @case("U2:1", kept=1, good=3, then=3)
 @case("U4:1", kept=1, good=3, then=2)
-@case("U6:1", kept=1, good=3, wait=60)
-@case("U6:1", kept=1, good=0, wait=60)
+@case("U6:1", kept=1, good=each_of(3, 0), wait=60)
 @case("U4:1", kept=1, good=0, wait=110)
 @case("U2:1", kept=1, good=3, wait=1000, held=90)
 @case("U4:1", kept=1, good=3, wait=1000, held=120)
@@ -813,17 +795,15 @@ def buffers(s, **given):
 @case("M2:1")
 @case("U2:1", code=8)
 @case("U2:1", ptr=0x100)
-def buffer_of_a_path_with_a_lost_frame(s, code=7, ptr=0):
+def buffer_of_a_path_with_a_lost_frame(s, service, client, code=7, ptr=0):
     """A client keeps a reply, and a frame of another one is lost, which calls by the same code and object, or another
     one of these."""
-    service, client = s.two()
     other = s.process(300, "other")
     for free in True, True, True, False:
         client.main.asks(service.main, 7, free=free)
     other.main.asks(service.main, code, 5 if ptr else 0, ptr)
     s.loses(other)
-    for _ in range(4):
-        client.main.asks(service.main, 2)
+    client.main.asks(service.main, 2, times=4)
     s.wait(300)
 
 
@@ -839,10 +819,9 @@ ERRORS = "all 3 that are kept have at most 12 bytes, all 3 that were freed at le
 @case("U3:3", "reply to code 7 of service 100 node 0x0 ()", others=(40, 40, 40), freed=())
 @case("U2:3", ERRORS, others=(4, 4, 4))
 @case("U3:3", "reply to code 7 of service 100 node 0x0 ()", freed=(), other_code=(40, 40, 40))
-def small_replies(s, kept=(12, 12, 12), freed=(40, 40, 40), others=(), other_code=()):
+def small_replies(s, service, client, kept=(12, 12, 12), freed=(40, 40, 40), others=(), other_code=()):
     """A client does not free some replies, and frees others, of these sizes. Another client frees all, or there are
     replies to another code."""
-    service, client = s.two()
     other = s.process(300, "other")
 
     def asks(thread, code, size, free):
@@ -857,8 +836,7 @@ def small_replies(s, kept=(12, 12, 12), freed=(40, 40, 40), others=(), other_cod
         asks(other.main, 7, size, True)
     for size in other_code:
         asks(client.main, 9, size, True)
-    for _ in range(4):
-        client.main.asks(service.main, 8)
+    client.main.asks(service.main, 8, times=4)
     s.wait(300)
 
 
@@ -880,10 +858,8 @@ def replies_to_several(s, kept, good=0, others=0, freed=4, takes=60, then=4, wai
     """A client keeps some replies, and frees others, at once. Each of some other clients keeps one, and another one
     frees all, which takes long. Or that one keeps its last reply, too, or a frame of it is lost."""
     service, client = s.two()
-    slow = s.process(300, "slow")
-    slow.main.writes(ENTER)
-    if lost:
-        s.loses(slow)
+    slow = s.process(300, "slow", enters=True)
+    s.loses(slow, lost)
     for at in range(kept + good):
         address = client.main.asks(service.main, free=False)
         if at >= kept:
@@ -892,16 +868,14 @@ def replies_to_several(s, kept, good=0, others=0, freed=4, takes=60, then=4, wai
     for number in range(others):
         other = s.process(400 + number, "other")
         other.main.asks(service.main, free=False)
-        for _ in range(then):
-            other.main.asks(service.main, 2)
+        other.main.asks(service.main, 2, times=then)
     for _ in range(freed):
         address = slow.main.asks(service.main, free=False)
         s.wait(takes)
         slow.main.frees(address)
     if last:
         slow.main.asks(service.main, free=False)
-    for _ in range(then):
-        client.main.asks(service.main, 2)
+    client.main.asks(service.main, 2, times=then)
     s.wait(wait)
 
 
@@ -927,8 +901,7 @@ def free_behind_a_reply(s, ends=True, fails=False, more=False, late=False):
     service.main.reads(DONE)
     if not ends:
         client.main.reads(DONE, record(BR_FAILED_REPLY) if fails else Sent(None, 0, 0, b"", b"").record(BR_REPLY))
-    for _ in range(4):
-        other.main.asks(service.main, 2)
+    other.main.asks(service.main, 2, times=4)
     s.wait(300)
 
 
@@ -936,9 +909,8 @@ def free_behind_a_reply(s, ends=True, fails=False, more=False, late=False):
 @case("U4:1 U5:1", kept=2)
 @case("U4:1 U6:1", kept=2, wait=50, between=200)
 @case("U4:2 U5:1", kept=3)
-def last_buffer(s, kept, wait=500, between=0):
+def last_buffer(s, service, client, kept, wait=500, between=0):
     """A thread keeps the last reply that it got, and another before it or not."""
-    service, client = s.two()
     for _ in range(kept):
         s.wait(between)
         client.main.asks(service.main, free=False)
@@ -948,13 +920,11 @@ def last_buffer(s, kept, wait=500, between=0):
 @case("U1:1", wait=300, held=1)
 @case("U4:1", wait=1200, held=1)
 @case("U4:1", wait=300, held=0)
-def few_frames(s, wait, held):
+def few_frames(s, service, client, wait, held):
     """A reply that is held over one more call at the end, as the ones before it were, or over more than these."""
-    service, client = s.two()
     for _ in range(3):
         address = client.main.asks(service.main, free=False)
-        for _ in range(held):
-            client.main.asks(service.main, 2)
+        client.main.asks(service.main, 2, times=held)
         client.main.frees(address)
     client.main.asks(service.main, free=False)
     client.main.asks(service.main, 2)
@@ -976,14 +946,11 @@ def few_frames(s, wait, held):
 @case("U6:3 A1:6", good=2, took=600, wait=1300, calls=3)
 @case("U1:3 A1:6", good=3, took=600, wait=1100, calls=3)
 @case("U6:3 A1:6", good=3, took=100, wait=900, calls=3)
-@case("M2:1 A1:2", good=3, took=100, wait=1100, lost=1)
-@case("M2:1 A1:2", good=3, took=100, wait=1100, lost=0)
-def slow_answers(s, good, took, wait, lost=None, calls=1):
+@case("M2:1 A1:2", good=3, took=100, wait=1100, lost=each_of(1, 0))
+def slow_answers(s, service, client, good, took, wait, lost=None, calls=1):
     """A call takes long, or several of several threads. `lost`: a frame of the service, 0, or of the client, 1, is
     lost."""
-    service, client = s.two()
-    for _ in range(good):
-        client.main.asks(service.main, took=took)
+    client.main.asks(service.main, took=took, times=good)
     if lost is not None:
         s.loses((service, client)[lost])
     for at in range(calls):
@@ -993,9 +960,8 @@ def slow_answers(s, good, took, wait, lost=None, calls=1):
 
 @case("A1:2 T1:1", wait=50)
 @case("A1:2 C4:1", wait=400)
-def caller_ends(s, wait):
+def caller_ends(s, service, client, wait):
     """A caller ends while its call is served: soon, or long after."""
-    service, client = s.two()
     service.main.gets(client.main.sends(0, 1))
     s.wait(wait)
     client.ends()
@@ -1007,11 +973,9 @@ def caller_ends(s, wait):
 @case("E5:1", "E5 by client 200: 1", kind=BR_FAILED_REPLY)
 @case("E6:1", "E6 by service 100: 1", kind=BR_FAILED_REPLY, confirmed=True)
 @case("M3:1", kind=BR_FAILED_REPLY, lost=True)
-def failed_call(s, kind, confirmed=False, lost=False):
-    service, client = s.two()
+def failed_call(s, service, client, kind, confirmed=False, lost=False):
     client.main.asks(service.main)
-    if lost:
-        s.loses(client)
+    s.loses(client, lost)
     client.main.sends(0, 1)
     client.main.reads(*([DONE] if confirmed else []), record(kind))
 
@@ -1020,10 +984,9 @@ def failed_call(s, kind, confirmed=False, lost=False):
 @case("E6:1", "E6 by client 200: 1", sort=5)
 @case("E6:1", "E6 by service 100: 1", sort=0)
 @case("E6:1", "E6 by service 100: 1", flags=ACCEPT_FDS)
-def reply_with_a_descriptor(s, flags=0, sort=4):
+def reply_with_a_descriptor(s, service, client, flags=0, sort=4):
     """The driver can't deliver a reply with a file descriptor, or with several or another object, and its caller takes
     some, or none."""
-    service, client = s.two()
     address = service.main.gets(client.main.sends(0, 1, flags=flags))
     service.main.replies(address, SORTS[sort], offsets(0))
     client.main.reads(DONE, record(BR_FAILED_REPLY))
@@ -1032,12 +995,10 @@ def reply_with_a_descriptor(s, flags=0, sort=4):
 @case("S1:1", "the send at", "S1 at 752: 1 of 2, 2 frames, 2000000 ns", "real sends that were refused: 1 of 2 code 7",
       "defect: sends that were refused | client", known=True)
 @case("M3:1", "maybe closers of no call: 1 of 2 code 7", "defect: closers of no call | client", known=True, lost=True)
-def refused_of_two(s, known, lost=False):
+def refused_of_two(s, service, client, known, lost=False):
     """Of two oneway sends in one write the driver refuses the second."""
-    service, client = s.two()
     client.main.asks(service.main)
-    if lost:
-        s.loses(client)
+    s.loses(client, lost)
     sent = Sent(None, 7, ONE_WAY, b"", b"").record(BC_TRANSACTION)
     client.main.writes(sent, sent)
     client.main.reads(DONE, record(BR_FAILED_REPLY))
@@ -1045,10 +1006,9 @@ def refused_of_two(s, known, lost=False):
 
 
 @case("S1:1 S3:1", "the send at")
-def after_a_crossed_call(s):
+def after_a_crossed_call(s, service, client):
     """While a service serves a call, the driver refuses the second of two oneway sends in one write. The error reply
     crosses the served call, so the reply to that call is a stray."""
-    service, client = s.two()
     client.main.gives(service.main, 7)
     address = service.main.gets(client.main.sends(0, 1))
     sent = Sent(None, 7, ONE_WAY, b"", b"").record(BC_TRANSACTION, 7)
@@ -1059,9 +1019,8 @@ def after_a_crossed_call(s):
 
 
 @case("E5:1 S2:1", "refused at", "groups that are real: 1")
-def reply_to_nothing(s):
+def reply_to_nothing(s, service, client):
     """The error and the reply are one finding."""
-    service, client = s.two()
     client.main.asks(service.main)
     service.main.writes(Sent(None, 0, 0, b"", b"").record(BC_REPLY))
     service.main.reads(record(BR_FAILED_REPLY))
@@ -1070,10 +1029,8 @@ def reply_to_nothing(s):
 @case("S4:1 U6:1", met="from-start")
 @case("P1:1 U6:1", met="in-mid-life")
 @case("M1:1 U6:1", met="from-start", lost=True)
-def answer_to_nothing(s, met, lost=False):
-    service, client = s.two(met)
-    if lost:
-        s.loses(client)
+def answer_to_nothing(s, service, client, lost=False):
+    s.loses(client, lost)
     client.main.reads(Sent(None, 0, 0, b"", b"").record(BR_REPLY, 0, client.address()))
     client.main.writes(record(BC_EXIT_LOOPER))
 
@@ -1084,10 +1041,9 @@ def answer_to_nothing(s, met, lost=False):
 @case("C4:3 E6:2 A1:4", n=4, wait=670)
 @case("C4:2 E6:2 U4:1 U6:1 A1:2", n=3, wait=590, of_buffers=True)
 @case("C4:2 E6:2 U4:1 U5:1 A1:2", n=3, wait=620, of_buffers=True)
-def older_than_usual(s, n, wait, of_buffers=False):
+def older_than_usual(s, service, client, n, wait, of_buffers=False):
     """Calls of a code take from 20 ms to 200 ms, and their answers are held as long; two of another code fail after
     a second. Then a call of a third code is open for some ten times the median of these, or two answers are kept."""
-    service, client = s.two()
     for took in (20, 60, 200, 65)[:n]:
         address = service.main.gets(client.main.sends(0, 2))
         s.wait(took)
@@ -1101,8 +1057,7 @@ def older_than_usual(s, n, wait, of_buffers=False):
     for thread in failing:
         thread.reads(DONE, record(BR_FAILED_REPLY))
     if of_buffers:
-        for _ in range(2):
-            client.main.asks(service.main, 7, free=False)
+        client.main.asks(service.main, 7, free=False, times=2)
     else:
         service.main.gets(client.main.sends(0, 7))
     s.wait(wait)

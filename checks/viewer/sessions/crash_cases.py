@@ -34,14 +34,13 @@ ONE = marked("a.b.IOne")
 @case("E3:3", times=3, got=False)
 @case("A1:6 E3:3", times=3, lost=True)
 @case("A1:6 E3:3", times=3, enters=False)
-def ends_while_it_serves(s, times, names=("decoder",), codes=(7,), last=2000, before=None, after=None, left=0,
-                         callers=1, got=True, lost=False, enters=True, serves=(0,)):
+def ends_while_it_serves(s, service, client, times, names=("decoder",), codes=(7,), last=2000, before=None, after=None,
+                         left=0, callers=1, got=True, lost=False, enters=True, serves=(0,)):
     """A service ends while it serves a call, is started again, and so on. `last`: the time from its last end to that of
     the recording; `before`: another process ends so much earlier each time; `after`: another one ends after it;
     `serves`: it serves the call so long before; `left`: the call fails so much earlier than it ends; `callers`: so many
     calls are served then; not `got`: it has not read the call; `lost`: a frame of the last one is missing; not
     `enters`: it has not said that it takes calls, so some of what it got may have been sent before the capture."""
-    service, client = s.two()
     threads = [client.main, client.thread(1)][:callers]
     for at in range(times):
         decoder = s.process(300 + at, names[at % len(names)])

@@ -2,7 +2,7 @@
 
 from checks.kit.captures import (BC_RELEASE, BC_REQUEST_DEATH_NOTIFICATION, BR_DEAD_REPLY, BR_FAILED_REPLY, each,
                                  record, watch)
-from checks.viewer.sessions.cases import case, with_server
+from checks.viewer.sessions.cases import case
 from checks.viewer.sessions.kept_cases import SERVER, calls_back
 
 
@@ -29,12 +29,11 @@ from checks.viewer.sessions.kept_cases import SERVER, calls_back
 @case("E3:10 H16:10", lost="server")
 @case("E3:10 H16:10", let_go=1, wait=1200)
 @case("E3:10 H5:10", let_go=1, wait=900, pause=900)
-def holds_the_dead(s, count=10, calls=None, wait=1100, pause=0, answer=BR_DEAD_REPLY, asks=False, lost=None,
-                   let_go=0, other_holds=0, later=False, again=0, used=False, ways=0):
+def holds_the_dead(s, manager, client, server, count=10, calls=None, wait=1100, pause=0, answer=BR_DEAD_REPLY,
+                   asks=False, lost=None, let_go=0, other_holds=0, later=False, again=0, used=False, ways=0):
     """A client keeps objects of a server that ends, and calls some of them once each, after a pause, and once more.
     Another client keeps some too. `later`: another process works on when the client rests. `used`: the client called
     each when the server was there. The first `ways` came by another code."""
-    manager, client, server = with_server(s)
     handles = range(2, 2 + count + let_go)
     for at, handle in enumerate(handles):
         client.main.is_given(server.main, handle, code=6 if at < ways else 5, **SERVER)
@@ -72,9 +71,8 @@ def holds_the_dead(s, count=10, calls=None, wait=1100, pause=0, answer=BR_DEAD_R
 
 @case("H17:10", "10 of 10 given by calls of code 4 from short-lived 401 H17", others=1)
 @case("H12:12", others=2)
-def listeners_of_one_and_others(s, others):
+def listeners_of_one_and_others(s, manager, server, others):
     """A server keeps ten objects of one process that ended, and one each of some others that ended before."""
-    manager, _, server = with_server(s)
     one = s.process(401, "short-lived")
     rest = [s.process(500 + at, "other") for at in range(others)]
     for handle, other in enumerate([*rest, *[one] * 10], 20):

@@ -2,8 +2,8 @@
 
 from checks.kit.captures import (BC_ACQUIRE, BC_CLEAR_DEATH_NOTIFICATION, BC_DEAD_BINDER_DONE, BC_RELEASE,
                                  BC_REQUEST_DEATH_NOTIFICATION, BR_CLEAR_DEATH_NOTIFICATION_DONE, BR_DEAD_BINDER,
-                                 BR_DEAD_REPLY, ENTER, each, each_long, of_handle, offsets, record, watch)
-from checks.viewer.sessions.cases import case, with_server
+                                 BR_DEAD_REPLY, ENTER, each, each_long, of_handle, offsets, watch)
+from checks.viewer.sessions.cases import case, each_of, with_server
 from checks.viewer.sessions.kept_cases import calls_back
 from checks.viewer.sessions.session import ONE_WAY, node_object
 
@@ -12,9 +12,8 @@ from checks.viewer.sessions.session import ONE_WAY, node_object
 @case("H3:4", "given by calls of code 4: 4 of 4 that came so)", dead=4, alive=0)
 @case("H3:3 U4:1", "3 of 3 handles, short-lived H3 (told at 5220; given by calls of code 4: 3 of 3 that came so; with 1"
       " death not acknowledged)", "groups that are maybe: 1", dead=3, alive=0, done=2)
-def callbacks_of_the_dead(s, dead, alive, done=9):
+def callbacks_of_the_dead(s, manager, server, dead, alive, done=9):
     """A server keeps an object of each of some clients, of which some end. It acknowledges the first deaths."""
-    manager, _, server = with_server(s)
     others = [s.process(400 + at, "short-lived") for at in range(dead + alive)]
     for handle, other in enumerate(others, 20):
         other.main.is_given(manager.main, 1, server_handle=3)
@@ -52,8 +51,7 @@ def deaths_not_acknowledged(s, dead=3, done=0, lets_go=False, last=0, wait=200, 
         other.main.is_given(manager.main, 1, server_handle=3)
         calls_back(other.main, server.main, handle, **({"via": 0, "ptr": 0} if of_manager else {}))
         server.main.writes(watch(BC_REQUEST_DEATH_NOTIFICATION, handle, handle))
-    if lost:
-        s.loses(server)
+    s.loses(server, lost)
     for handle, other in enumerate(others, 20):
         other.ends()
         server.main.reads(*each_long(BR_DEAD_BINDER, handle))
@@ -98,13 +96,12 @@ def deaths_not_acknowledged(s, dead=3, done=0, lets_go=False, last=0, wait=200, 
 @case("D9:1 H3:1 U4:1", "maybe references to an object told dead: 1 of 1 handle 1, ",
       "explained deaths not acknowledged: 1 of - handle 20, other 500 node 0x9000 D9", "groups that are maybe: 1",
       "; with 1 death not acknowledged)", other=True)
-def death(s, done=False, clears=False, calls=0, before=0, lets_go=False, objects=1, lets_go_of=0, other=False,
-          late=False):
+def death(s, service, client, done=False, clears=False, calls=0, before=0, lets_go=False, objects=1, lets_go_of=0,
+          other=False, late=False):
     """A client is told of the death of a process by each of its objects. It acknowledges that or not, lets go of them
     or not, clears its requests, and makes calls to the first object, all the same, `before` with another code.
     `other`: it is also told of the death of another process, whose object it lets go of, and does not acknowledge that
     either. `late`: of the last object it is told after the end of the recording."""
-    service, client = s.two()
     short = s.process(300, "short-lived")
     handles = list(range(1, 1 + objects))
     for handle in handles:
@@ -128,13 +125,11 @@ def death(s, done=False, clears=False, calls=0, before=0, lets_go=False, objects
         if clears:
             client.main.writes(watch(BC_CLEAR_DEATH_NOTIFICATION, handle, 0xD0 + handle))
     for code in [8] * before + [7] * calls:
-        client.main.sends(1, code)
-        client.main.reads(record(BR_DEAD_REPLY))
+        client.main.sends(1, code, told=BR_DEAD_REPLY)
     gone = handles if lets_go else [handle for handle in handles if handle in (lets_go_of, 20)]
     if gone:
         client.main.writes(*each(BC_RELEASE, *gone))
-    for _ in range(2):
-        client.main.writes(ENTER)
+    client.main.goes_on(2)
     s.wait(1100)
     if late:
         s.stops()
@@ -144,14 +139,12 @@ def death(s, done=False, clears=False, calls=0, before=0, lets_go=False, objects
 @case("D9:1", when="before the clear")
 @case("D3:1 U4:1", when="before the clear", whose="other")
 @case("D3:1 U4:1", when="before the clear", cookie=0xD2)
-@case("D3:1 U4:1", when="after the clear")
-@case("D3:1 U4:1", when="before the death")
+@case("D3:1 U4:1", when=each_of("after the clear", "before the death"))
 @case("D3:1 U4:2", when="before the death", both=True)
-def cookie_is_used_again(s, when, whose="client", cookie=0xD1, both=False):
+def cookie_is_used_again(s, service, client, when, whose="client", cookie=0xD1, both=False):
     """A client is told of a death, which it does not acknowledge, and lets go of the handle. It, or another client,
     also asks for the death of another object, with the same cookie or another one. The first cookie is cleared. `both`:
     the other object dies too."""
-    service, client = s.two()
     other, short, lasting = s.process(300, "other"), s.process(400, "short-lived"), s.process(500, "lasting")
     for handle, process in enumerate((short, lasting), 1):
         process.main.gives(service.main, 20 + handle)
@@ -195,22 +188,20 @@ def cookie_is_used_again(s, when, whose="client", cookie=0xD1, both=False):
 @case("", let_go=1, wait=1000)
 @case("H12:3", let_go=1, wait=1200)
 @case("H12:3", let_go=-1, wait=1000)
-@case("M2:3", lost="server")
-@case("M2:3", lost="short-lived")
+@case("M2:3", lost=each_of("server", "short-lived"))
 @case("H12:3", lost="client")
 @case("", to_manager=True)
 @case("", at_once=True)
 @case("", collects=0)
 @case("H12:3", collects=1)
 @case("", collects=-1)
-def listeners_of_the_dead(s, dead=3, alive=0, wait=1100, of_one=False, rests=False, asks=False, reused=False, let_go=0,
-                          lost=None, to_manager=False, at_once=False, collects=None):
+def listeners_of_the_dead(s, manager, client, server, dead=3, alive=0, wait=1100, of_one=False, rests=False, asks=False,
+                          reused=False, let_go=0, lost=None, to_manager=False, at_once=False, collects=None):
     """A server, or the manager, keeps an object of each of some clients, of which some end, or of one that ends. It
     asks for their deaths, or did so for what had these handles before. It goes on, or rests. `let_go`: it let go of one
     100 ms after its process ended, or before. Or all came at once, and it is not known which is of whom. `collects`: it
     lets go of handles only by collecting garbage, and did so before they ended, or after that, or never. `lost`: of
     this process a frame is lost."""
-    manager, client, server = with_server(s)
     if collects is not None:
         server.is_called("system_server")
         server.main.is_given(manager.main, 90)
@@ -271,9 +262,8 @@ def register_at_once(others, manager, server):
 @case("", dead=2, others=1)
 @case("H12:3", "3 of 3 given by calls of code 4 H12", dead=3, others=2, elsewhere=True)
 @case("", dead=2, others=2, elsewhere=True)
-def listeners_of_two_ways(s, dead, others, elsewhere=False):
+def listeners_of_two_ways(s, manager, server, dead, others, elsewhere=False):
     """A server keeps the objects of so many that end, and as many came by another code, or to another server."""
-    manager, _, server = with_server(s)
     second = s.process(310, "second")
     second.main.gives(manager.main, 5, node=0x9000)
     clients = [s.process(400 + at, "short-lived") for at in range(dead + others)]

@@ -4,7 +4,7 @@ A case's words name a defect by what its key is made of, `defect: KIND | WHO | P
 
 from checks.kit.captures import BC_ACQUIRE, BR_DEAD_REPLY, BR_FAILED_REPLY, BR_FROZEN_REPLY, ENTER, each, record, u32
 from checks.kit.tokens import marked, numbers, string16
-from checks.viewer.sessions.cases import case
+from checks.viewer.sessions.cases import case, each_of
 from checks.viewer.sessions.name_cases import ADDED, TO_MANAGER
 from checks.viewer.sessions.session import ONE_WAY, STATUS_CODE
 
@@ -23,8 +23,7 @@ def served(s, first=100, handle=0, ptr=0, noise=0):
     service.main.writes(ENTER)
     if handle:
         client.main.is_given(service.main, handle, node=ptr)
-    for _ in range(noise):
-        client.main.asks(service.main, 2, handle, ptr, body=ONE)
+    client.main.asks(service.main, 2, handle, ptr, body=ONE, times=noise)
     return service, client
 
 
@@ -41,12 +40,9 @@ def served(s, first=100, handle=0, ptr=0, noise=0):
 def keeps_replies(s, first=100, handle=0, ptr=0, noise=0, kept=3, wait=300, lost=False):
     """Replies that are not freed, so many and so long ago, through this handle; or frames are missing."""
     service, client = served(s, first, handle, ptr, noise)
-    for _ in range(kept):
-        client.main.asks(service.main, 7, handle, ptr, free=False, body=ONE)
-    for _ in range(3):
-        client.main.asks(service.main, 2, handle, ptr, body=ONE)
-    if lost:
-        s.loses(client)
+    client.main.asks(service.main, 7, handle, ptr, free=False, body=ONE, times=kept)
+    client.main.asks(service.main, 2, handle, ptr, body=ONE, times=3)
+    s.loses(client, lost)
     s.wait(wait)
     if wait > 100:
         client.main.asks(service.main, 2, handle, ptr, body=ONE)
@@ -61,15 +57,13 @@ def keeps_sessions(s, count=4, ptr=0x9000, at=2, is_first=False):
     if is_first:
         server.main.writes(ENTER)
     manager, client = s.two()
-    server.main.gives(manager.main, 3, node=ptr)
-    client.main.is_given(manager.main, 1, server_handle=3)
+    client.main.is_passed(server.main, manager.main, 1, 3, node=ptr)
     for handle in range(at, at + count):
         client.main.is_given(server.main, handle, via=1, ptr=ptr, body=ONE)
     s.wait(300)
 
 
-@case("C4:1 A1:2", HANGS, "(1 defects)", name="hello")
-@case("C4:1 A1:2", HANGS, "(1 defects)", name="world")
+@case("C4:1 A1:2", HANGS, "(1 defects)", name=each_of("hello", "world"))
 @case("C4:1 A1:2", HANGS, "(1 defects)")
 @case("C4:1 A1:2", HANGS, "(1 defects)", callers=("other",))
 @case("C4:3 A1:6", HANGS, "(1 defects)", callers=("client", "other", "third"))
@@ -84,16 +78,13 @@ def hangs_at(s, name=None, callers=("client",), wait=200):
     for at, caller in enumerate(callers):
         client = s.process(200 + at, caller)
         client.main.is_given(manager.main, 1, server_handle=3)
-        for _ in range(3):
-            client.main.asks(server.main, 8, 1, 0x9000, body=ONE)
+        client.main.asks(server.main, 8, 1, 0x9000, body=ONE, times=3)
         server.looper(1 + at).gets(client.main.sends(1, 7, body=ONE), 0x9000)
     s.wait(wait)
 
 
 @case("U3:3", "defect: received transactions never freed | app: on binder | code 7 at app:", "(1 defects)",
-      name="app:12")
-@case("U3:3", "defect: received transactions never freed | app: on binder | code 7 at app:", "(1 defects)",
-      name="app:345")
+      name=each_of("app:12", "app:345"))
 @case("U3:3", "defect: received transactions never freed | app_ on binder | code 7 at app_", name="app_7")
 @case("U3:3", "defect: received transactions never freed | app7 on binder | code 7 at app7", name="app7")
 @case("U3:3", "defect: received transactions never freed | 77 on binder | code 7 at 77", name="77")
@@ -129,17 +120,14 @@ def keeps_requests(s, flags=0, code=7):
 def without_names(s):
     """Without a side list there are no names of processes and devices."""
     service, client = served(s)
-    for _ in range(3):
-        client.main.asks(service.main, 7, free=False, body=ONE)
-    for _ in range(4):
-        client.main.asks(service.main, 2, body=ONE)
+    client.main.asks(service.main, 7, free=False, body=ONE, times=3)
+    client.main.asks(service.main, 2, body=ONE, times=4)
 
 
 @case("H4:1", "defect: references taken more than once | client on binder | handle, service (a.b.IOne)", "(1 defects)")
 @case("H4:1", "defect: references taken more than once | client on binder | handle, service (a.b.IOne)", "(1 defects)",
       handle=8, ptr=0x8800, takes=4)
-def takes_twice(s, handle=1, ptr=0x100, takes=2):
-    service, client = s.two()
+def takes_twice(s, service, client, handle=1, ptr=0x100, takes=2):
     client.main.is_given(service.main, handle, node=ptr)
     client.main.asks(service.main, 3, handle, ptr, body=ONE)
     for _ in range(takes - 1):
@@ -154,12 +142,10 @@ def takes_twice(s, handle=1, ptr=0x100, takes=2):
       kind=BR_FAILED_REPLY, lost=True)
 @case("E4:1", "defect: calls that failed (BR_FROZEN_REPLY) | client on binder | code 7 to handle 0",
       kind=BR_FROZEN_REPLY)
-def fails_with(s, kind, lost=False):
+def fails_with(s, service, client, kind, lost=False):
     """What the driver answered is in the kind, whatever the rule."""
-    service, client = s.two()
     client.main.sends(0, 7)
-    if lost:
-        s.loses(client)
+    s.loses(client, lost)
     client.main.reads(record(kind))
 
 
@@ -173,10 +159,8 @@ def keeps_two(s, second):
     """Replies to two calls are not freed: of another code, of another interface, or of one with the same short name."""
     service, client = served(s)
     for code, body in (7, ONE), second:
-        for _ in range(3):
-            client.main.asks(service.main, code, free=False, body=body)
-    for _ in range(4):
-        client.main.asks(service.main, 2, body=ONE)
+        client.main.asks(service.main, code, free=False, body=body, times=3)
+    client.main.asks(service.main, 2, body=ONE, times=4)
     s.wait(300)
     client.main.asks(service.main, 2, body=ONE)
 
@@ -187,19 +171,16 @@ def two_keep(s, name):
     """Two clients do not free: of two names they are two defects, of one name one."""
     service, client = served(s)
     for one in client, s.process(400, name):
-        for _ in range(3):
-            one.main.asks(service.main, 7, free=False, body=ONE)
-        for _ in range(4):
-            one.main.asks(service.main, 2, body=ONE)
+        one.main.asks(service.main, 7, free=False, body=ONE, times=3)
+        one.main.asks(service.main, 2, body=ONE, times=4)
     s.wait(300)
     client.main.asks(service.main, 2, body=ONE)
 
 
 @case("H1:1 H4:1", "defect: handles that nobody gave | client on binder | handle",
       "defect: references taken more than once | client on binder | handle, service", "(2 defects)")
-def two_of_handles(s):
+def two_of_handles(s, service, client):
     """One handle that nobody gave, and one that is taken twice."""
-    service, client = s.two()
     client.main.is_given(service.main, 1)
     client.main.asks(service.main, 3, 1, 0x100)
     client.main.writes(*each(BC_ACQUIRE, 1, 7))
@@ -208,9 +189,8 @@ def two_of_handles(s):
 
 @case("R1:8", "defect: calls answered with an error | client on binder | code 1 to server: -22 EINVAL",
       "defect: calls answered with an error | client on binder | code 1 to server: -1 EPERM", "(2 defects)")
-def two_statuses(s):
+def two_statuses(s, manager, client):
     """Calls of one code to two processes of one name answer with two statuses."""
-    manager, client = s.two()
     for at, status in (1, -22), (2, -1):
         server = s.process(300 + at, "server")
         server.main.gives(manager.main, 2 + at, node=0x9000)

@@ -1,7 +1,7 @@
 """More sessions as in cases.py: processes that get file descriptors."""
 
 from checks.kit.captures import FD, changed, offsets, u32
-from checks.viewer.sessions.cases import case
+from checks.viewer.sessions.cases import case, each_of
 from checks.viewer.sessions.session import ONE_WAY, Process, Thread
 
 KEPT = "file descriptors kept"
@@ -58,11 +58,10 @@ def hands_over(sender: Thread, receiver: Process, table: Table, code: int = 7, k
 @case("K1:1", "oneway code 7 at service 100 node 0x0 K1", oneway=True)
 @case("K1:1", "reply to code 7 of service 100 node 0x0 K1", "15 are open)", "K1 by client 200: 1", reply=True)
 @case("K1:1", "its lowest number rises from 4 to 19", has_side=False)
-def gets_descriptors(s, count=60, each=3, closes_at=None, others=0, rests=0, begins=0, stops=None, oneway=False,
-                     reply=False):
+def gets_descriptors(s, service, client, count=60, each=3, closes_at=None, others=0, rests=0, begins=0, stops=None,
+                     oneway=False, reply=False):
     """A service gets descriptors, and does not close each third one. It may close all of a sudden what it keeps, or
     get others with another code; or it works before the first one or after the last, or gets no more that it keeps."""
-    service, client = s.two()
     receiver, sender = (client, service) if reply else (service, client)
     table = Table()
 
@@ -91,24 +90,20 @@ def gets_descriptors(s, count=60, each=3, closes_at=None, others=0, rests=0, beg
 @case("K2:1", "60 descriptors came, 40 of them so, from client 200)", others=1, count=20, kept=31)
 @case("K2:1", kept=10, count=19)
 @case("", kept=9, count=17)
-@case("", kept=20)
-@case("", kept=0)
+@case("", kept=each_of(20, 0))
 @case("", begins=0.6)
-@case("", stops=0.7)
-@case("", stops=0.2)
+@case("", stops=each_of(0.7, 0.2))
 @case("K2:1", stops=0.12)
 @case("", kept=0, elsewhere=True)
 @case("", kept=0, meanwhile=21, looks=("first", "failed", "end"))
-@case("", looks=("first", "failed"))
-@case("", looks=("failed", "end"))
+@case("", looks=each_of(("first", "failed"), ("failed", "end")))
 @case("K2:1", looks=("first", "failed", "end"))
 @case("K1:1", rises=True)
-def keeps_copies(s, count=40, kept=21, others=0, begins=0, stops=0, reply=False, looks=("first", "end"), rises=False,
-                 elsewhere=False, meanwhile=0):
+def keeps_copies(s, service, client, count=40, kept=21, others=0, begins=0, stops=0, reply=False, looks=("first",
+                 "end"), rises=False, elsewhere=False, meanwhile=0):
     """A service copies some of the descriptors that it gets, and closes what came, so their numbers do not rise. It had
     more to do before the first one, or after the last; or it keeps some that came, too, whose numbers rise; or some
     only meanwhile. Or more are open in a process to which none came, and in one of this number on another device."""
-    service, client = s.two()
     receiver, sender = (client, service) if reply else (service, client)
     table = Table()
 

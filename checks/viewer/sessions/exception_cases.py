@@ -1,7 +1,7 @@
 """More sessions as in cases.py: calls that end with an exception from some call on."""
 
-from checks.kit.captures import BR_FAILED_REPLY, MAX_32, record, u32
-from checks.viewer.sessions.cases import case, with_server
+from checks.kit.captures import BR_FAILED_REPLY, MAX_32, u32
+from checks.viewer.sessions.cases import case, each_of
 from checks.viewer.sessions.session import ONE_WAY, STATUS_CODE
 
 SPECIFIC, STATE, NONE_OF_THESE = -8, -5, -10
@@ -35,11 +35,10 @@ def answers(client, server, number, code=7, handle=0, ptr=0, size=8, flags=0):
 @case("R4:1", "after 5 other answers", others=1, early=5)
 @case("E5:1 R4:1", "all 10 since", fails=True)
 @case("", numbers=[0] * 5 + [SPECIFIC] * 6, oneway=True)
-def begins_to_throw(s, numbers=(*[0] * 5, *[SPECIFIC] * 10), size=8, flags=0, others=0, early=0, fails=False,
-                    oneway=False):
+def begins_to_throw(s, service, client, numbers=(*[0] * 5, *[SPECIFIC] * 10), size=8, flags=0, others=0, early=0,
+                    fails=False, oneway=False):
     """Calls of one or more clients are answered well, and from some call on with an exception; or the first so many
     are of another client. Meanwhile one fails, or oneway sends of the same code come, too."""
-    service, client = s.two()
     clients = [client, *(s.process(201 + at, "client") for at in range(others))]
     for at, number in enumerate(numbers):
         is_status = flags if number else 0
@@ -48,29 +47,21 @@ def begins_to_throw(s, numbers=(*[0] * 5, *[SPECIFIC] * 10), size=8, flags=0, ot
         if oneway:
             service.main.frees(service.main.gets(client.main.sends(0, 7, ONE_WAY)))
         if fails and at == 8:
-            client.main.sends(0, 7)
-            client.main.reads(record(BR_FAILED_REPLY))
+            client.main.sends(0, 7, told=BR_FAILED_REPLY)
 
 
-@case("R4:1", "to server 300 node 0x9000", other="code")
-@case("R4:1", "to server 300 node 0x9000", other="object")
-@case("R4:1", "to server 300 node 0x9000", other="process")
-@case("", other="code", both=6)
-@case("", other="object", both=6)
-@case("", other="process", both=6)
-@case("R4:2", "all 10 since", other="code", both=10)
-@case("R4:2", "all 10 since", other="object", both=10)
+@case("R4:1", "to server 300 node 0x9000", other=each_of("code", "object", "process"))
+@case("", other=each_of("code", "object", "process"), both=6)
+@case("R4:2", "all 10 since", other=each_of("code", "object"), both=10)
 @case("R4:2", "R4 by server 300: 1", "R4 by third 310: 1", "all 10 since", other="process", both=10)
-def others_throw_meanwhile(s, other, both=0):
+def others_throw_meanwhile(s, manager, client, server, other, both=0):
     """Calls of one method end with an exception from some call on. Those of another code, to another object, or to an
     object of another process at the same address, did so before, and end well; or so many of both do so from then
     on."""
-    manager, client, server = with_server(s)
     third = s.process(310, "third")
     ptr = 0x9100 if other == "object" else 0x9000
     by = third if other == "process" else server
-    by.main.gives(manager.main, 9, node=ptr)
-    client.main.is_given(manager.main, 9, server_handle=9)
+    client.main.is_passed(by.main, manager.main, 9, 9, node=ptr)
     path = {"handle": 1, "ptr": 0x9000}
     beside = {**path, "code": 8} if other == "code" else {"handle": 9, "ptr": ptr}
     for at, number in enumerate([0] * 7 + [SPECIFIC] * (both or 10)):

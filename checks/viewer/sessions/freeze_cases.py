@@ -1,10 +1,10 @@
 """More sessions as in cases.py: freeze notifications, and clears of them."""
 
 from checks.kit.captures import (BC_CLEAR_FREEZE_NOTIFICATION, BC_FREEZE_NOTIFICATION_DONE, BC_RELEASE,
-                                 BC_REQUEST_FREEZE_NOTIFICATION, BR_CLEAR_FREEZE_NOTIFICATION_DONE, ENTER, each,
-                                 each_long, frozen, watch)
+                                 BC_REQUEST_FREEZE_NOTIFICATION, BR_CLEAR_FREEZE_NOTIFICATION_DONE, each, each_long,
+                                 frozen, watch)
 from checks.viewer.sessions.book_cases import begun
-from checks.viewer.sessions.cases import case
+from checks.viewer.sessions.cases import case, each_of
 
 
 def asks(thread, handle=1, cookie=0xF):
@@ -24,8 +24,7 @@ def confirms(thread, *cookies):
 
 
 def goes_on(thread, times=2):
-    for _ in range(times):
-        thread.writes(ENTER)
+    thread.goes_on(times)
 
 
 def watching(s, met="from-start"):
@@ -71,8 +70,7 @@ def freeze_not_acknowledged(s, then, wait=200, ends=False, lost=False):
     _, client = watching(s)
     client.main.reads(frozen(0xF, 0))
     acknowledges(client.main, 0xF)
-    if lost:
-        s.loses(client)
+    s.loses(client, lost)
     client.main.reads(frozen(0xF, 1))
     goes_on(client.main, then)
     waits(s, client, wait, ends)
@@ -99,8 +97,7 @@ def others_are_told(s, told=0, then=2, wait=150, before=False, of_another=False,
         thawed.main.gives(service.main, 9)
     other.main.is_given(service.main, 1, node=0x900, server_handle=9 if of_another else None)
     asks(other.main, cookie=0xE)
-    if lost:
-        s.loses(client)
+    s.loses(client, lost)
     if before:
         other.main.reads(frozen(0xE, told))
     client.main.reads(frozen(0xF, 1))
@@ -149,23 +146,20 @@ def handle_let_go(s, took, met="from-start", acknowledged=False, cleared=False, 
 @case("D4:2", told=1, done=3)
 @case("P1:1", told=1, done=2, met="in-mid-life")
 @case("M1:1", told=1, done=2, lost=True)
-def one_cookie(s, told, done, met="from-start", lost=False):
+def one_cookie(s, service, client, told, done, lost=False):
     """Two handles are watched by one cookie: each acknowledgement is for one notification."""
-    service, client = s.two(met)
     for handle in 1, 2:
         client.main.is_given(service.main, handle)
     for handle in range(1, told + 1):
         asks(client.main, handle)
         client.main.reads(frozen(0xF, 0))
-    if lost:
-        s.loses(client)
+    s.loses(client, lost)
     acknowledges(client.main, *[0xF] * done)
     goes_on(client.main)
     s.wait(200)
 
 
-@case("D4:1 U6:1", clear=False)
-@case("D4:1 U6:1", clear=True)
+@case("D4:1 U6:1", clear=each_of(False, True))
 def freeze_answer_of_another(s, clear):
     """A notification waits for its acknowledgement, and one of another cookie comes; or a clear for its confirmation,
     and an acknowledgement of its cookie comes."""
@@ -210,8 +204,7 @@ def freeze_and_clear_of_two_cookies(s):
 def freeze_clear_not_confirmed(s, then, wait=200, ends=False, lost=False, told=False, done=False):
     """A clear is not confirmed. If a notification waits for its acknowledgement, the driver waits too."""
     _, client = watching(s)
-    if lost:
-        s.loses(client)
+    s.loses(client, lost)
     if told:
         client.main.reads(frozen(0xF, 1))
     clears(client.main)
@@ -227,8 +220,7 @@ def freeze_clear_not_confirmed(s, then, wait=200, ends=False, lost=False, told=F
 @case("M1:1", lost=True)
 def freeze_confirmed_again(s, met="from-start", lost=False):
     _, client = watching(s, met)
-    if lost:
-        s.loses(client)
+    s.loses(client, lost)
     clears(client.main)
     confirms(client.main, 0xF, 0xF)
 
@@ -269,9 +261,8 @@ def freeze_told_late(s, late):
 
 
 @case("U4:1", "finding_stack 1: 3, the request for it", "finding_stack 2: -")
-def freeze_unanswered(s):
+def freeze_unanswered(s, service, client):
     """The request for it tells, and neither another one nor a later one with its cookie."""
-    service, client = s.two()
     for handle in 1, 2:
         client.main.is_given(service.main, handle)
     s.with_stack(3)

@@ -30,11 +30,10 @@ def tells(thread: Thread, code: int, size: int = 80, flags: int = ONE_WAY, answe
 @case("W1:10", every=130, flags=ONE_WAY | UPDATE_TXN)
 @case("W3:10", every=130, answer=DONE)
 @case("W7:10", "(100 was frozen when 10 sends with 800 bytes were sent)", every=130, has_side=False)
-def sends_to_the_frozen(s, count=10, every=130, others=1, other_codes=0, thaws=False, ends=False, flags=ONE_WAY,
-                        answer=PENDING):
+def sends_to_the_frozen(s, service, client, count=10, every=130, others=1, other_codes=0, thaws=False, ends=False,
+                        flags=ONE_WAY, answer=PENDING):
     """A client tells a service something again and again, while that is frozen: with one code, or also with another
     one, or several clients do. The service gets all but five when it is thawed, or it is killed."""
-    service, client = s.two()
     client.main.asks(service.main)
     clients = [client, *(s.process(300 + at, "other") for at in range(others - 1))]
     sent = []
@@ -53,9 +52,8 @@ def sends_to_the_frozen(s, count=10, every=130, others=1, other_codes=0, thaws=F
 
 @case("", answer=PENDING)
 @case("W4:1", answer=DONE)
-def told_late(s, answer):
+def told_late(s, service, client, answer):
     """A service gets twenty sends at once, and twenty more only 2 s later: it was thawed then, or fell behind."""
-    service, client = s.two()
     for _ in range(20):
         service.main.frees(service.main.gets(tells(client.main, 7, answer=DONE)))
     late = [tells(client.main, 7, answer=answer) for _ in range(20)]
@@ -66,9 +64,8 @@ def told_late(s, answer):
 
 @case("A1:2 C4:1 W7:2", "s; service 100 got it at ", answer=PENDING)
 @case("A1:2 C4:1 W3:2", "s; 2 wait for it; service 100 got it at ", answer=DONE)
-def told_in_a_call(s, answer):
+def told_in_a_call(s, service, client, answer):
     """A service serves a call when it is frozen, and what is sent to it does not wait for its looper. Or it hangs."""
-    service, client = s.two()
     service.main.gets(s.process(300, "caller").main.sends(0, 1))
     for _ in range(2):
         tells(client.main, 7, answer=answer)

@@ -1,27 +1,18 @@
 """More sessions as in cases.py: handles of processes that let go of them only when they collect garbage, and what a
 process takes when it starts."""
 
-from checks.kit.captures import BC_RELEASE, ENTER, each
-from checks.viewer.sessions.cases import case, with_server
+from checks.kit.captures import BC_RELEASE, each
+from checks.viewer.sessions.cases import case, each_of
 from checks.viewer.sessions.kept_cases import SERVER, Quarters
 
 # Command lines of what the zygote forked, each up to when it has its name; and of an app, which the system calls
 # `com.example.app`.
-OF_ZYGOTE = ("zygote", "zygote64", "usap32", "usap64", "<pre-initialized>", "system_server", "webview_zygote")
+OF_ZYGOTE = each_of("zygote", "zygote64", "usap32", "usap64", "<pre-initialized>", "system_server", "webview_zygote")
 MAY_BE = "that are not used may be garbage: they came after the last collection"
 
 
-def of_each(due, **given):
-    """A case for each command line of what the zygote forked."""
-    def add(play):
-        for command in OF_ZYGOTE:
-            play = case(due, command=command, **given)(play)
-        return play
-    return add
-
-
 @case("H5:12", f"6 held at half of its time, 12 at the end; 12 of 12 {MAY_BE}", command="zygote64")
-@of_each("H5:12", gains=(3, 3, 3, 3))
+@case("H5:12", command=OF_ZYGOTE, gains=(3, 3, 3, 3))
 @case("H10:12", command="/system/bin/zygoted")
 @case("H10:12 H5:20", command="/system/bin/zygoted", beside=20)
 @case("H10:12", command="/system/bin/app\\x00zygote64")
@@ -41,11 +32,10 @@ def of_each(due, **given):
 @case("H5:9", "4 held at half of its time, 9 at the end)", command="zygote64", gains=(2, 2, 3, 2))
 @case("H10:12", command="zygote64", collected=3, taken=True)
 @case("H5:12", command="zygote64", collected=3, taken=False)
-def garbage_waits(s, command, name="client", then=None, gains=(3, 3, 3, 3), collected=None, taken=True,
+def garbage_waits(s, manager, server, command, name="client", then=None, gains=(3, 3, 3, 3), collected=None, taken=True,
                   beside=0):
     """In each part of its time a client gets handles and uses none; in one part it lets go of another one, which it had
     taken or not. `beside`: at first it got so many in another way."""
-    manager, _, server = with_server(s)
     client = s.process(500, name)
     client.is_called(command)
     client.main.is_given(manager.main, 1, server_handle=3)
@@ -79,24 +69,21 @@ def garbage_waits(s, command, name="client", then=None, gains=(3, 3, 3, 3), coll
 @case("H14:12", collects=False, command="zygote64")
 @case("", collects=False)
 @case("H14:12", keeps=(5, 3, 2, 2), collects=False, command="zygote64")
-@case("", keeps=(5, 4, 2, 1), collects=False, command="zygote64")
-@case("", keeps=(6, 6, 0, 0), collects=False, command="zygote64")
+@case("", keeps=each_of((5, 4, 2, 1), (6, 6, 0, 0)), collects=False, command="zygote64")
 @case("H14:12", "(16 others were let go of, each within 3 ms)", keeps=(5, 3, 4, 0), at_once=True)
 @case("H8:12", keeps=(5, 4, 3, 0), at_once=True)
 @case("M2:12", lost=True)
 @case("H5:39 H14:10", keeps=(5, 0, 5, 39), last=0, uses_last=True)
 @case("H5:51", keeps=(5, 0, 5, 41), last=0, uses_last=True)
-def beside_a_collector(s, keeps=(3, 3, 3, 3), others=4, last=4, uses=False, uses_last=False, collects=True,
-                       at_once=False, lost=False, besides=0, command="/system/bin/client"):
+def beside_a_collector(s, manager, client, server, keeps=(3, 3, 3, 3), others=4, last=4, uses=False, uses_last=False,
+                       collects=True, at_once=False, lost=False, besides=0, command="/system/bin/client"):
     """In each part of its time a client gets handles that it keeps, and then others, of which it lets go at the end of
     the part, or only in the end, or at once. It uses what it keeps, or only what came in the last part, or nothing.
     `besides`: it keeps so many that came another way."""
-    manager, client, server = with_server(s)
     client.is_called(command)
     for handle in range(90, 90 + besides):
         client.main.is_given(server.main, handle, 6, **SERVER)
-    if lost:
-        s.loses(client)
+    s.loses(client, lost)
     quarters, held, garbage, at = Quarters(s, client, manager), [], [], 20
     for part, kept in enumerate(keeps):
         quarters.lasts(part + 0.2)
@@ -139,8 +126,7 @@ STARTED = "all came when its process started, and none since)"
 def binds_at_start(s, until=5, lasts=26, met="from-start", server_met="from-start", more=0):
     """A client gets handles from a server in its first seconds, and goes on with other work; later it may get one
     more."""
-    manager = s.process(100, "service")
-    manager.main.writes(ENTER)
+    manager = s.process(100, "service", enters=True)
     server = s.process(300, "server", server_met)
     server.main.gives(manager.main, 3, node=0x9000)
     client = s.process(200, "client", met)

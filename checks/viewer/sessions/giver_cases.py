@@ -1,7 +1,7 @@
 """More sessions as in cases.py: handles that a process keeps because the one that gave them does not take them back."""
 
 from checks.kit.captures import BC_ACQUIRE, BC_INCREFS, BC_RELEASE, each
-from checks.viewer.sessions.cases import case, with_server
+from checks.viewer.sessions.cases import case, each_of
 from checks.viewer.sessions.kept_cases import Quarters, calls_back
 
 
@@ -37,18 +37,16 @@ def takes_back(giver, holder, handles):
 @case("H13:12", "held by server 300; 6 held", uses=False)
 @case("H10:12", "of those from others it keeps 0 of 3 from other 400", uses=False, others=3)
 @case("M2:12", lost="server")
-@case("H5:12", lost="client")
-@case("H5:12", lost="other")
+@case("H5:12", lost=each_of("client", "other"))
 @case("H5:12", "of those from others it keeps 0 of 4 from other 400", ends=True)
 @case("H13:12", ends_later=True)
 @case("H5:12", weakly=True)
-def giver_forgets(s, gains=(3, 3, 3, 3), back=0, back_in=0, twice=0, others=4, left=0, when=3, code=4, left_of_more=0,
-                  uses=True, lost=None, ends=False, ends_later=False, weakly=False):
+def giver_forgets(s, manager, client, server, gains=(3, 3, 3, 3), back=0, back_in=0, twice=0, others=4, left=0, when=3,
+                  code=4, left_of_more=0, uses=True, lost=None, ends=False, ends_later=False, weakly=False):
     """In each part of its time a server gets objects from a client, and calls them. The client takes hardly any back;
     another process takes back all, or leaves some, or ends before the server lets go of them, or later. Or the server
     keeps weak references, or takes one object twice. Or a frame of one of them is lost. It calls all, or every other
     one, or none."""
-    manager, client, server = with_server(s)
     other, more = s.process(400, "other"), s.process(401, "other")
     for one in (other, more):
         one.main.is_given(manager.main, 1, server_handle=3)

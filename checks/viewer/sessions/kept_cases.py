@@ -2,7 +2,7 @@
 
 from checks.kit.captures import (BC_ACQUIRE, BC_DECREFS, BC_INCREFS, BC_RELEASE, BC_REQUEST_DEATH_NOTIFICATION, ENTER,
                                  each, of_handle, offsets, watch)
-from checks.viewer.sessions.cases import case, with_server
+from checks.viewer.sessions.cases import case, each_of, with_server
 from checks.viewer.sessions.session import node_object
 
 # How the client of with_server calls its server.
@@ -20,8 +20,7 @@ def calls_back(client, server, handle, code=4, via=1, ptr=0x9000):
 def passes(s, count, client, manager):
     """So many milliseconds, and then a call, or, without a side list, so many calls."""
     s.wait(count)
-    for _ in range(1 if s.has_side else count):
-        client.main.asks(manager.main)
+    client.main.asks(manager.main, times=1 if s.has_side else count)
 
 
 # ---- nearly all are kept
@@ -32,9 +31,8 @@ def passes(s, count, client, manager):
 @case("H5:4", kept=4, let_go=1)
 @case("H5:4", "other 400 keeps 1 of 3", kept=4, let_go=1, others=3)
 @case("", kept=4, let_go=2)
-def sessions_kept(s, kept, let_go, others=0):
+def sessions_kept(s, manager, client, server, kept, let_go, others=0):
     """A client keeps what replies gave it, or some of it; another one lets go of all but one."""
-    manager, client, server = with_server(s)
     for handle in range(2, 2 + kept + let_go):
         client.main.is_given(server.main, handle, via=1, ptr=0x9000)
     client.main.writes(*each(BC_RELEASE, *range(2, 2 + let_go)))
@@ -54,10 +52,9 @@ def sessions_kept(s, kept, let_go, others=0):
 @case("H10:12", "(6 held at half of its time, 12 at the end; held weakly, with a request for its death)", count=12)
 @case("H4:1", "(2 times, weakly, and let go of 0 times; handle 2, server 300 node 0x200; held weakly, with a request"
       " for its death)", count=1, twice=True)
-def linked_and_kept(s, count=4, weakly=True, asks=True, twice=False, again=False):
+def linked_and_kept(s, manager, client, server, count=4, weakly=True, asks=True, twice=False, again=False):
     """A client keeps weak references to objects, and asks for their deaths, or did so for objects that had these
     handles before."""
-    manager, client, server = with_server(s)
     for handle in range(2, 2 + count):
         if again:
             client.main.is_given(server.main, handle, 6, weakly=True, node=0x8000 + 0x100 * handle, **SERVER)
@@ -75,9 +72,8 @@ def linked_and_kept(s, count=4, weakly=True, asks=True, twice=False, again=False
 @case("", senders=2, each_gives=2)
 @case("", senders=1, each_gives=3)
 @case("", senders=1, each_gives=4, to_manager=True)
-def callbacks_kept(s, senders, each_gives, to_manager=False):
+def callbacks_kept(s, manager, client, server, senders, each_gives, to_manager=False):
     """Handles that calls brought: many from one client, or one from each of many. The context manager keeps all."""
-    manager, client, server = with_server(s)
     others = [client] + [s.process(400 + at, "other") for at in range(1, senders)]
     handle = 10
     for other in others:
@@ -137,9 +133,8 @@ def cache(s, before, used, then, kept=4, skips=0, late=0, let_go=0, twice=0, end
 
 
 @case("H5:8")
-def kept_to_the_end(s):
+def kept_to_the_end(s, client, server):
     """Handles come up to the end, and each is used only at once."""
-    _, client, server = with_server(s)
     for handle in range(2, 10):
         client.main.is_given(server.main, handle, **SERVER)
         client.main.asks(server.main, 8, handle, 0x100 * handle)
@@ -200,8 +195,7 @@ class Quarters:
 @case("", gains=(0, 0, 2, 1))
 @case("H9:40", gains=(18, 18, 2, 2), passing=3)
 @case("", gains=(19, 18, 2, 2), passing=3)
-@case("", gains=(2, 2, 4, 0))
-@case("", gains=(2, 2, 0, 4))
+@case("", gains=each_of((2, 2, 4, 0), (2, 2, 0, 4)))
 @case("", gains=(4, 4, 4, 4), drops=(0, 0, 4, 4))
 @case("H9:11", "7 held at half of its time, 11 at the end", gains=(4, 4, 4, 4), drops=(0, 1, 2, 2))
 @case("", gains=(6, 3, 1, 1))
@@ -234,8 +228,7 @@ class Quarters:
 @case("H9:8", ends=True)
 @case("", gains=(2, 2, 4, 0), ends=True)
 @case("H9:8", has_side=False)
-@case("", gains=(2, 2, 4, 0), has_side=False)
-@case("", gains=(2, 2, 0, 4), has_side=False)
+@case("", gains=each_of((2, 2, 4, 0), (2, 2, 0, 4)), has_side=False)
 @case("H9:11", "7 held at half of its time, 11 at the end", gains=(4, 4, 4, 4), drops=(0, 1, 2, 2), has_side=False)
 def more_and_more(s, gains=(2, 2, 2, 2), passing=2, drops=(0, 0, 0, 0), twice=(0, 0, 0, 0), uses=True, lost=False,
                   late=False, ends=False, rests=0):
@@ -245,8 +238,7 @@ def more_and_more(s, gains=(2, 2, 2, 2), passing=2, drops=(0, 0, 0, 0), twice=(0
         s.process(400, "early").main.writes(ENTER)
         s.wait(4000)
     manager, client, server = with_server(s)
-    if lost:
-        s.loses(client)
+    s.loses(client, lost)
     Quarters(s, client, manager).plays(server, gains, passing, drops, twice, uses)
     if ends:
         client.ends()
@@ -275,8 +267,7 @@ def had_before(s, gains=(2, 2, 2, 2), lets_go=(2, 2, 2, 2), stays=0, passing=0, 
     manager, client = s.two("in-mid-life")
     server, other = s.process(300, "server"), s.process(400, "other")
     quarters = Quarters(s, client, manager)
-    server.main.gives(manager.main, 3, node=0x9000)
-    client.main.is_given(manager.main, 1, server_handle=3)
+    client.main.is_passed(server.main, manager.main, 1, 3, node=0x9000)
     for handle in range(20, 20 + sum(lets_go) + stays) if known else ():
         client.main.asks((other if of_other else server).main, 8, handle, 0x100 * handle)
     quarters.plays(server, gains, passing, uses=uses, of_before=lets_go, at=at)
@@ -291,19 +282,16 @@ def had_before(s, gains=(2, 2, 2, 2), lets_go=(2, 2, 2, 2), stays=0, passing=0, 
       gains=(3, 2, 2, 2))
 @case("H15:10", gains=(3, 3, 3, 1))
 @case("H4:10", gains=(4, 3, 2, 1))
-@case("H4:12", gains=(4, 4, 4, 0))
-@case("H4:12", gains=(4, 4, 0, 4))
+@case("H4:12", gains=each_of((4, 4, 4, 0), (4, 4, 0, 4)))
 @case("H15:44", gains=(20, 19, 3, 2))
 @case("H4:45", gains=(21, 20, 2, 2))
 @case("H4:12", lost=True)
 @case("H15:12", has_side=False)
 @case("H15:12 H4:1 H5:1", others=True)
-def each_taken_twice(s, gains=(3, 3, 3, 3), lost=False, others=False):
+def each_taken_twice(s, manager, client, server, gains=(3, 3, 3, 3), lost=False, others=False):
     """In each part of its time a client takes weak references twice of what it gets, and lets go of none. At first it
     may take another one once, and one that came another way twice."""
-    manager, client, server = with_server(s)
-    if lost:
-        s.loses(client)
+    s.loses(client, lost)
     quarters, at = Quarters(s, client, manager), 20
     if others:
         client.main.is_given(server.main, 9, weakly=True, **SERVER)
@@ -340,11 +328,10 @@ def each_taken_twice(s, gains=(3, 3, 3, 3), lost=False, others=False):
 @case("", let_go=0, others=4)
 @case("H8:3", "each within 3 frames", held=0, wait=5, has_side=False)
 @case("", held=0, wait=4, has_side=False)
-def one_in_ten(s, let_go=4, kept=3, held=17, wait=205, used=None, takes=True, code=5, lost=False, others=0,
-               brief=0):
+def one_in_ten(s, manager, client, server, let_go=4, kept=3, held=17, wait=205, used=None, takes=True, code=5,
+               lost=False, others=0, brief=0):
     """A client lets go of some handles a while after they came, and keeps others. It may use those once more later. Or
     what it lets go of came by another code, or was never taken, or went to another process."""
-    manager, client, server = with_server(s)
     for at in range(let_go + brief):
         client.main.is_given(server.main, 50, code, takes, **SERVER)
         s.wait(held if at < let_go else 0)
@@ -356,8 +343,7 @@ def one_in_ten(s, let_go=4, kept=3, held=17, wait=205, used=None, takes=True, co
         for _ in range(others):
             other.main.is_given(server.main, 2, node=0x8000, **SERVER)
             other.main.writes(*each(BC_RELEASE, 2))
-    if lost:
-        s.loses(client)
+    s.loses(client, lost)
     for handle in range(2, 2 + kept):
         client.main.is_given(server.main, handle, **SERVER)
     if used is not None:
@@ -368,9 +354,8 @@ def one_in_ten(s, let_go=4, kept=3, held=17, wait=205, used=None, takes=True, co
 
 
 @case("")
-def one_in_ten_services(s):
+def one_in_ten_services(s, service, client):
     """The same of what the context manager gives."""
-    service, client = s.two()
     for _ in range(4):
         client.main.is_given(service.main, 50)
         client.main.writes(*each(BC_RELEASE, 50))
@@ -381,10 +366,9 @@ def one_in_ten_services(s):
 
 @case("H8:3", "given by calls of code 4 from client 200 (4 others were let go of, each within ", one=True)
 @case("", one=False)
-def one_in_ten_callbacks(s, one):
+def one_in_ten_callbacks(s, manager, client, server, one):
     """A server keeps some of the objects that a client hands over, and lets go of others, or of those of another
     client."""
-    manager, client, server = with_server(s)
     other = s.process(400, "other")
     other.main.is_given(manager.main, 1, server_handle=3)
     for handle in range(20, 24):
@@ -413,10 +397,9 @@ def one_in_ten_callbacks(s, one):
       "groups that are maybe: 2", names=("broker", "broker"), keeper="server")
 @case("H5:24", "maybe references kept: 12 of 12 given by calls of code 4 from server (3 processes) H5",
       "groups that are maybe: 2", names=("server", "server", "server"), first=3000)
-def kept_of_one_name(s, names, first=400, keeper=None):
+def kept_of_one_name(s, manager, server, names, first=400, keeper=None):
     """Some processes get objects from a maker, keep them, and hand them over to a server, which keeps them too, as
     another one may. They may have the name of the server, and numbers that begin with its own."""
-    manager, _, server = with_server(s)
     maker = s.process(350, "maker")
     maker.main.gives(manager.main, 4, node=0xA000)
     keepers = [(server, 1, 0x9000)]

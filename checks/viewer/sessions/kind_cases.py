@@ -65,8 +65,7 @@ def with_callbacks(s, keeps, others, met="from-start"):
     manager, app, _ = with_server(s)
     server = s.process(1000, "system_server", met)
     server.is_called("system_server")
-    server.main.gives(manager.main, 4, node=0xA000)
-    app.main.is_given(manager.main, 5, server_handle=4)
+    app.main.is_passed(server.main, manager.main, 5, 4, node=0xA000)
     quarters, at = Quarters(s, server, manager), 20
     for part, kept in enumerate(keeps):
         quarters.lasts(part + 0.2)
@@ -142,10 +141,8 @@ def service_never_answers(s):
 
 
 @case("C4:1 A1:2", *MAYBE)
-def reply_is_lost_on_an_error(s):
-    service, client = s.two()
-    for _ in range(2):
-        client.main.asks(service.main, 7)
+def reply_is_lost_on_an_error(s, service, client):
+    client.main.asks(service.main, 7, times=2)
     service.main.gets(client.main.sends(0, 7))
     s.wait(200)
 
@@ -171,22 +168,20 @@ def callback_blocks_a_thread(s):
 
 
 @case("U2:1", REAL)
-def only_looper_reads_nothing_more(s):
-    service, client = s.two()
-    for _ in range(3):
-        client.main.asks(service.main)
+def only_looper_reads_nothing_more(s, service, client):
+    client.main.asks(service.main, times=3)
     client.main.sends(0, 1)
     s.wait(1100)
 
 
 @case("E5:1", REAL)
 def call_is_too_large(s):
-    cases.failed_call(s, BR_FAILED_REPLY)
+    cases.failed_call(s, kind=BR_FAILED_REPLY)
 
 
 @case("E6:1", REAL)
 def reply_is_too_large(s):
-    cases.failed_call(s, BR_FAILED_REPLY, confirmed=True)
+    cases.failed_call(s, kind=BR_FAILED_REPLY, confirmed=True)
 
 
 @case("E6:1", REAL, "E6 by client 200: 1")

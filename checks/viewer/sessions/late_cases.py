@@ -26,8 +26,7 @@ def confirmed_what_is_not_there(s, late):
 
 @case("L1:1", late=True)
 @case("U6:1", late=False)
-def asked_for_a_reference(s, late):
-    service, _ = s.two()
+def asked_for_a_reference(s, service, late):
     s.stops(late)
     service.main.reads(node(BR_ACQUIRE, 0x500, 0))
 
@@ -38,10 +37,9 @@ def asked_for_a_reference(s, late):
 @case("H2:1 H7:1", late=True, other=True)
 @case("H2:1", late=True, asked=True, done=2)
 @case("H7:1", late=True, asked=True, done=1)
-def reference_given_back(s, late, kind=BR_RELEASE, other=False, asked=False, done=0):
+def reference_given_back(s, service, late, kind=BR_RELEASE, other=False, asked=False, done=0):
     """The driver gives back a reference that it has not asked for; or another one, which it had asked for. Or the
     process has acknowledged it once, or too often."""
-    service, _ = s.two()
     if other or asked:
         service.main.reads(node(BR_ACQUIRE, 0x500, 0))
         service.main.writes(*[node(BC_ACQUIRE_DONE, 0x500, 0)] * (done or 1))
@@ -53,8 +51,7 @@ def reference_given_back(s, late, kind=BR_RELEASE, other=False, asked=False, don
 
 @case("L1:1", late=True)
 @case("U6:1", late=False)
-def reply_read(s, late):
-    service, client = s.two()
+def reply_read(s, service, client, late):
     reply = service.main.replies(service.main.gets(client.main.sends(0, 1)))
     s.stops(late)
     client.main.answered(reply, free=False)
@@ -62,11 +59,9 @@ def reply_read(s, late):
 
 @case("U3:3 L1:1", late=True)
 @case("U4:3 U6:1", late=False)
-def replies_kept(s, late):
+def replies_kept(s, service, client, late):
     """Three replies are kept, and then a fourth is read."""
-    service, client = s.two()
-    for _ in range(3):
-        client.main.asks(service.main, free=False)
+    client.main.asks(service.main, free=False, times=3)
     s.wait(200)
     reply = service.main.replies(service.main.gets(client.main.sends(0, 1)))
     s.stops(late)
@@ -75,9 +70,8 @@ def replies_kept(s, late):
 
 @case("L1:1 A1:2", late=True)
 @case("C4:1 A1:2", late=False)
-def call_read(s, late):
+def call_read(s, service, client, late):
     """A call waits for long, and then its server reads it."""
-    service, client = s.two()
     sent = client.main.sends(0, 1)
     s.wait(1100)
     s.stops(late)
@@ -86,9 +80,8 @@ def call_read(s, late):
 
 @case("L1:2 A1:1", late=True)
 @case("A1:1 U6:2", late=False)
-def answered_without_a_reply(s, late):
+def answered_without_a_reply(s, service, client, late):
     """A call is served for long, and then answered by a reply that is in no frame."""
-    service, client = s.two()
     service.main.gets(client.main.sends(0, 1))
     s.wait(1100)
     s.stops(late)
@@ -97,9 +90,8 @@ def answered_without_a_reply(s, late):
 
 @case("U6:1 L1:1 A1:2", late=True)
 @case("U4:1 U6:1 A1:2", late=False)
-def buffer_kept(s, late):
+def buffer_kept(s, service, client, late):
     """A service keeps the buffer of a call that it has replied to, and then reads another one."""
-    service, client = s.two()
     client.main.answered((service.main.gets(client.main.sends(0, 1)), service.main.replies())[1])
     s.wait(200)
     sent = client.main.sends(0, 2)
@@ -110,9 +102,8 @@ def buffer_kept(s, late):
 @case("L1:1", late=True)
 @case("E5:1", late=False)
 @case("E5:1", late=True, flags=ACCEPT_FDS)
-def refused(s, late, flags=ONE_WAY):
+def refused(s, client, late, flags=ONE_WAY):
     """A oneway send or a call is refused. Of a call it stays what the capture says."""
-    _, client = s.two()
     client.main.writes(Sent(client.main, 1, flags, b"", b"").record(BC_TRANSACTION, 0))
     s.stops(late)
     client.main.reads(record(BR_FAILED_REPLY))

@@ -29,9 +29,8 @@ def counts(s, threads, free=None, driver="C", of=100):
 @case("C6:1 C7:1 A1:2", "; the driver asks it for no threads", threads="0+0/0")
 @case("C6:1 C7:1 A1:2", "of at most 1 thread that the driver asks it for, 0 have come", threads="0+0/1", driver="Rust")
 @case("U6:1 C7:1 A1:2", "of at most 15 threads that the driver asks it for, 2 have come", threads="0+2/15", wait=20)
-def pool_with_a_limit(s, threads, driver="C", wait=1100):
+def pool_with_a_limit(s, service, client, threads, driver="C", wait=1100):
     """The only looper of a service never answers, and another call waits for it."""
-    service, client = s.two()
     client.main.asks(service.main, 2)
     service.main.gets(client.main.sends(0, 10))
     s.process(300, "other").main.sends(0, 1)
@@ -59,9 +58,8 @@ def embrace_through_a_pool_with_a_limit(s):
       " bytes of its oneway space were free", free=16)
 @case("E5:1 W5:1", "at the end 1 byte of its oneway space was free", free=1, driver="Rust")
 @case("E5:1 W5:1", "waited or were held at service 100: 1 send from client 200", free=None)
-def oneway_space_is_full(s, free, driver="C"):
+def oneway_space_is_full(s, service, client, free, driver="C"):
     """A oneway send is refused while the service holds another one."""
-    service, client = s.two()
     service.main.gets(client.main.sends(0, 1, ONE_WAY, body=b"data"))
     client.main.writes(Sent(client.main, 1, ONE_WAY, b"", b"").record(BC_TRANSACTION, 0))
     client.main.reads(record(BR_FAILED_REPLY))
@@ -87,8 +85,7 @@ def threads_that_say_nothing(s, driver, says=None, met="from-start", wait=1100, 
     if says:
         server.looper(1)
     service.main.is_given(manager.main, 1, server_handle=3)
-    if loses:
-        s.loses(server)
+    s.loses(server, loses)
     service.main.sends(1, 1)
     service.thread(1).sends(1, 2, ONE_WAY)
     s.wait(wait)

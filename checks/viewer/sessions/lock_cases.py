@@ -4,7 +4,7 @@ own."""
 import itertools
 
 from checks.kit.captures import BR_DEAD_REPLY, record
-from checks.viewer.sessions.cases import case
+from checks.viewer.sessions.cases import case, each_of
 from checks.viewer.sessions.session import Sent
 
 
@@ -73,8 +73,7 @@ class Scene:
 @case("V4:1", slow=4, codes=(3, 3), times=2)
 @case("", late=120)
 @case("V4:1", late=60)
-@case("", came=-1)
-@case("", came=1030)
+@case("", came=each_of(-1, 1030))
 @case("V4:1", came=950)
 @case("", calls=False)
 @case("A1:1 C4:1 E3:1 V4:1", fails=True)
@@ -91,8 +90,7 @@ def holds_a_lock(s, took=1100, codes=(3, 3, 3), times=1, usual=1, late=0, came=0
         s.wait(200)
         for end in ends:
             end()
-    if lost:
-        s.loses(scene.service)
+    s.loses(scene.service, lost)
     for _ in range(times):
         early = scene.waits(codes) if came < 0 else None
         if calls:
@@ -109,11 +107,7 @@ def holds_a_lock(s, took=1100, codes=(3, 3, 3), times=1, usual=1, late=0, came=0
 
 
 @case("", passes="same path")
-@case("V4:1", "3 of code 3", passes="code")
-@case("V4:1", "3 of code 3", passes="object")
-@case("V4:1", "3 of code 3", passes="process")
-@case("V4:1", "3 of code 3", passes="own")
-@case("V4:1", "3 of code 3", passes="before")
+@case("V4:1", "3 of code 3", passes=each_of("code", "object", "process", "own", "before"))
 def others_meanwhile(s, passes):
     """While a service holds a lock over a call, another call passes through: of the same path, of another code, to
     another object, to another process that has the object at the same address; or a thread of the service calls the
@@ -224,11 +218,10 @@ A, B, METHODS = 400, 500, [(number, code, ptr) for number in (400, 500) for code
 @case("V4:2", "5 calls waited up to 1.15 s, until its call at 27672 ended", ": 4 of code 3, 1 of code 4)")
 @case("V4:1", "5 calls waited up to 1.1", passes=True)
 @case("V4:2", "5 calls waited up to 1.1", again=True)
-def methods_wait(s, slow=(), passes=False, again=False):
+def methods_wait(s, manager, client, slow=(), passes=False, again=False):
     """Two services each hold a lock over a call, and that of the second one ends later. Three calls of a method of each
     wait, and of the first one two of another method and of another object. Some take 150 ms at other times, too. Or a
     call to the second one passes. `again`: another thread of the first one waits for the other process meanwhile."""
-    manager, client = s.two()
     other = s.process(300, "other")
     other.main.gives(manager.main, 8)
     threads = [client.thread(at) for at in range(1, 13)]

@@ -2,7 +2,7 @@
 
 from checks.kit.captures import of_handle, offsets
 from checks.kit.tokens import MANAGER, marked, numbers, string16
-from checks.viewer.sessions.cases import case
+from checks.viewer.sessions.cases import case, each_of
 from checks.viewer.sessions.session import STATUS_CODE, Process, Session, Thread
 
 NOT_FOUND = "services not found"
@@ -29,8 +29,7 @@ def registers(s: Session, manager: Process, number: int = 300, handle: int = 3, 
 @case("N2:1", f"maybe {NOT_FOUND}: 1 of - service foo N2 (10 requests within 1.08 s)", "N2 by client 200: 1",
       f"defect: {NOT_FOUND} | client on binder | service foo;")
 @case("N3:1", every=110)
-@case("N2:1", every=120, code=1)
-@case("N2:1", every=120, code=3)
+@case("N2:1", every=120, code=each_of(1, 3))
 @case("N3:1", "foo (10 requests)", has_side=False)
 @case("", code=4)
 @case("", of="a.b.IOther")

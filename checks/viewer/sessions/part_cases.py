@@ -1,9 +1,9 @@
 """Sessions of which only a part was recorded: of each process that is left out there is no frame, and its lines are not
 in the side list. The copies of the driver's books have all."""
 
-from checks.kit.captures import BR_FROZEN_REPLY, ENTER, record
+from checks.kit.captures import BR_FROZEN_REPLY, record
 from checks.viewer.sessions.book_cases import call_of, thread
-from checks.viewer.sessions.cases import case
+from checks.viewer.sessions.cases import case, each_of
 from checks.viewer.sessions.session import DONE, Sent
 
 
@@ -19,8 +19,7 @@ BOOK = PART + "by the driver's book of the end "
 
 
 @case("C12:1", f"(open for ≥ 1.1 s; {SEE})", "C12 by client 200: 1")
-@case("C12:1", SEE, option="pid:200,device:binder")
-@case("C12:1", SEE, option="cgroup:top")
+@case("C12:1", SEE, option=each_of("pid:200,device:binder", "cgroup:top"))
 @case("C5:1", "(open for ≥ 1.1 s; not got)", option=None)
 @case("C5:1", "not got", option="device:binder")
 @case("U6:1", wait=50)
@@ -44,8 +43,7 @@ def calls_what_is_not_recorded(s, option="pid:200", wait=1100, good=0, took=1, l
         client.main.sends(0, 1)
         s.wait(took)
         client.main.answered(Sent(None, 0, 0, b"", b""))
-    if lost:
-        s.loses(client)
+    s.loses(client, lost)
     client.main.sends(0, 1)
     s.wait(wait)
     if book is not None:
@@ -69,8 +67,7 @@ def serves_what_is_not_recorded(s, option="pid:100", wait=1100, good=0, calls=Fa
     """A service gets a call of a client that is not recorded, and does not reply; it may wait in a call of its own, or
     another thread of it does."""
     is_narrowed(s, option)
-    service = s.process(100, "service")
-    service.main.writes(ENTER)
+    service = s.process(100, "service", enters=True)
     stranger = Sent(None, 1, 0, b"", b"")
     for _ in range(good):
         service.main.replies(got(service, stranger))

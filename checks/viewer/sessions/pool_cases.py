@@ -2,7 +2,7 @@
 not."""
 
 from checks.kit.captures import BC_ACQUIRE, BC_EXIT_LOOPER, ENTER, each, record
-from checks.viewer.sessions.cases import case
+from checks.viewer.sessions.cases import case, each_of
 from checks.viewer.sessions.name_cases import ONE
 from checks.viewer.sessions.session import ONE_WAY, Sent
 
@@ -31,21 +31,17 @@ def is_served(service, victim, waiting, by=None):
 @case("Q2:1", "2 calls waited up to 1.1 s (the median is 1 ms)", victims=2, good=0)
 @case("Q4:1", took=900)
 @case("", victims=1, free=True)
-@case("Q2:1", "for its 1 looper", victims=1, free="later")
-@case("Q2:1", "for its 1 looper", victims=1, free="exits")
-@case("Q2:1", "for its 1 looper", victims=1, free="ends")
-@case("Q2:1", "for its 1 looper", victims=1, free="only calls")
+@case("Q2:1", "for its 1 looper", victims=1, free=each_of("later", "exits", "ends", "only calls"))
 @case("Q2:1", victims=1, took=1020, idle=180)
 @case("", victims=1, took=900, idle=300)
 @case("Q1:1", usual=110, took=1150)
 @case("Q2:1", usual=120, took=1150)
 @case("", victims=1, lost=True)
 @case("Q2:1", "for 1 looper: ", met="in-mid-life", victims=1)
-def calls_wait(s, victims=3, took=1100, longer=0, idle=0, good=4, usual=0, free=None, lost=False, met="from-start"):
+def calls_wait(s, service, client, victims=3, took=1100, longer=0, idle=0, good=4, usual=0, free=None, lost=False):
     """Slow calls keep the only looper of a service, one after another, each so much longer than the one before, and
     other calls wait meanwhile. Before, some waited as usual. Another thread is free, or becomes a looper later, or is
     none any more, or has ended, or only makes calls."""
-    service, client = s.two(met)
     others = [s.process(300, "victim"), s.process(301, "victim")]
     for _ in range(good):
         sent = client.main.sends(0, 1)
@@ -60,8 +56,7 @@ def calls_wait(s, victims=3, took=1100, longer=0, idle=0, good=4, usual=0, free=
         second.ends()
     if free == "only calls":
         second.writes(*each(BC_ACQUIRE, 0))
-    if lost:
-        s.loses(service)
+    s.loses(service, lost)
     for at in range(victims):
         waiting = waits_for_one(s, service, client, others[at % 2 if victims < 3 else at > 0], took + longer * at, idle,
                                 through=(lambda: second.writes(ENTER)) if free == "later" else None)
@@ -85,23 +80,20 @@ def calls_wait(s, victims=3, took=1100, longer=0, idle=0, good=4, usual=0, free=
 @case("M2:2 C7:1 A1:4", lost="client")
 @case("C6:2 C7:2 A1:6", served=True)
 @case("C6:1 C7:2 T1:1 A1:4", " and thread 201 has done nothing since)", gone=True)
-def calls_back_to_a_full_pool(s, wait=1100, by="another thread", active=0, times=1, lost=None, served=False,
-                              to_another=False, onward=None, gone=False):
+def calls_back_to_a_full_pool(s, service, client, wait=1100, by="another thread", active=0, times=1, lost=None,
+                              served=False, to_another=False, onward=None, gone=False):
     """The only looper of a service serves a call, and calls a client meanwhile. Another thread of the client calls
     back, or another process calls the service, and no thread of the service is free. `served`: a second looper serves
     that, and never replies. `active`: the client's looper does something so long before the end. In place of that the
     client calls another service, or does so by its looper or its main thread; that one never replies. `gone`: the
     thread that calls back ends at once, and a call of another process waits."""
-    service, client = s.two()
     second = service.looper(1) if served else None
     client.main.gives(service.main, 7)
     back, other = client.looper(1), s.process(300, "other")
     if to_another or onward:
         late = s.process(302, "late")
-        late.main.gives(service.main, 8)
-        client.main.is_given(service.main, 8, server_handle=8)
-    if lost:
-        s.loses(client)
+        client.main.is_passed(late.main, service.main, 8, 8)
+    s.loses(client, lost)
     service.main.gets(other.main.sends(0, 10))
     back.gets(service.main.sends(7, 2), 0x9700)
     for at in range(times):
@@ -126,9 +118,8 @@ def calls_back_to_a_full_pool(s, wait=1100, by="another thread", active=0, times
 @case("Q2:1", "code 10, code 11 at service 100 (", more=300)
 @case("Q2:1", "code 11, code 10 at service 100 (", more=1000)
 @case("Q2:1", "code 11, code 10 at service 100 (", more=600, times=2)
-def kept_by_two_methods(s, more, times=1):
+def kept_by_two_methods(s, service, client, more, times=1):
     """A call waits for a call that takes long, and for one or two of another method that take some time, or as long."""
-    service, client = s.two()
     victim, other = s.process(300, "victim"), s.process(301, "other")
     waiting = None
     for _ in range(times):
@@ -151,13 +142,11 @@ def kept_by_two_methods(s, more, times=1):
 @case("Q1:1", "3 of victim 300, 1 of client 200", times=4, victims=(0, 1, 2), keeps=(3,))
 @case("Q1:1", "3 of victim 300, 1 of client 200", times=4, victims=(1, 2, 3), keeps=(0,))
 @case("Q1:1", "6 of client 200", times=6, keeps=(3, 4, 5))
-def waits_for_its_own(s, times=3, victims=(), keeps=(), pause=0):
+def waits_for_its_own(s, service, client, times=3, victims=(), keeps=(), pause=0):
     """A client calls the only looper of a service twice at once, several times, so that one of its calls waits for the
     other one; or the victim's call waits; or the victim keeps the looper this time."""
-    service, client = s.two()
     victim, second = s.process(300, "victim"), client.thread(1)
-    for _ in range(4):
-        client.main.asks(service.main)
+    client.main.asks(service.main, times=4)
     for at in range(times):
         s.wait(pause)
         keeper, caller = victim.main if at in keeps else client.main, victim.main if at in victims else second
@@ -174,13 +163,11 @@ def waits_for_its_own(s, times=3, victims=(), keeps=(), pause=0):
 @case("", share=0.25, took=350)
 @case("Q2:1", "3 of user 300", share=0.15, took=1150, own=2, loopers=2)
 @case("Q1:1", "3 of user 300", share=0.15, took=1150, own=1, loopers=2)
-def waits_partly_for_its_own(s, share, took, own=1, loopers=1):
+def waits_partly_for_its_own(s, service, client, share, took, own=1, loopers=1):
     """Three times a call of a process waits for the loopers of a service. For a part of that time other calls of it
     keep some of them, and all else those of a client do."""
-    service, client = s.two()
     user, pool = s.process(300, "user"), [service.main, *(service.looper(at) for at in range(1, loopers))]
-    for _ in range(4):
-        client.main.asks(service.main)
+    client.main.asks(service.main, times=4)
     second, users, clients = user.thread(1), *(
         [one.thread(10 + at) for at in range(loopers)] for one in (user, client))
     for _ in range(3):
@@ -204,15 +191,13 @@ def waits_partly_for_its_own(s, share, took, own=1, loopers=1):
 @case("Q1:1", "18 calls waited up to 1.6", "(the median is 1.6", good=0, each=3)
 @case("Q2:1", "6 calls waited up to 1.12 s (the median is 931 ms)", good=0, each=3, took=300, last=360)
 @case("Q2:1", "6 calls waited up to 1.6", own=True)
-def starves(s, good=30, each=1, own=False, took=550, last=550):
+def starves(s, service, client, good=30, each=1, own=False, took=550, last=550):
     """A slow client calls the only looper of a service again and again. Two victims call it by turns, with so many
     threads, and the looper serves each for a moment; so at any time one of them waits. The last two of the slow calls
     may take longer. `own`: all calls are of one process."""
-    service, client = s.two()
     victims = [client, client] if own else [s.process(300, "victim"), s.process(350, "victim")]
     callers = [[one.thread(5 + at + 2 * nth) for nth in range(each)] for at, one in enumerate(victims)]
-    for _ in range(good):
-        callers[0][0].asks(service.main, 1)
+    callers[0][0].asks(service.main, 1, times=good)
     waiting = []
     for at in range(7):
         address = service.main.gets(client.main.sends(0, 10))
@@ -227,17 +212,15 @@ def starves(s, good=30, each=1, own=False, took=550, last=550):
 @case("Q2:1", "(the median is 1 ms) for its 2 loopers", "; the loopers wait for slow 302", "Q2 by slow 302: 1")
 @case("Q1:1", "(the median is 1 ms) for its 2 loopers", "Q1 by slow 302: 1", quiet=3)
 @case("Q2:1", quiet=2)
-def starved_by_its_client(s, quiet=0):
+def starved_by_its_client(s, service, client, quiet=0):
     """Two processes each call a service by three threads at once, again and again, and its two loopers ask a slow
     client within that. The processes delay themselves; some quiet ones call the service once, and wait too."""
-    service, client = s.two()
     slow = s.process(302, "slow")
     slow.main.gives(service.main, 8)
     loopers, serving = [service.main, service.looper(1)], [slow.looper(1), slow.looper(2)]
     users = [s.process(310 + at, "user") for at in range(2)]
     threads = [one.thread(5 + at) for at in range(3) for one in users]
-    for _ in range(40):
-        client.main.asks(service.main)
+    client.main.asks(service.main, times=40)
     waiting = [(one, one.sends(0, 10)) for one in threads]
     waiting += [(one, one.sends(0, 10)) for one in (s.process(330 + at, "quiet").main for at in range(quiet))]
     for again in range(9):
@@ -262,8 +245,7 @@ def starved_by_its_client(s, quiet=0):
 @case("Q4:1", "3 calls waited up to 161 ms", "3 of victim 300)", "Q4 by service 100: 1",
       "explained a queue behind one method: 1", by=(0, 1, 2))
 @case("Q4:1", by=(0, 0, 0, 1))
-@case("", by=(0, 0, 0, 1), codes=(10, 11))
-@case("", by=(0, 1, 2), codes=(10, 11))
+@case("", by=each_of((0, 0, 0, 1), (0, 1, 2)), codes=(10, 11))
 @case("Q4:1", by=(0, 1, 2, 3, 4, 5), codes=(10, 10, 10, 10, 10, 11))
 @case("", by=(0, 1))
 @case("", by=(0, 1, 2), took=85, last=150)
@@ -284,8 +266,7 @@ def queue(s, took=150, by=(0, 0, 0), codes=(10,), loopers=2, victims=1, at_once=
     callers = [[one.thread(5 + at) for at in range(loopers * at_once)] for one in clients]
     victim = client if own else s.process(300, "victim")
     waiting = [victim.main, *(victim.thread(at) for at in range(1, victims))]
-    for _ in range(4 * len(by)):
-        victim.main.asks(service.main)
+    victim.main.asks(service.main, times=4 * len(by))
     for at, which in enumerate(by):
         count = loopers * (1 if alone and at == 0 else at_once)
         sent = [(one, one.sends(0, codes[at % len(codes)])) for one in callers[which][:count]]
@@ -300,10 +281,9 @@ def queue(s, took=150, by=(0, 0, 0), codes=(10,), loopers=2, victims=1, at_once=
 
 
 @case("Q3:1 Q4:1", "3 of client 200 kept them busy", "code 10 at service 100 node 0x0 (4 calls waited")
-def keeps_two_services(s):
+def keeps_two_services(s, manager, client):
     """A client keeps the only looper of a service busy, and half of the time that of another one, where another client
     does so by turns; calls of a victim wait at both."""
-    manager, client = s.two()
     service, other, victim = s.process(400, "second"), s.process(201, "other"), s.process(300, "victim")
     service.main.writes(ENTER)
     service.main.gives(manager.main, 9, node=0x9000)
@@ -323,13 +303,11 @@ def keeps_two_services(s):
 
 
 @case("Q1:1", "3 of user 300")
-def kept_over_two_waits(s):
+def kept_over_two_waits(s, service, client):
     """A process waits for the two loopers of a service, which a client keeps, and at last a call of its own. That one
     goes on, while a call of another process waits for the second looper."""
-    service, client = s.two()
     pool, user, other = (service.main, service.looper(1)), s.process(300, "user"), s.process(301, "other")
-    for _ in range(4):
-        client.main.asks(service.main)
+    client.main.asks(service.main, times=4)
     kept = [(by, looper, looper.gets(by.sends(0, 10))) for by, looper in zip((client.main, client.thread(1)), pool)]
     own, waiting = user.main.sends(0, 10), [(by, by.sends(0, 1)) for by in (user.thread(at) for at in (1, 2, 3))]
     s.wait(950)
@@ -351,16 +329,14 @@ def kept_over_two_waits(s):
 
 
 @case("Q1:2", "3 of other 300", "3 of client 200")
-def waits_elsewhere(s):
+def waits_elsewhere(s, service, client):
     """A client keeps the only looper of a service, and waits for that of another one meanwhile, which others keep."""
-    service, client = s.two()
     other, busy = s.process(300, "other"), s.process(400, "busy")
     busy.main.writes(ENTER)
     busy.main.gives(service.main, 9, node=0x9000)
     for one in client, other:
         one.main.is_given(service.main, 7, server_handle=9)
-        for _ in range(2):
-            one.main.asks(busy.main, 1, 7, 0x9000)
+        one.main.asks(busy.main, 1, 7, 0x9000, times=2)
     keepers = client.thread(1), other.thread(1)
     for _ in range(3):
         first = service.main.gets(keepers[0].sends(0, 11))
@@ -375,16 +351,14 @@ def waits_elsewhere(s):
 
 
 @case("Q2:1 Q4:1", "3 calls waited up to 905 ms for its 1 looper", "1 call waited up to 1.1 s (the median is 21 ms)")
-def two_used_up(s):
+def two_used_up(s, service, client):
     """Two services are used up, one of them for longer, whose calls wait for a while also before."""
-    service, client = s.two()
     victim, slower = s.process(300, "victim"), s.process(400, "slower")
     slower.main.writes(ENTER)
     slower.main.gives(service.main, 9, node=0x9000)
     for one in client, victim:
         one.main.is_given(service.main, 7, server_handle=9)
-    for _ in range(10):
-        client.main.asks(service.main)
+    client.main.asks(service.main, times=10)
     for _ in range(4):
         sent = client.main.sends(7, 1)
         s.wait(20)
@@ -400,10 +374,9 @@ def two_used_up(s):
 
 @case("", late=True)
 @case("Q2:1", "1 call waited up to 1.1 s (the median is 21 ms) for its 1 looper: 1 of other 301", late=False)
-def alike_to_two_services(s, late):
+def alike_to_two_services(s, manager, client, late):
     """Two threads of a process make the same call at once, by handles that were there before the recording, to two
     services: it is not known which one came to which. They wait for long, or for a moment again and again."""
-    manager, client = s.two()
     one, _ = services = [s.process(number, "service") for number in (400, 401)]
     for at, service in enumerate(services):
         service.main.writes(ENTER)
@@ -436,10 +409,9 @@ def alike_to_two_services(s, late):
 
 
 @case("Q2:1", "1 call waited up to 1.1 s (the median is 21 ms) for its 1 looper")
-def calls_that_come_back(s):
+def calls_that_come_back(s, service, client):
     """The only looper of a service is used up by a call. Before, calls waited for a while, and others came back to it
     within those that it made."""
-    service, client = s.two()
     client.main.gives(service.main, 7)
     for _ in range(4):
         sent = client.main.sends(0, 3)
@@ -454,13 +426,11 @@ def calls_that_come_back(s):
 
 
 @case("Q2:2", "code 10 at service 101 node 0x9000", "code 10 at another 102 node 0x9000")
-def pools_at_one_address(s):
+def pools_at_one_address(s, manager, client):
     """Calls of one code keep the loopers of two services, whose objects have the same address."""
-    manager, client = s.two()
     victim = s.process(300, "victim")
     for at, name in enumerate(("service", "another")):
-        service = s.process(101 + at, name)
-        service.main.writes(ENTER)
+        service = s.process(101 + at, name, enters=True)
         service.main.gives(manager.main, 50 + at, node=0x9000)
         for caller in client, victim:
             caller.main.is_given(manager.main, 7 + at, server_handle=50 + at)
@@ -472,9 +442,8 @@ def pools_at_one_address(s):
 
 
 @case("Q2:1", "code 10, code 10 at service 100 (")
-def kept_at_two_objects(s):
+def kept_at_two_objects(s, service, client):
     """Calls of one code keep the only looper of a service, at two of its objects, for about as long."""
-    service, client = s.two()
     victim = s.process(300, "victim")
     client.main.is_given(service.main, 1)
     waiting = None
@@ -489,9 +458,8 @@ def kept_at_two_objects(s):
 @case("Q2:1", "for its 2 loopers", busy=True)
 @case("", busy=False)
 @case("", busy=False, short=True)
-def two_loopers(s, busy, short=False):
+def two_loopers(s, service, client, busy, short=False):
     """Of two loopers one is in a call, and the other one, too, or in none, or in short ones."""
-    service, client = s.two()
     victim, other, second = s.process(300, "victim"), s.process(301, "other"), service.looper(1)
     address = second.gets(other.main.sends(0, 10)) if busy else None
     if short:
@@ -506,10 +474,9 @@ def two_loopers(s, busy, short=False):
 @case("Q2:1", "Q2 by service 100: 1", share=0.75)
 @case("Q2:1", "a call of its own, code 12 at service 100", "the loopers wait for third 302", share=1)
 @case("Q2:1", "a call of its own, IOne code 12 at service 100", "the loopers wait for third 302", share=1, named=True)
-def kept_by_another(s, share, named=False):
+def kept_by_another(s, service, client, share, named=False):
     """A looper waits for a third process in a call that it serves, for so much of the time; or in a call of its own,
     without serving any."""
-    service, client = s.two()
     victim, third = s.process(300, "victim"), s.process(302, "third")
     third.main.gives(service.main, 8)
     if share < 1:
@@ -525,9 +492,8 @@ def kept_by_another(s, share, named=False):
 
 
 @case("Q2:1", "a call of its own, IOne code 12 at service 100")
-def kept_by_who_knows(s):
+def kept_by_who_knows(s, service, client):
     """A looper waits in a call of its own to a handle that was there before the recording."""
-    service, client = s.two()
     victim = s.process(300, "victim")
     client.main.asks(service.main)
     waiting = victim.main.sends(0, 1)
@@ -540,10 +506,9 @@ def kept_by_who_knows(s):
 @case("A1:4 C7:2 Q1:1 U1:1", "the loopers wait for third 302", "Q1 by third 302: 1", wait=50)
 @case("A1:4 C6:1 C7:2", "C6 by third 302: 1", wait=12000)
 @case("A1:4 C7:2 Q1:1 U2:1", wait=12000, late=True)
-def kept_by_another_to_the_end(s, wait, late=False):
+def kept_by_another_to_the_end(s, service, client, wait, late=False):
     """A slow process answers the calls for which the only looper of a service waits, one after another; the last one is
     under way at the end, or hangs. Meanwhile another call waits, at the end for long or, if `late`, not."""
-    service, client = s.two()
     victim, third = s.process(300, "victim"), s.process(302, "third")
     third.main.gives(service.main, 8)
     for at in range(4):
@@ -564,18 +529,15 @@ def kept_by_another_to_the_end(s, wait, late=False):
 @case("A1:4 C7:3 Q1:2 U1:1", "the loopers wait for third 302", "Q1 by third 302: 2", wait=50)
 @case("A1:4 C6:1 C7:3", "C6 by third 302: 1", wait=12000)
 @case("A1:6 C6:1 C7:4 Q1:2 U1:1", "C6 by stuck 304: 1", "Q1 by third 302: 2", wait=50, beside=True)
-def kept_by_another_pool(s, wait, beside=False):
+def kept_by_another_pool(s, service, client, wait, beside=False):
     """The only looper of a service waits for the only looper of a slow process, which serves another call; the last
     such call is under way at the end, or hangs. Beside that another pool is used up by a call that hangs."""
-    service, client = s.two()
     victim, third, other = s.process(300, "victim"), s.process(302, "third"), s.process(303, "other")
-    third.main.gives(service.main, 8)
-    other.main.is_given(service.main, 1, server_handle=8)
+    other.main.is_passed(third.main, service.main, 1, 8)
     if beside:
         stuck, caller = s.process(304, "stuck"), s.process(305, "caller")
         stuck.main.writes(ENTER)
-        stuck.main.gives(service.main, 9)
-        caller.main.is_given(service.main, 2, server_handle=9)
+        caller.main.is_passed(stuck.main, service.main, 2, 9)
         caller.main.asks(stuck.main, 12, 2, 0x9900)
         stuck.main.gets(caller.main.sends(2, 12), 0x9900)
         caller.thread(1).sends(2, 12)
@@ -598,11 +560,10 @@ def kept_by_another_pool(s, wait, beside=False):
 @case("", by=0, share=0.6, idle=True)
 @case("Q2:1", "oneway code 7 at service 100 node 0x0", by=0, calls=True)
 @case("Q2:1", "oneway code 7 at service 100 node 0x0", by=0, earlier=True)
-def kept_by_a_oneway_transaction(s, by, share=1, calls=False, earlier=False, idle=False):
+def kept_by_a_oneway_transaction(s, service, client, by, share=1, calls=False, earlier=False, idle=False):
     """The only looper is in a oneway transaction for so much of the time, and frees it at its end; or another thread
     frees it. Meanwhile it calls another process, or an earlier call waited for a while. `idle`: the oneway transaction
     comes after the rest of the time."""
-    service, client = s.two()
     victim, threads = s.process(300, "victim"), (service.main, service.thread(1))
     third = s.process(302, "third")
     third.main.gives(service.main, 8)
@@ -624,10 +585,9 @@ def kept_by_a_oneway_transaction(s, by, share=1, calls=False, earlier=False, idl
 
 @case("", holds=True)
 @case("Q2:1", "code 10 at service 100", holds=False)
-def after_a_call_of_its_own(s, holds):
+def after_a_call_of_its_own(s, service, client, holds):
     """The only looper of a service asks another process, and does nothing then but keep the buffer of the answer, while
     a call waits for it; or it did so in a call that it goes on to serve."""
-    service, client = s.two()
     victim, third = s.process(300, "victim"), s.process(302, "third")
     third.main.gives(service.main, 8)
     served = None if holds else service.main.gets(client.main.sends(0, 10))
@@ -643,10 +603,9 @@ def after_a_call_of_its_own(s, holds):
 
 
 @case("Q2:1 W5:1", "for its 2 loopers")
-def keeps_a_oneway_transaction(s):
+def keeps_a_oneway_transaction(s, service, client):
     """One of two loopers got a oneway transaction, and has done nothing since; the other one is in a call, and another
     call waits."""
-    service, client = s.two()
     victim, second = s.process(300, "victim"), service.looper(1)
     second.gets(client.main.sends(0, 7, ONE_WAY))
     is_served(service, victim, waits_for_one(s, service, client, victim))
@@ -657,26 +616,22 @@ def keeps_a_oneway_transaction(s):
 @case("C7:1 A1:2 Q2:1", since=150, usual=20)
 @case("C7:1 A1:2", "it waited 305 ms for a looper", since=50, took=300)
 @case("U2:1 A1:2", since=50, took=90)
-def still_served(s, since, usual=0, took=1100):
+def still_served(s, service, client, since, usual=0, took=1100):
     """A call that waited for a looper has one for so long, at the end."""
-    service, client = s.two()
     victim = s.process(300, "victim")
-    for _ in range(4):
-        victim.main.asks(service.main, 1, took=usual)
+    victim.main.asks(service.main, 1, took=usual, times=4)
     service.main.gets(waits_for_one(s, service, client, victim, took))
     s.wait(since)
 
 
 @case("C7:1 Q2:1", "it waited 1.15 s for a looper")
 @case("U6:1", lost=True)
-def waits_to_the_end(s, lost=False):
+def waits_to_the_end(s, service, client, lost=False):
     """The only looper is in a call to nearly the end, and free then: the call that waits is not got. Or it may have
     been, in a frame that is lost."""
-    service, client = s.two()
     waits_for_one(s, service, client, s.process(300, "victim"))
     s.wait(50)
-    if lost:
-        s.loses(service)
+    s.loses(service, lost)
 
 
 def after_another(s):
@@ -732,8 +687,7 @@ def kept_while_its_main_thread_waits(s):
     other.main.is_given(looper, 1, server_handle=8)
     other.main.asks(third.main, 12, 1, 0x9800)
     victim = s.process(300, "victim")
-    for _ in range(4):
-        victim.main.asks(looper)
+    victim.main.asks(looper, times=4)
     for _ in range(3):
         address = looper.gets(client.main.sends(0, 10))
         waiting = victim.main.sends(0, 1)

@@ -1,7 +1,7 @@
 """More sessions as in cases.py: why the driver refused a send, by its log of failed transactions."""
 
 from checks.kit.captures import BC_TRANSACTION, BR_DEAD_REPLY, BR_FAILED_REPLY, BR_FROZEN_REPLY, record
-from checks.viewer.sessions.cases import case
+from checks.viewer.sessions.cases import case, each_of
 from checks.viewer.sessions.session import DONE, ONE_WAY, Sent, Session, Thread
 
 NO_SPACE, BAD, DENIED, NO_CALL = 28, 22, 1, 71
@@ -46,13 +46,11 @@ def refused(thread: Thread, code: int = 1, size: int = 0, flags: int = 0, handle
 @case("E5:1", NOT_THERE, errno=BAD, until=7)
 @case("E5:1", "(a bad object (-22 EINVAL))", errno=BAD, until=8)
 @case("M3:1", "(a bad object (-22 EINVAL))", errno=BAD, lost=True)
-def refused_by_the_log(s, errno=NO_SPACE, size=0, data=0, to=100, handle=0, what="call", answer=FAILED, of="client",
-                       since=0, until=None, lost=False):
+def refused_by_the_log(s, service, client, errno=NO_SPACE, size=0, data=0, to=100, handle=0, what="call", answer=FAILED,
+                       of="client", since=0, until=None, lost=False):
     """A call is refused, in the frames 8 and 9; the log says why, of the same call or of another one."""
-    service, client = s.two()
     client.main.asks(service.main)
-    if lost:
-        s.loses(client)
+    s.loses(client, lost)
     refused(client.main, size=size)
     logs(s, client.main if of == "client" else service.main, errno, what, to, handle, data, answer, since, until)
 
@@ -64,10 +62,9 @@ def refused_by_the_log(s, errno=NO_SPACE, size=0, data=0, to=100, handle=0, what
       "code 3 to service 100 node 0x0 (a bad object (", log=(DENIED, BAD), overrun=True)
 @case("E5:3", "code 1 to service 100 node 0x0 (a bad object (", "code 2 to service 100 node 0x0 (why is not known, as",
       "code 3 to service 100 node 0x0 (why is not known, as no entry", log=(BAD, BAD, BAD), each=2)
-def refused_in_a_row(s, log, overrun=False, each=3):
+def refused_in_a_row(s, service, client, log, overrun=False, each=3):
     """Three calls of a thread are refused alike, and the log has all of them, or the last ones; or each look finds only
     what came long before."""
-    service, client = s.two()
     client.main.asks(service.main)
     begin = s.sequence
     for code in 1, 2, 3:
@@ -81,10 +78,9 @@ def refused_in_a_row(s, log, overrun=False, each=3):
 @case("E3:1 E5:2", "code 1 to service 100 node 0x0 (a bad object (", "code 2 to service 100 node 0x0 (a bad object (")
 @case("E3:1 E5:2", "code 1 to service 100 node 0x0 (a bad object (", "code 2 to service 100 node 0x0 (a bad object (",
       dead_first=True)
-def refused_in_two_ways(s, dead_first=False):
+def refused_in_two_ways(s, service, client, dead_first=False):
     """Two calls of a thread to one handle are refused, and one, before or after them, gets no answer as the service has
     ended; the log has all three."""
-    service, client = s.two()
     client.main.asks(service.main)
     begin = s.sequence
     ways = [(1, BR_FAILED_REPLY, BAD, FAILED), (2, BR_FAILED_REPLY, BAD, FAILED)]
@@ -99,8 +95,7 @@ ALL_THREE = ("code 1 to service 100 node 0x0 (no space (-28 ENOSPC)", "code 2 to
              "code 3 to service 100 node 0x0 (a bad object (")
 
 
-@case("E5:3", *ALL_THREE, more=(DENIED,))
-@case("E5:3", *ALL_THREE, more=(DENIED, BAD, NO_SPACE, DENIED))
+@case("E5:3", *ALL_THREE, more=each_of((DENIED,), (DENIED, BAD, NO_SPACE, DENIED)))
 @case("E5:3", *ALL_THREE, more=(DENIED, BAD), at_once=True)
 @case("E5:3", "code 1 to service 100 node 0x0 (denied, by ", "code 2 to service 100 node 0x0 (a bad object (",
       "code 3 to service 100 node 0x0 (no space (-28 ENOSPC)", more=(NO_SPACE,), at_once=True, sizes=(0, 0, 0))
@@ -113,12 +108,11 @@ ALL_THREE = ("code 1 to service 100 node 0x0 (no space (-28 ENOSPC)", "code 2 to
 @case("E5:3", *ALL_THREE, more=(DENIED,) * 32)
 @case("E5:3", "code 1 to service 100 node 0x0 (why is not known, as no entry of the driver's log fits)",
       "code 2 to service 100 node 0x0 (why is not known, as no", more=(DENIED,) * 33)
-def refused_after_the_last_frame(s, more, at_once=False, sizes=(40, 80, 120), of="client", handle=0, what="call",
-                                 answer=FAILED, works=1, ends=True):
+def refused_after_the_last_frame(s, service, client, more, at_once=False, sizes=(40, 80, 120), of="client", handle=0,
+                                 what="call", answer=FAILED, works=1, ends=True):
     """The driver refuses three calls of a thread, and more when the recording has ended: of the same thread or another
     one. Looks find the calls one by one or all at once, and the last look also what came later, with what another
     process did before the end, or nothing. Not `ends`: that was no last look."""
-    service, client = s.two()
     client.main.asks(service.main)
     second, entries = client.thread(1), []
     begin = since = s.sequence
@@ -137,14 +131,12 @@ def refused_after_the_last_frame(s, more, at_once=False, sizes=(40, 80, 120), of
         s.process(301, "other").main.asks(service.main, 9)
 
 
-@case("E5:6", *ALL_THREE, "code 4 to service 100 node 0x0 (an error (-12 ENOMEM))", other="thread")
-@case("E5:6", *ALL_THREE, "code 4 to service 100 node 0x0 (an error (-12 ENOMEM))", other="kind")
+@case("E5:6", *ALL_THREE, "code 4 to service 100 node 0x0 (an error (-12 ENOMEM))", other=each_of("thread", "kind"))
 @case("E5:6", *ALL_THREE, "code 4 to handle 3 (an error (-12 ENOMEM))", other="handle")
 @case("E5:3 E2:2 E3:1", *ALL_THREE, other="answer")
-def refused_by_turns(s, other):
+def refused_by_turns(s, service, client, other):
     """The driver refuses calls of a thread, by turns with others, which go wrong alike, and twice after the recording
     has ended. A look finds all of it."""
-    service, client = s.two()
     client.main.asks(service.main)
     begin, entries = s.sequence, []
     thread = client.thread(1) if other == "thread" else client.main
@@ -162,18 +154,16 @@ def refused_by_turns(s, other):
 
 @case("E4:1", "code 1 to service 100 node 0x0 ()", kind=BR_FROZEN_REPLY, answer=FROZEN)
 @case("E3:1", "code 1 to service 100 node 0x0 ()", kind=BR_DEAD_REPLY, answer=DEAD)
-def refused_by_another_answer(s, kind, answer):
+def refused_by_another_answer(s, service, client, kind, answer):
     """The answer says it all."""
-    service, client = s.two()
     client.main.asks(service.main)
     refused(client.main, kind=kind)
     logs(s, client.main, 0, answer=answer)
 
 
 @case("S1:1", "(the send at 648; no space (-28 ENOSPC))")
-def refused_of_two_by_the_log(s):
+def refused_of_two_by_the_log(s, service, client):
     """Of two oneway sends in one write the driver refuses the second."""
-    service, client = s.two()
     client.main.asks(service.main)
     sent = Sent(None, 7, ONE_WAY, b"", b"").record(BC_TRANSACTION)
     client.main.writes(sent, sent)
@@ -185,10 +175,9 @@ def refused_of_two_by_the_log(s):
 @case("E6:1 U6:1", "(the reply at 780: no space (-28 ENOSPC))", errno=NO_SPACE)
 @case("E6:1 U6:1", "(the reply at 780: denied, by SELinux", errno=DENIED)
 @case("E6:1 U6:1", "code 1 to service 100 node 0x0 ()", errno=None)
-def reply_refused_by_the_log(s, errno):
+def reply_refused_by_the_log(s, service, client, errno):
     """A reply finds no space at the caller, or may not go there: the log has the reply, and the caller gets an
     error."""
-    service, client = s.two()
     client.main.asks(service.main)
     service.main.gets(client.main.sends(0, 1))
     service.main.replies(None, bytes(4000))
@@ -198,13 +187,11 @@ def reply_refused_by_the_log(s, errno):
 
 
 @case("A1:1 E3:1 E6:1 U6:1")
-def refused_reply_is_lost(s):
+def refused_reply_is_lost(s, service, client):
     """A reply is refused, and the frame with the reply is lost: the report has the served call as open. The server did
     not end, but another one did, in a call of another client."""
-    service, client = s.two()
     other, short = s.process(400, "other"), s.process(300, "short-lived")
-    short.main.gives(service.main, 3)
-    other.main.is_given(service.main, 1, server_handle=3)
+    other.main.is_passed(short.main, service.main, 1, 3)
     client.main.asks(service.main)
     service.main.gets(client.main.sends(0, 1))
     service.main.replies(None, bytes(4000))
@@ -220,9 +207,8 @@ def refused_reply_is_lost(s):
 @case("E5:1 A1:2 U6:4", "no space (-28 ENOSPC): 2 oneway sends with 2,000 bytes waited or were held at service 100: 2"
       " sends from client 200; most by code 7, the largest has 1,000 bytes)", oneway=True)
 @case("E5:1 A1:2 U6:4", "; most by replies to code 9, the largest has 5,000 bytes)", size=5000)
-def space_filled_by_several(s, oneway=False, size=100):
+def space_filled_by_several(s, service, client, oneway=False, size=100):
     """A call finds no space: calls, oneway sends and replies are there."""
-    service, client = s.two()
     other = s.process(300, "other")
     client.main.asks(service.main)
     client.main.gives(service.main, 3)

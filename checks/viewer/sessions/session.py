@@ -46,13 +46,21 @@ class Thread:
     def reads(self, *records, attached=None):
         self.does(2, records, attached)
 
+    def goes_on(self, times):
+        """It does something so many times."""
+        for _ in range(times):
+            self.writes(ENTER)
+
     # -- transactions
 
-    def sends(self, handle, code, flags=ACCEPT_FDS, body=b"", listed=b"", seen=True):
+    def sends(self, handle, code, flags=ACCEPT_FDS, body=b"", listed=b"", seen=True, told=None):
+        """Sends a transaction, and may be told at once that it failed: by this code word."""
         sent = Sent(self, code, flags, body, listed)
         self.writes(sent.record(BC_TRANSACTION, handle), attached=(0, body, listed) if seen else None)
         if flags & ONE_WAY:
             self.reads(DONE)
+        if told:
+            self.reads(record(told))
         return sent
 
     def gets(self, sent, ptr=0, body=None, listed=None, seen=True, cookie=0):
@@ -86,11 +94,15 @@ class Thread:
     def frees(self, *addresses):
         self.writes(*each_long(BC_FREE_BUFFER, *addresses))
 
-    def asks(self, server, code=1, handle=0, ptr=0, took=0, free=True, flags=0, body=b""):
-        """A whole call: it is served, answered and freed. Returns the address of the answer."""
-        address = server.gets(self.sends(handle, code, body=body), ptr)
-        self.session.wait(took)
-        return self.answered(server.replies(address, b"1234" if flags & STATUS_CODE else b"", flags=flags), free=free)
+    def asks(self, server, code=1, handle=0, ptr=0, took=0, free=True, flags=0, body=b"", times=1):
+        """A whole call, so many times: it is served, answered and freed. Returns the address of the last answer."""
+        got = None
+        for _ in range(times):
+            address = server.gets(self.sends(handle, code, body=body), ptr)
+            self.session.wait(took)
+            reply = server.replies(address, b"1234" if flags & STATUS_CODE else b"", flags=flags)
+            got = self.answered(reply, free=free)
+        return got
 
     # -- handles
 
@@ -105,6 +117,11 @@ class Thread:
         if take:
             self.writes(*each(BC_INCREFS if weakly else BC_ACQUIRE, handle))
         self.frees(got)
+
+    def is_passed(self, owner, manager, handle, theirs, node=None):
+        """Gets this handle of an object that its owner hands over to the manager, which has it by `theirs`."""
+        owner.gives(manager, theirs, node=node)
+        self.is_given(manager, handle, server_handle=theirs)
 
     def gives(self, server, handle, code=4, node=None, before=b"", after=b"", flags=0):
         """Hands an object of its own over to the server, which takes it by this handle. Before and after the object
@@ -175,8 +192,10 @@ class Session:
         """From now on writes have this stack; None: they have none."""
         self.stack = stack
 
-    def loses(self, process=None):
-        """A frame is lost; the side list says whose it was, if a process is given."""
+    def loses(self, process=None, indeed=True):
+        """A frame is lost, if it is one indeed; the side list says whose it was, if a process is given."""
+        if not indeed:
+            return
         self.sequence += 1
         whose = f" device=0 process={process.number} thread={process.number}" if process else ""
         self.tell(f"lost {self.sequence}{whose} why=ring-full")
@@ -201,8 +220,12 @@ class Session:
         self.copies[f"{moment}.state"] = text
         self.tell(f"books {moment} state from={self.sequence} after={self.sequence} bytes={len(text)}")
 
-    def process(self, number, name, met="from-start"):
-        return Process(self, number, name, met)
+    def process(self, number, name, met="from-start", enters=False):
+        """A new process; `enters`: its main thread says that it takes calls."""
+        made = Process(self, number, name, met)
+        if enters:
+            made.main.writes(ENTER)
+        return made
 
     def two(self, met="from-start", enters=True):
         """A service, which is the context manager and has said that its only thread takes calls, and a client."""

@@ -1,7 +1,7 @@
 """More sessions as in cases.py: what is slow, and who asks for the same again and again."""
 
 from checks.kit.tokens import marked
-from checks.viewer.sessions.cases import case
+from checks.viewer.sessions.cases import case, each_of
 from checks.viewer.sessions.session import ONE_WAY, Sent
 
 LISTENER, PACKAGES = marked("example.IListener"), marked("example.IPackages")
@@ -23,10 +23,9 @@ LISTENER, PACKAGES = marked("example.IListener"), marked("example.IPackages")
 @case("V1:1", "151 ms waiting for a thread of service 100, 121 ms at work in service 100", took=120, queue=150)
 @case("V1:1", "(153 ms: 151 ms at work in service 100, 2 ms on the way back from service 100)", took=150, queue=-1)
 @case("V1:1", "on the way back from service 100, 1 ns waiting for a thread of", took=150, queue=-0.999999)
-def app_waits(s, took, is_app=True, is_main=True, then=0, code=1, queue=0, by_others=False):
+def app_waits(s, service, client, took, is_app=True, is_main=True, then=0, code=1, queue=0, by_others=False):
     """The main thread of an app, or another thread, calls a service that takes long, and then maybe again: or another
     thread does so."""
-    service, client = s.two()
     if is_app:
         client.is_called("com.example.app")
     thread = client.main if is_main else client.thread(1)
@@ -43,16 +42,14 @@ def app_waits(s, took, is_app=True, is_main=True, then=0, code=1, queue=0, by_ot
       " 100, 2 ms on the way back from power 300)", "V1 by power 300: 1")
 @case("V1:1", "(142 ms: 123 ms at work in power 300, 10 ms at work in service 100, 4 ms on the way back from power",
       "V1 by power 300: 1", times=2)
-def app_waits_for_another(s, times=1):
+def app_waits_for_another(s, service, client, times=1):
     """The service itself waits for another one, once or twice."""
-    service, client = s.two()
     power = s.process(300, "power")
     power.main.gives(service.main, 5, node=0x9500)
     client.is_called("com.example.app")
     address = service.main.gets(client.main.sends(0, 1))
     s.wait(5)
-    for _ in range(times):
-        service.main.asks(power.main, 2, 5, 0x9500, took=121 / times)
+    service.main.asks(power.main, 2, 5, 0x9500, took=121 / times, times=times)
     client.main.answered(service.main.replies(address))
 
 
@@ -63,9 +60,8 @@ def app_waits_for_another(s, times=1):
       "code 1 to two 301 node 0x9000 (184 ms: 181 ms at work in two 301, 2 ms on the way back",
       "V1 of com.example.app 201, slow main thread: frame 63 at 5352, thread 201",
       "V1 by one 300: 2", "V1 by two 301: 2")
-def apps_wait(s):
+def apps_wait(s, manager, client):
     """Two apps each wait for two services, which have an object at the same address."""
-    manager, client = s.two()
     manager.looper(1)
     other = s.process(201, "other")
     services = [s.process(300 + at, name) for at, name in enumerate(("one", "two"))]
@@ -82,9 +78,8 @@ def apps_wait(s):
 
 
 @case("V1:2", "node 0x9500 (154 ms: 151 ms at work", "node 0x9600 (174 ms: 171 ms at work")
-def app_waits_at_two_objects(s):
+def app_waits_at_two_objects(s, service, client):
     """An app waits for two objects of a service, one after another."""
-    service, client = s.two()
     client.is_called("com.example.app")
     for handle, took in (5, 150), (6, 170):
         client.main.is_given(service.main, handle, node=0x9000 + 0x100 * handle)
@@ -109,10 +104,9 @@ def app_tells_and_asks(s):
 @case("A1:1 C4:1 V1:1", "ms not known, at service 100", "V1 by com.example.app 200: 1")
 @case("V1:1", "ms not known, at a server that is not known", "V1 by com.example.app 200: 1", seen=False)
 @case("", seen=False, handle=9)
-def app_waits_for_the_unknown(s, seen=True, handle=0):
+def app_waits_for_the_unknown(s, service, client, seen=True, handle=0):
     """The frame with the reply of the service is lost, or all that the service did. Or it is a call by a handle that
     was there before the recording, and nothing says whose it is."""
-    service, client = s.two()
     client.is_called("com.example.app")
     client.main.asks(service.main)
     sent = client.main.sends(handle, 1)
@@ -158,12 +152,11 @@ def app_waits_for_the_unknown(s, seen=True, handle=0):
 @case("", usual=12, oneway=11)
 @case("V2:1", calls=3, slow_ones=2, oneway=11)
 @case("", calls=3, slow_ones=1, oneway=11)
-def listeners(s, slow=120, count=11, usual=0, calls=1, slow_ones=1, differ=False, processes=100, oneway=0, quick=0,
-              often=None, unfreed=0, late=1):
+def listeners(s, service, slow=120, count=11, usual=0, calls=1, slow_ones=1, differ=False, processes=100, oneway=0,
+              quick=0, often=None, unfreed=0, late=1):
     """A service tells listeners, of which the last one or two are slow, or slow now and then, and else take longer than
     usual. Each is of a process of its own, or some processes have several; and they may be of two interfaces. The last
     of them are told by oneway sends; the first of them are quick, or do not return."""
-    service, _ = s.two()
     threads = [s.process(300 + at, "listener").main for at in range(min(count, processes))]
     threads += threads[:count - len(threads)]
     for at, thread in enumerate(threads):
@@ -193,33 +186,23 @@ def tell(s, teller, thread, target, code, is_oneway, took, body):
     thread.frees(address)
 
 
-@case("", differ="teller", counts=(6, 5), usual=(1, 0), slow=(120, 0))
-@case("", differ="code", counts=(6, 5), usual=(1, 0), slow=(120, 0))
-@case("", differ="kind", counts=(6, 5), usual=(1, 0), slow=(120, 0))
-@case("", differ="interface", counts=(6, 5), usual=(1, 0), slow=(120, 0))
-@case("", differ="teller", counts=(10, 10), usual=(0, 50), slow=(0, 120))
-@case("", differ="code", counts=(10, 10), usual=(0, 50), slow=(0, 120))
-@case("", differ="kind", counts=(10, 10), usual=(0, 50), slow=(0, 120))
-@case("", differ="interface", counts=(10, 10), usual=(0, 50), slow=(0, 120))
+@case("", differ=each_of("teller", "code", "kind", "interface"), counts=(6, 5), usual=(1, 0), slow=(120, 0))
+@case("", differ=each_of("teller", "code", "kind", "interface"), counts=(10, 10), usual=(0, 50), slow=(0, 120))
 @case("V2:2", "V2 of listener 309, slow listener: ", "thread 309", differ="teller", counts=(10, 10), slow=(120, 150),
       same=True)
 @case("V2:2", differ="code", counts=(10, 10), slow=(120, 150), same=True)
-@case("V2:2", differ="teller", counts=(10, 10), slow=(120, 150), same=True, times=3)
-@case("V2:2", differ="code", counts=(10, 10), slow=(120, 150), same=True, times=3)
+@case("V2:2", differ=each_of("teller", "code"), counts=(10, 10), slow=(120, 150), same=True, times=3)
 @case("V2:2", differ="interface", counts=(10, 10), slow=(120, 150), times=3)
 @case("V2:1", differ="code", counts=(10, 10), usual=(0, 50), slow=(120, 0), same=True, oneway=True)
 @case("V2:1", differ="interface", counts=(10, 10), usual=(0, 50), slow=(120, 0), same=True)
 @case("V2:2", "oneway IListener code 3 at", differ="kind", counts=(10, 10), slow=(120, 150), same=True)
 @case("V2:2", differ="interface", counts=(10, 10), slow=(120, 150))
-@case("V2:1", "it takes 124 ms", differ="teller", counts=(10, 1), slow=(120, 0), same=True, times=3)
-@case("V2:1", "it takes 124 ms", differ="teller", counts=(10, 10), slow=(120, 0), same=True, times=3)
-@case("V2:1", "it takes 124 ms", differ="code", counts=(10, 1), slow=(120, 0), same=True, times=3)
-@case("V2:1", "it takes 124 ms", differ="kind", counts=(10, 1), slow=(120, 0), same=True, times=3)
-def two_groups_of_listeners(s, differ, counts, slow, usual=(0, 0), same=False, times=1, oneway=False):
+@case("V2:1", "it takes 124 ms", differ="teller", counts=each_of((10, 1), (10, 10)), slow=(120, 0), same=True, times=3)
+@case("V2:1", "it takes 124 ms", differ=each_of("code", "kind"), counts=(10, 1), slow=(120, 0), same=True, times=3)
+def two_groups_of_listeners(s, service, differ, counts, slow, usual=(0, 0), same=False, times=1, oneway=False):
     """A service tells listeners, and then others that differ: in who tells them, in the code, in the kind, which is
     oneway then, or in the interface. The last of both may be slow. `same`: the others are the last of these processes,
     and their objects too, but for another interface; they are told so often. `oneway`: so are all."""
-    service, _ = s.two()
     tellers = service.main, s.process(150, "teller").main
     service.looper(1)
     first = [s.process(300 + at, "listener").main for at in range(counts[0])]
@@ -248,8 +231,7 @@ def two_groups_of_listeners(s, differ, counts, slow, usual=(0, 0), same=False, t
       "defect: the same request over and over | client on binder |")
 @case("", count=19)
 @case("", every=45)
-@case("", other=7)
-@case("", other=0)
+@case("", other=each_of(7, 0))
 @case("", pause=70)
 @case("V3:1", pause=50)
 @case("", has_data=False)
@@ -257,12 +239,11 @@ def two_groups_of_listeners(s, differ, counts, slow, usual=(0, 0), same=False, t
 @case("", opens=True)
 @case("V3:1", "(20 times with the same data", among=True)
 @case("", oneway=True)
-def asks_again(s, count=20, every=60, other=None, pause=0, has_data=True, seen=True, opens=False, among=False,
-               oneway=False):
+def asks_again(s, service, client, count=20, every=60, other=None, pause=0, has_data=True, seen=True, opens=False,
+               among=False, oneway=False):
     """A client asks for the same, as many milliseconds apart; one call may have other data of the same size, or come
     later. Or it opens something each time, or asks for longer data now and then among the others; or these are oneway
     sends. Another client asks so once, and both do something else."""
-    service, client = s.two()
     service.looper(1)
     once = s.process(300, "once")
     once.main.gives(service.main, 5)

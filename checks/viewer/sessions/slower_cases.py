@@ -1,7 +1,6 @@
 """More sessions as in cases.py: methods that get slow."""
 
-from checks.kit.captures import ENTER
-from checks.viewer.sessions.cases import case
+from checks.viewer.sessions.cases import case, each_of
 
 # Calls, one after the other: quick ones, slow ones, and those between.
 QUICK, SLOW, MIDDLE = ".", "S", "m"
@@ -19,35 +18,27 @@ QUICK, SLOW, MIDDLE = ".", "S", "m"
 @case("", usual=60)
 @case("V5:1", usual=58)
 @case("V5:1", "since then 4 calls took", calls=11 * QUICK + "S.SSS")
-@case("", calls=12 * QUICK + "S.SS")
-@case("", calls=SLOW + 12 * QUICK + 3 * SLOW)
-@case("", calls=MIDDLE + 12 * QUICK + 3 * SLOW)
+@case("", calls=each_of(12 * QUICK + "S.SS", SLOW + 12 * QUICK + 3 * SLOW, MIDDLE + 12 * QUICK + 3 * SLOW))
 @case("V5:1", "since then 3 calls took 601 ms or more", longer=50)
 @case("V5:1", "since then 12 calls took", calls=4 * QUICK + 12 * SLOW)
 @case("", lost=True)
-def gets_slow(s, calls=9 * QUICK + 3 * SLOW, took=600, longer=0, usual=1, lost=False):
+def gets_slow(s, service, client, calls=9 * QUICK + 3 * SLOW, took=600, longer=0, usual=1, lost=False):
     """A client calls a method of a service, of which each call takes as usual or long, or so much longer than the one
     before."""
-    service, client = s.two()
-    if lost:
-        s.loses(service)
+    s.loses(service, lost)
     times = {QUICK: usual, SLOW: took, MIDDLE: 90}
     for at, one in enumerate(calls):
         client.main.asks(service.main, 7, took=times[one] + longer * calls[:at].count(SLOW))
 
 
-@case("V5:1", "code 7 at service 100 node 0x100", differ="code")
-@case("V5:1", "code 7 at service 100 node 0x100", differ="object")
-@case("V5:1", "code 7 at service 100 node 0x100", differ="process")
+@case("V5:1", "code 7 at service 100 node 0x100", differ=each_of("code", "object", "process"))
 @case("V5:2", "code 7 at service 100", "code 8 at service 100 node 0x100 (since then 3 calls", differ="code", both=True)
 @case("V5:2", "node 0x100 (since", "code 7 at service 100 node 0x200 (since then 3 calls", differ="object", both=True)
 @case("V5:2", "V5 by service 100: 1", "V5 by third 300: 1", "(since then 3 calls", differ="process", both=True)
-def one_of_two_gets_slow(s, differ, both=False):
+def one_of_two_gets_slow(s, service, client, differ, both=False):
     """A method of an object gets slow, and another method of it, that of another object, or of an object of another
     process at the same address, is called by turns with it and stays quick, but once; or gets slow too."""
-    service, client = s.two()
-    third = s.process(300, "third")
-    third.main.writes(ENTER)
+    third = s.process(300, "third", enters=True)
     third.main.gives(service.main, 9, node=0x100)
     client.main.is_given(service.main, 1)
     client.main.is_given(service.main, 2)
@@ -62,14 +53,12 @@ def one_of_two_gets_slow(s, differ, both=False):
 @case("V5:1", "V5 by third 300: 1", "V5 of third 300, slow slower: frame 134 at 11184, thread 300")
 @case("V5:2", "V5 by third 300: 1", "V5 by another 400: 1", beside=True)
 @case("V5:1", "V5 by service 100: 1", itself=True)
-def waits_for_what_gets_slow(s, beside=False, itself=False):
+def waits_for_what_gets_slow(s, service, client, beside=False, itself=False):
     """A method of a service calls a third process, of which the method gets slow; beside that another one does. Or the
     service takes longer itself."""
-    service, client = s.two()
     third, another = s.process(300, "third"), s.process(400, "another")
     third.main.gives(service.main, 8)
-    another.main.gives(service.main, 9)
-    client.main.is_given(service.main, 1, server_handle=9)
+    client.main.is_passed(another.main, service.main, 1, 9)
     for one in 9 * QUICK + 3 * SLOW:
         took = 600 if one == SLOW else 0
         address = service.main.gets(client.main.sends(0, 7))

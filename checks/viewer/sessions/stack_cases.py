@@ -10,9 +10,8 @@ from checks.viewer.sessions.session import ONE_WAY, Sent, node_object
 
 
 @case("U4:1", "finding_stack 1: 3, the call that it answers", "finding_stack 2: -")
-def reply_kept(s):
+def reply_kept(s, service, client):
     """The reply to a call is never freed; what its thread writes after that has another stack."""
-    service, client = s.two()
     s.with_stack(3)
     sent = client.main.sends(0, 7)
     s.with_stack(4)
@@ -22,9 +21,8 @@ def reply_kept(s):
 
 
 @case("U4:1", "finding_stack 1: 6, the reply to it", "finding_stack 2: 5, the send of it")
-def transaction_kept(s):
+def transaction_kept(s, service, client):
     """A service never frees a transaction: its own reply tells of that, and then the send."""
-    service, client = s.two()
     s.with_stack(5)
     sent = client.main.sends(0, 7)
     s.with_stack(6)
@@ -36,9 +34,8 @@ def transaction_kept(s):
 
 
 @case("U4:1", "finding_stack 1: 5, the send of it", "finding_stack 2: -", flags=ONE_WAY)
-def oneway_kept(s, flags):
+def oneway_kept(s, service, client, flags):
     """A oneway transaction has no reply."""
-    service, client = s.two()
     s.with_stack(5)
     sent = client.main.sends(0, 7, flags)
     s.with_stack(None)
@@ -49,9 +46,8 @@ def oneway_kept(s, flags):
 
 @case("H4:1", "finding_stack 1: 7, the call whose reply gave the handle",
       "finding_stack 2: 8, the call that wrote it, which may be a later one")
-def handle_of_reply(s):
+def handle_of_reply(s, service, client):
     """A handle that a reply gave is taken twice. The first to be taken is in the row."""
-    service, client = s.two()
     s.with_stack(7)
     theirs, ours, listed = node_object(0x100), of_handle(2, 1), offsets(0)
     sent = client.main.sends(0, 5)
@@ -69,9 +65,8 @@ def handle_of_reply(s):
       "finding_stack 2: 7, the send that gave the handle")
 @case("H4:1", "finding_stack 1: 7, the send that gave the handle",
       "finding_stack 2: 8, the call that wrote it, which may be a later one", with_reply=True)
-def handle_of_send(s, with_reply=False):
+def handle_of_send(s, service, client, with_reply=False):
     """A client hands an object over to a service, which takes it twice, as it serves or with the reply."""
-    service, client = s.two()
     body, listed = node_object(0x9100), offsets(0)
     s.with_stack(7)
     sent = client.main.sends(0, 4, body=body, listed=listed)
@@ -85,8 +80,7 @@ def handle_of_send(s, with_reply=False):
 
 
 @case("C4:1 A1:2", "finding_stack 1: 2, its own call", "finding_stack 2: -")
-def call_never_answered(s):
-    service, client = s.two()
+def call_never_answered(s, service, client):
     s.with_stack(2)
     sent = client.main.sends(0, 1)
     s.with_stack(None)
@@ -95,8 +89,7 @@ def call_never_answered(s):
 
 
 @case("F1:1", "finding_stack 1: 3, the call that wrote it, which may be a later one")
-def freed_with_a_stack(s):
-    service, client = s.two()
+def freed_with_a_stack(s, service, client):
     address = client.main.asks(service.main)
     s.with_stack(3)
     client.main.frees(address)
@@ -104,9 +97,8 @@ def freed_with_a_stack(s):
 
 @case("E5:1 S2:1", "finding_stack 1: 4, the send that was refused", "finding_stack 1: 4, its own call",
       "finding_stack 2: -")
-def reply_refused(s):
+def reply_refused(s, service, client):
     """The driver refuses a reply to nothing: the error and the reply each have the stack."""
-    service, client = s.two()
     client.main.asks(service.main)
     s.with_stack(4)
     service.main.writes(Sent(None, 0, 0, b"", b"").record(BC_REPLY))
@@ -114,9 +106,8 @@ def reply_refused(s):
 
 
 @case("U4:1", "finding_stack 1: 3, the request for it", "finding_stack 2: -")
-def death_unanswered(s):
+def death_unanswered(s, service, client):
     """A death is not acknowledged: the request for it tells, and not a later one with another cookie."""
-    service, client = s.two()
     client.main.is_given(service.main, 1)
     client.main.is_given(service.main, 2)
     s.with_stack(3)
@@ -132,9 +123,8 @@ def death_unanswered(s):
 
 
 @case("U4:1", "finding_stack 1: 3, the first send that handed it over", "finding_stack 2: -")
-def node_unanswered(s):
+def node_unanswered(s, service, client):
     """A process does not acknowledge a reference to an object that it handed over twice."""
-    service, client = s.two()
     client.main.asks(service.main)
     for stack, code in (3, 4), (5, 6):
         s.with_stack(stack)
@@ -148,9 +138,8 @@ def node_unanswered(s):
 
 
 @case("O2:1", "finding_stack 1: 4, the reply to it", "finding_stack 2: -")
-def bad_object_read(s):
+def bad_object_read(s, service, client):
     """What is read is not what was sent, so no send is known of it."""
-    service, client = s.two()
     body, listed = bytes(32), offsets(2)
     s.with_stack(3)
     sent = client.main.sends(0, 1, body=body)

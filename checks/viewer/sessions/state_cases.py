@@ -4,7 +4,7 @@ from checks.kit.captures import (BC_ACQUIRE, BC_ACQUIRE_DONE, BC_CLEAR_DEATH_NOT
                                  BC_DECREFS, BC_EXIT_LOOPER, BC_INCREFS, BC_RELEASE, BC_REQUEST_DEATH_NOTIFICATION,
                                  BR_ACQUIRE, BR_CLEAR_DEATH_NOTIFICATION_DONE, BR_DEAD_BINDER, BR_FAILED_REPLY,
                                  BR_RELEASE, ENTER, each, each_long, node, of_handle, offsets, record, watch)
-from checks.viewer.sessions.cases import case
+from checks.viewer.sessions.cases import case, each_of
 from checks.viewer.sessions.session import DONE, ONE_WAY, UPDATE_TXN, Sent
 
 
@@ -15,14 +15,12 @@ from checks.viewer.sessions.session import DONE, ONE_WAY, UPDATE_TXN, Sent
 @case("P1:1", met="in-mid-life")
 @case("M1:1", "defect: references held | client", met="from-start", lost=True)
 @case("P1:1", met="from-start", unseen=True)
-def handle_from_nowhere(s, met, lost=False, unseen=False):
+def handle_from_nowhere(s, service, client, lost=False, unseen=False):
     """A process takes a handle that nobody gave it; or it got a delivery with objects that the recorder left out."""
-    service, client = s.two(met)
     address = service.main.gets(client.main.sends(0, 5))
     body, listed = (of_handle(2, 7), offsets(0)) if unseen else (b"data", b"")
     client.main.answered(service.main.replies(address, body if not unseen else b"", b""), body, listed, seen=not unseen)
-    if lost:
-        s.loses(client)
+    s.loses(client, lost)
     client.main.writes(*each(BC_ACQUIRE, 7))
 
 
@@ -46,13 +44,11 @@ def handle_of_an_unseen_object(s):
       weakly=True)
 @case("P1:1", met="in-mid-life")
 @case("M1:1", lost=True)
-def let_go_too_often(s, again=1, well=0, weakly=False, met="from-start", lost=False):
+def let_go_too_often(s, service, client, again=1, well=0, weakly=False, lost=False):
     """One handle after another of the same number is taken, and let go of twice; then others once."""
-    service, client = s.two(met)
     for at in range(again + well):
         client.main.is_given(service.main, 1, node=0x100 * (at + 1), weakly=weakly)
-        if lost:
-            s.loses(client)
+        s.loses(client, lost)
         client.main.writes(*each(BC_DECREFS if weakly else BC_RELEASE, *[1] * (2 if at < again else 1)))
 
 
@@ -81,8 +77,7 @@ def told_dead(s, count, wait, clients=1, ends=None):
 
 
 @case("H3:1", "; given by replies to code 41 of service 100 node 0x0: 1 of 1 that came so)", count=1, wait=1100)
-@case("", count=1, wait=900)
-@case("", count=2, wait=900)
+@case("", count=each_of(1, 2), wait=900)
 @case("", count=2, wait=900, clients=2)
 @case("H3:3", count=3, wait=200)
 @case("H3:3", count=3, wait=200, has_side=False)
@@ -93,14 +88,12 @@ def proxies_of_the_dead(s, count, wait, clients=1, ends=None):
 
 
 @case("H3:1", "(told at 1464; ")
-def proxy_told_dead_twice(s):
+def proxy_told_dead_twice(s, service, client):
     """A process asks twice for the death of an object, and is told so first long, and then shortly before the end. The
     service has two threads."""
-    service, client = s.two()
     service.looper(1)
     other = s.process(300, "short-lived")
-    other.main.gives(service.main, 21)
-    client.main.is_given(service.main, 1, server_handle=21)
+    client.main.is_passed(other.main, service.main, 1, 21)
     for cookie in 0xD, 0xE:
         client.main.writes(watch(BC_REQUEST_DEATH_NOTIFICATION, 1, cookie))
     other.ends()
@@ -111,8 +104,7 @@ def proxy_told_dead_twice(s):
     service.main.writes(*each(BC_RELEASE, 21))
 
 
-@case("H4:1", takes=2, releases=0, threads=1)
-@case("H4:1", takes=2, releases=1, threads=1)
+@case("H4:1", takes=2, releases=each_of(0, 1), threads=1)
 @case("", takes=2, releases=2, threads=1)
 @case("", takes=1, releases=0, threads=1)
 @case("", takes=2, releases=0, threads=2)
@@ -125,9 +117,8 @@ def proxy_told_dead_twice(s):
 @case("C5:2", takes=4, releases=0, threads=2, calls=2)
 @case("C5:1 H4:1", takes=2, releases=0, threads=1, calls=1)
 @case("C5:1", takes=3, releases=0, threads=2, calls=1, weak=True)
-def taken_again(s, takes, releases, threads, weak=False, calls=0):
+def taken_again(s, service, client, takes, releases, threads, weak=False, calls=0):
     """A handle is taken several times, by one thread or by two in turns. `calls`: so many of them are in a call."""
-    service, client = s.two()
     client.main.is_given(service.main, 1, take=False)
     both = [client.main, client.thread(1)][:threads]
     take, release = (BC_INCREFS, BC_DECREFS) if weak else (BC_ACQUIRE, BC_RELEASE)
@@ -141,10 +132,9 @@ def taken_again(s, takes, releases, threads, weak=False, calls=0):
 
 
 @case("H4:2")
-def taken_again_beside(s):
+def taken_again_beside(s, service, client):
     """A thread takes each of two handles twice, and one that it holds weakly once at a time. Another thread calls by
     the first one and takes a fourth, and another process takes a handle of the same number."""
-    service, client = s.two()
     for handle in 1, 2, 3, 4:
         client.main.is_given(service.main, handle, take=False)
     client.main.writes(*each(BC_ACQUIRE, 1, 1, 2, 2), *each(BC_INCREFS, 3), *each(BC_ACQUIRE, 3), *each(BC_RELEASE, 3),
@@ -159,37 +149,31 @@ def taken_again_beside(s):
 @case("H11:1", "16 times, and let go of 0 times; 5 held at half of its time, 16 at the end)", gains=(4, 1, 6, 5))
 @case("H11:1", "2 held at half of its time, 12 at the end)", gains=(1, 1, 5, 5))
 @case("H4:1", "11 times, and let go of 0 times)", gains=(1, 1, 5, 4))
-@case("H4:1", gains=(1, 1, 11, 0))
-@case("H4:1", gains=(1, 1, 0, 11))
-@case("H4:1", gains=(60, 41, 5, 5))
+@case("H4:1", gains=each_of((1, 1, 11, 0), (1, 1, 0, 11), (60, 41, 5, 5)))
 @case("H11:1", "23 times, and let go of 11 times; 2 held", gains=(1, 1, 16, 5), drops=(0, 0, 11, 0))
 @case("H11:1", "12 times, weakly, and let go of 0 times; 2 held", gains=(1, 1, 5, 5), weak=True)
 @case("H4:1", gains=(1, 1, 5, 5), lost=True)
 @case("H11:1", "2 held at half of its time, 12 at the end)", gains=(1, 1, 5, 5), has_side=False)
 @case("H11:1", "2 held at half of its time, 12 at the end)", gains=(1, 1, 5, 5), rests=1900)
 @case("H4:1", gains=(1, 1, 5, 5), rests=2100)
-def more_references(s, gains, drops=(0, 0, 0, 0), weak=False, lost=False, rests=0):
+def more_references(s, service, client, gains, drops=(0, 0, 0, 0), weak=False, lost=False, rests=0):
     """References to one object are taken and let go of, so many in each quarter of what is recorded of a client. At the
     end it may rest."""
-    service, client = s.two()
     client.main.is_given(service.main, 1, take=False)
     take, release = (BC_INCREFS, BC_DECREFS) if weak else (BC_ACQUIRE, BC_RELEASE)
-    if lost:
-        s.loses(client)
+    s.loses(client, lost)
     for gained, dropped in zip(gains, drops):
         client.main.writes(*each(take, *[1] * gained))
         client.main.writes(*each(release, *[1] * dropped))
-        for _ in range(0 if s.has_side else 20):
-            client.main.asks(service.main)
+        client.main.asks(service.main, times=0 if s.has_side else 20)
         s.wait(1000)
     s.wait(rests)
 
 
 @case("", first=2, then=1)
 @case("", first=2, then=1, weak=True)
-def taken_again_before(s, first, then, weak=False):
+def taken_again_before(s, service, client, first, then, weak=False):
     """An earlier generation of a handle was taken twice; this one is taken once at a time, and held in another way."""
-    service, client = s.two()
     take, release, other = (BC_INCREFS, BC_DECREFS, BC_ACQUIRE) if weak else (BC_ACQUIRE, BC_RELEASE, BC_INCREFS)
     client.main.is_given(service.main, 1, take=False)
     client.main.writes(*each(take, *[1] * first))
@@ -205,9 +189,8 @@ def taken_again_before(s, first, then, weak=False):
 
 @case("H6:2 H7:2", "normal references held: 1 of 2", "normal references, balanced: 1 of -",
       "normal own objects held by others: 1 of -", "normal own objects, balanced: 1 of -")
-def handles_and_nodes(s):
+def handles_and_nodes(s, service, client):
     """A handle that is held and one that is not, and the same of nodes."""
-    service, client = s.two()
     for handle in 1, 2:
         client.main.is_given(service.main, handle)
     client.main.writes(*each(BC_RELEASE, 2))
@@ -222,15 +205,12 @@ def handles_and_nodes(s):
 @case("M1:1", then=2, ends=0, lost=True)
 @case("T1:1", then=2, ends=1, wait=50)
 @case("U4:1", then=2, ends=1, wait=150)
-def not_acknowledged(s, then, ends, wait=200, lost=False):
+def not_acknowledged(s, service, client, then, ends, wait=200, lost=False):
     """The driver asks for a reference, and the process does not acknowledge it, but goes on or ends."""
-    service, client = s.two()
     client.main.asks(service.main)
-    if lost:
-        s.loses(client)
+    s.loses(client, lost)
     client.main.reads(node(BR_ACQUIRE, 0x500, 0x501))
-    for _ in range(then):
-        client.main.writes(ENTER)
+    client.main.goes_on(then)
     s.wait(wait)
     if ends:
         client.ends()
@@ -253,18 +233,15 @@ def nodes_not_acknowledged(s, count=3, done=0, lost=False, then=2, other=False, 
     whose object has the same address, handed it over before, and does not acknowledge it; or a death is not
     acknowledged either. Or the client hands its first object over once more."""
     service, client = s.two()
-    if lost:
-        s.loses(client)
+    s.loses(client, lost)
     if other:
         third = s.process(300, "third")
         third.main.gives(service.main, 30, code=20, node=0x901)
         third.main.reads(node(BR_ACQUIRE, 0x901, 0))
-        for _ in range(2):
-            third.main.writes(ENTER)
+        third.main.goes_on(2)
     if death:
         short = s.process(310, "short-lived")
-        short.main.gives(service.main, 31, node=0xA00)
-        client.main.is_given(service.main, 31, server_handle=31)
+        client.main.is_passed(short.main, service.main, 31, 31, node=0xA00)
         client.main.writes(watch(BC_REQUEST_DEATH_NOTIFICATION, 31, 0xD))
         short.ends()
         client.main.reads(*each_long(BR_DEAD_BINDER, 0xD))
@@ -275,8 +252,7 @@ def nodes_not_acknowledged(s, count=3, done=0, lost=False, then=2, other=False, 
             client.main.writes(node(BC_ACQUIRE_DONE, 0x900 + at, 0))
     if again:
         client.main.gives(service.main, 1, code=21, node=0x901)
-    for _ in range(then):
-        client.main.writes(ENTER)
+    client.main.goes_on(then)
     s.wait(200)
 
 
@@ -301,12 +277,10 @@ def watching(s, met="from-start", weakly=False):
 def clear_not_confirmed(s, then, wait, ends=False, lost=False, thread=False, first=0):
     _, client = watching(s)
     s.wait(first)
-    if lost:
-        s.loses(client)
+    s.loses(client, lost)
     clearing = client.thread(1) if thread else client.main
     clearing.writes(watch(BC_CLEAR_DEATH_NOTIFICATION, 1, 0xD))
-    for _ in range(then):
-        clearing.writes(ENTER)
+    clearing.goes_on(then)
     s.wait(wait)
     if ends:
         clearing.ends() if thread else client.ends()
@@ -315,8 +289,7 @@ def clear_not_confirmed(s, then, wait, ends=False, lost=False, thread=False, fir
 
 @case("T1:1", wait=900)
 @case("U4:1", wait=1100)
-@case("U4:1", wait=900, leaves="")
-@case("U4:1", wait=900, leaves="before")
+@case("U4:1", wait=900, leaves=each_of("", "before"))
 @case("T1:1", wait=900, leaves="before, after")
 @case("U4:1", wait=900, of="service")
 @case("U4:1", wait=500, ends=False)
@@ -331,8 +304,7 @@ def clears_and_leaves(s, wait, leaves="after", of="client", ends=True, keeps=Fal
     if "before" in leaves:
         loopers[0].writes(record(BC_EXIT_LOOPER))
     client.main.writes(watch(BC_CLEAR_DEATH_NOTIFICATION, 1, 0xD))
-    for _ in range(2):
-        client.main.writes(ENTER)
+    client.main.goes_on(2)
     if "after" in leaves:
         loopers[1].writes(record(BC_EXIT_LOOPER))
     s.wait(wait)
@@ -348,8 +320,7 @@ def death_and_leaves(s):
     other = client.looper(1)
     service.ends()
     client.main.reads(*each_long(BR_DEAD_BINDER, 0xD))
-    for _ in range(2):
-        client.main.writes(ENTER)
+    client.main.goes_on(2)
     other.writes(record(BC_EXIT_LOOPER))
     s.wait(500)
     client.ends()
@@ -357,9 +328,8 @@ def death_and_leaves(s):
 
 
 @case("U4:1")
-def buffer_of_a_thread_that_ends(s):
+def buffer_of_a_thread_that_ends(s, service, client):
     """A thread of a service replies to a call, keeps its buffer, and ends soon after that; the service goes on."""
-    service, client = s.two()
     other = service.looper(1)
     sent = client.main.sends(0, 1)
     other.gets(sent)
@@ -381,19 +351,17 @@ def buffer_of_a_thread_that_ends(s):
 @case("M1:1", lost=True)
 @case("D10:1", reused=True)
 @case("D10:1", ends=True)
-def clear_with_another_cookie(s, cookie=0xE, asks=True, clears=False, again=None, met="from-start", lost=False,
+def clear_with_another_cookie(s, service, client, cookie=0xE, asks=True, clears=False, again=None, lost=False,
                               reused=False, ends=False):
     """A client asks for the death of an object, or does so only for what had this handle before, and clears with a
     cookie. Before that it may clear with the right one, or ask again with another one."""
-    service, client = s.two(met)
     for round in (1, 2) if reused else (2,):
         client.main.is_given(service.main, 1, node=0x100 * round)
         if asks:
             client.main.writes(watch(BC_REQUEST_DEATH_NOTIFICATION, 1, 0xE if round == 1 else 0xD))
         if round == 1:
             client.main.writes(*each(BC_RELEASE, 1))
-    if lost:
-        s.loses(client)
+    s.loses(client, lost)
     if clears:
         client.main.writes(watch(BC_CLEAR_DEATH_NOTIFICATION, 1, 0xD))
         client.main.reads(*each_long(BR_CLEAR_DEATH_NOTIFICATION_DONE, 0xD))
@@ -412,8 +380,7 @@ def death_not_acknowledged(s, wait, ends=False, clears=False):
     client.main.reads(*each_long(BR_DEAD_BINDER, 0xD))
     if clears:
         client.main.writes(watch(BC_CLEAR_DEATH_NOTIFICATION, 1, 0xD))
-    for _ in range(2):
-        client.main.writes(ENTER)
+    client.main.goes_on(2)
     s.wait(wait)
     if ends:
         client.ends()
@@ -426,23 +393,20 @@ def death_not_acknowledged(s, wait, ends=False, clears=False):
 @case("M1:1", clears=1, confirmed=2, lost=True)
 @case("P1:1", clears=1, confirmed=2, met="in-mid-life")
 @case("D4:1", clears=1, confirmed=2, called=True)
-def cookie_again(s, clears, confirmed, lost=False, met="from-start", called=False):
+def cookie_again(s, service, client, clears, confirmed, lost=False, called=False):
     """Requests of several handles with one cookie are cleared, and then all are confirmed. An object of the process may
     have that cookie, too, and get something."""
-    service, client = s.two(met)
     for handle in range(1, clears + 1):
         client.main.is_given(service.main, handle)
         client.main.writes(watch(BC_REQUEST_DEATH_NOTIFICATION, handle, 0xD))
-    if lost:
-        s.loses(client)
+    s.loses(client, lost)
     client.main.writes(*(watch(BC_CLEAR_DEATH_NOTIFICATION, handle, 0xD) for handle in range(1, clears + 1)))
     if called:
         client.main.frees(client.main.gets(service.main.sends(7, 3, ONE_WAY), 0x500, cookie=0xD))
     client.main.reads(*each_long(BR_CLEAR_DEATH_NOTIFICATION_DONE, *[0xD] * confirmed))
 
 
-@case("D4:1 U6:1", death=False)
-@case("D4:1 U6:1", death=True)
+@case("D4:1 U6:1", death=each_of(False, True))
 def answer_of_another(s, death):
     """A clear waits for its confirmation, and one of another cookie comes; or a death for its acknowledgement, and a
     confirmation of its cookie comes."""
@@ -490,9 +454,8 @@ def request_left(s, release, again=False, met="from-start", held=None, weakly=Fa
 @case("D1:1", release=True)
 @case("D5:1", release=False)
 @case("D5:1", release=False, takes=0)
-def request_of_the_manager(s, release, takes=1):
+def request_of_the_manager(s, service, client, release, takes=1):
     """A request for the context manager, whose handle is let go of, or not, or was never taken."""
-    service, client = s.two()
     client.main.asks(service.main)
     client.main.writes(*each(BC_ACQUIRE, *[0] * takes), watch(BC_REQUEST_DEATH_NOTIFICATION, 0, 0xD))
     if release:
@@ -513,33 +476,27 @@ def request_of_a_number_again(s):
 
 @case("F1:1", "reply to code 1", met="from-start")
 @case("M1:1", met="from-start", lost=True)
-def freed_twice(s, met, lost=False):
-    service, client = s.two(met)
+def freed_twice(s, service, client, lost=False):
     address = client.main.asks(service.main)
-    if lost:
-        s.loses(client)
+    s.loses(client, lost)
     client.main.frees(address)
 
 
 @case("F2:1", met="from-start")
 @case("P1:1", met="in-mid-life")
 @case("M1:1", met="from-start", lost=True)
-def freed_what_never_came(s, met, lost=False):
-    service, client = s.two(met)
-    if lost:
-        s.loses(client)
+def freed_what_never_came(s, service, client, lost=False):
+    s.loses(client, lost)
     client.main.frees(0x1230)
 
 
 @case("O1:1 E5:1", sent=True)
 @case("O2:1", sent=False)
-def bad_object(s, sent):
+def bad_object(s, service, client, sent):
     """An object at an offset that is no multiple of four is sent, and refused; or is read."""
-    service, client = s.two()
     body, listed = bytes(32), offsets(2)
     if sent:
-        client.main.sends(0, 1, body=body, listed=listed)
-        client.main.reads(record(BR_FAILED_REPLY))
+        client.main.sends(0, 1, body=body, listed=listed, told=BR_FAILED_REPLY)
     else:
         address = service.main.gets(client.main.sends(0, 1, body=body), 0, body, listed)
         client.main.answered(service.main.replies(address))
@@ -547,9 +504,8 @@ def bad_object(s, sent):
 
 @case("O1:1 E6:1 U6:1", "a reply to code 1 ", sent=True)
 @case("O2:1", "a reply ()", sent=False)
-def bad_object_in_reply(s, sent):
+def bad_object_in_reply(s, service, client, sent):
     """An object at an offset that is no multiple of four is replied, and the caller gets an error; or is read."""
-    service, client = s.two()
     client.main.asks(service.main)
     address = service.main.gets(client.main.sends(0, 1))
     body, listed = bytes(32), offsets(2)
@@ -561,8 +517,7 @@ def bad_object_in_reply(s, sent):
 
 
 @case("O3:2")
-def unknown_flag(s):
-    service, client = s.two()
+def unknown_flag(s, service, client):
     address = service.main.gets(client.main.sends(0, 1, flags=0x80))
     client.main.answered(service.main.replies(address))
 
@@ -579,15 +534,13 @@ def unknown_flag(s):
 @case("U1:1", flags=ONE_WAY, wait=190, good=3, took=100)
 @case("W3:1", flags=ONE_WAY, wait=1100, good=3, took=100)
 @case("U6:1", flags=ONE_WAY, wait=300, good=3, took=100)
-def oneway_never_came(s, flags, wait=200, good=0, took=0, lost=False, ends=False):
-    service, client = s.two()
+def oneway_never_came(s, service, client, flags, wait=200, good=0, took=0, lost=False, ends=False):
     client.main.asks(service.main)
     for _ in range(good):
         sent = client.main.sends(0, 7, flags)
         s.wait(took)
         service.main.frees(service.main.gets(sent))
-    if lost:
-        s.loses(client)
+    s.loses(client, lost)
     client.main.sends(0, 7, flags)
     s.wait(wait)
     if ends:
@@ -603,19 +556,15 @@ def oneway_never_came(s, flags, wait=200, good=0, took=0, lost=False, ends=False
 def first_frame_lost(s, lost):
     """The first frame of a process may have got the handle that its second one lets go of."""
     client = s.process(200, "client")
-    if lost:
-        s.loses(client)
+    s.loses(client, lost)
     client.main.writes(*each(BC_RELEASE, 7))
 
 
 @case("M2:3", lost=True)
 @case("U3:3", lost=False)
-def last_frame_lost(s, lost):
+def last_frame_lost(s, service, client, lost):
     """The last frame may have freed three replies."""
-    service, client = s.two()
-    for _ in range(3):
-        client.main.asks(service.main, 2, free=False)
+    client.main.asks(service.main, 2, free=False, times=3)
     client.main.asks(service.main, 3)
     s.wait(200)
-    if lost:
-        s.loses(client)
+    s.loses(client, lost)

@@ -2,9 +2,9 @@
 what each process got and served."""
 
 from checks.kit.captures import (BC_RELEASE, BC_REPLY, BC_TRANSACTION, BR_DEAD_REPLY, BR_FAILED_REPLY,
-                                 BR_ONEWAY_SPAM_SUSPECT, BR_REPLY, ENTER, each, offsets, record)
+                                 BR_ONEWAY_SPAM_SUSPECT, BR_REPLY, each, offsets, record)
 from checks.kit.tokens import string16
-from checks.viewer.sessions.cases import case, with_server
+from checks.viewer.sessions.cases import case
 from checks.viewer.sessions.name_cases import NAME_OF, ONE, TWO
 from checks.viewer.sessions.session import DONE, ONE_WAY, Sent
 
@@ -31,11 +31,10 @@ from checks.viewer.sessions.session import DONE, ONE_WAY, Sent
 @case("A1:6 C4:2 E3:2 E5:3 E7:1 O1:1 P1:1 U4:1 W2:2", "open, 6 delivered, 4 fit, 2 kept, 3 at most, 4 frames, - ns",
       "C4 at 3680: 2 of 7, 4 frames, - ns", "A1 at 3976: 2 of 6, 1 frames, - ns",
       "A1 at 3976: 4 of 6, 1 frames, - ns", "U4 at 6336: 3 of 4, 7 frames, - ns", has_side=False)
-def sends_that_differ(s):
+def sends_that_differ(s, manager, client, server):
     """Calls of a code, each with another end or another length; oneway sends of the same code and of another one, of
     which some never come; the same code at another handle; and codes of which the only send is refused or crossed, or
     suspected as spam, or has a bad object."""
-    manager, client, server = with_server(s)
     served, threads = [manager.looper(at) for at in range(1, 6)], [client.thread(at) for at in range(1, 6)]
     client.main.asks(served[0], 2, took=30, body=bytes(12))
     client.main.asks(served[0], 2, took=5, body=bytes(20))
@@ -64,8 +63,7 @@ def sends_that_differ(s):
     client.main.sends(0, 8, ONE_WAY)
     # Of other codes one is refused, one is oneway and refused, one is suspected as spam, one has a bad object, and one
     # is ended by a reply of its own thread.
-    client.main.sends(0, 9)
-    client.main.reads(record(BR_FAILED_REPLY))
+    client.main.sends(0, 9, told=BR_FAILED_REPLY)
     spam = Sent(client.main, 11, ONE_WAY, b"", b"")
     for sent, answer in (Sent(client.main, 10, ONE_WAY, b"", b""), BR_FAILED_REPLY), (spam, BR_ONEWAY_SPAM_SUSPECT):
         client.main.writes(sent.record(BC_TRANSACTION))
@@ -84,8 +82,7 @@ def asked(s, client, server, handle=0, ptr=0, cookie=0, code=2, takes=0, writes=
     long, or keeps it. Returns the address of the answer."""
     address = server.gets(client.sends(handle, code), ptr, cookie=cookie)
     s.wait(takes)
-    for _ in range(writes):
-        server.writes(ENTER)
+    server.goes_on(writes)
     answer = client.answered(server.replies(address), free=False)
     if held is not None:
         s.wait(held)
@@ -99,10 +96,9 @@ def asked(s, client, server, handle=0, ptr=0, cookie=0, code=2, takes=0, writes=
       "U2 at 9200: 7 of 8, 7 frames, 7000000 ns", "A1 at 9300: 7 of 8, 4 frames, 4000000 ns",
       "handle 2 of client 200 at service 100 node 1792 0: 1 certain of 1",
       "defect: replies never freed | other on binder | reply to no call")
-def answers_that_differ(s):
+def answers_that_differ(s, service, client):
     """Answers of calls by two handles, of which one leads to two objects in turn; to two clients; and one to no call.
     Some are kept."""
-    service, client = s.two()
     calls = client.main
     first = asked(s, calls, service.main, held=None)
     for held in 3, 40, None, None:
@@ -141,11 +137,10 @@ def answers_that_differ(s):
       "handle 8 of client 200 at server 300 node 2560 5: 2 certain of 3",
       "handle 8 of client 200 at third 400 node 2560 5: 1 certain of 2", "handle 7 of client 200, code 2: 13 sends,",
       "handle 11 of client 200, code 2: 3 sends, 0 bytes,", "8 frames, 16000000 ns, node 3328 7")
-def objects_that_differ(s):
+def objects_that_differ(s, service, client):
     """Calls by handles to objects that differ by their process, their ptr or their cookie alone; of some handles it is
     not known where they lead. Others are of another code, or oneway. One to each hangs, and of some one more has an
     error reply."""
-    service, client = s.two()
     server, third = s.process(300, "server"), s.process(400, "third")
     calls = client.main
     objects = ((7, server, 0xA00, 0, 3), (7, server, 0xB00, 0, 4), (8, server, 0xA00, 5, 2), (8, third, 0xA00, 5, 1),
@@ -166,8 +161,7 @@ def objects_that_differ(s):
     crossed = server.thread(30)
     crossed.gets(client.thread(30).sends(7, 2), 0xB00)
     s.wait(300)
-    for _ in range(20):
-        crossed.writes(ENTER)
+    crossed.goes_on(20)
     crossed.reads(record(BR_FAILED_REPLY))
     s.wait(200)
 
@@ -188,11 +182,10 @@ def objects_that_differ(s):
       "node 1536 of server 300 names a.b.IOne 2 times, 4 others", "U6 at 7832: 0 of 3, - frames, - ns",
       "U1 at 11848: 3 of 4, 4 frames, 4000000 ns",
       "defect: served calls not replied | server on binder | a.b.ITwo code 9 at server; key", "; a.b.ITwo code 9")
-def names_that_differ(s):
+def names_that_differ(s, service, client):
     """Calls of two codes name two interfaces, at objects that differ by their process or by their ptr alone. Others
     name them to two handles, and do not come; or come, and were not sent. Objects say their interface when asked, and
     one also answers so to another code."""
-    service, client = s.two()
     server, third = s.process(300, "server"), s.process(400, "third")
     for handle, process, ptr, code, bodies in (
             (0, service, 0, 7, (ONE, ONE, TWO, b"")), (0, service, 0, 8, (TWO,)),

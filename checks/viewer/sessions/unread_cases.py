@@ -4,7 +4,7 @@ from checks.kit.captures import (BC_ACQUIRE, BC_ENTER_LOOPER, BC_EXIT_LOOPER, BC
                                  BC_REQUEST_DEATH_NOTIFICATION, BR_FAILED_REPLY, ENTER, each, of_handle, offsets,
                                  record, watch)
 from checks.viewer.sessions.book_cases import thread
-from checks.viewer.sessions.cases import case
+from checks.viewer.sessions.cases import case, each_of
 from checks.viewer.sessions.session import ONE_WAY, node_object
 
 
@@ -29,8 +29,7 @@ def watches(s, watcher, wait=0):
 @case("D12:1", lost="short-lived")
 @case("D5:1", met="in-mid-life")
 @case("D12:1", met="in-mid-life", book=(0, 0x10))
-@case("D5:1", met="in-mid-life", book=(0, 0x12))
-@case("D5:1", met="in-mid-life", book=(0x11, 0))
+@case("D5:1", met="in-mid-life", book=each_of((0, 0x12), (0x11, 0)))
 @case("D12:1", met="in-mid-life", book=(0x06,))
 @case("D5:1", met="in-mid-life", book=(), moment="begin")
 def death_without_a_reader(s, wait=1100, ends=True, asks=None, leaves=0, lost=None, met="from-start", book=None,
@@ -42,8 +41,7 @@ def death_without_a_reader(s, wait=1100, ends=True, asks=None, leaves=0, lost=No
     short, watcher = s.process(300, "short-lived"), s.process(400, "watcher", met)
     if moment == "begin" and book is not None:
         books_of(s, moment, book)
-    short.main.gives(service.main, 3)
-    watcher.main.is_given(service.main, 1, server_handle=3)
+    watcher.main.is_passed(short.main, service.main, 1, 3)
     if asks is None:
         watches(s, watcher)
     if serves_within:
@@ -57,8 +55,7 @@ def death_without_a_reader(s, wait=1100, ends=True, asks=None, leaves=0, lost=No
     if ends:
         short.ends()
     if other_ends:
-        other = s.process(500, "other")
-        other.main.writes(ENTER)
+        other = s.process(500, "other", enters=True)
         other.ends()
     if asks is not None:
         watches(s, watcher, asks)
@@ -86,8 +83,7 @@ def books_of(s, moment, bits):
 @case("D5:1 A1:2 C4:1", loopers=("serves",), wait=900)
 @case("D5:1 A1:2 C4:1", loopers=("serves",), met="in-mid-life")
 @case("M1:1 A1:2 C4:1", loopers=("serves",), lost=True)
-@case("D5:1 A1:2 C4:1", loopers=("serves later",))
-@case("D5:1 A1:2 C4:1", loopers=("waits", "serves"))
+@case("D5:1 A1:2 C4:1", loopers=each_of(("serves later",), ("waits", "serves")))
 @case("D5:1 D13:1 A1:2 C4:1", "1 looper of this process had no time since", loopers=("serves",), beside=True)
 @case("D5:1 E5:1", loopers=("is refused",))
 @case("D13:1 A1:2 C5:1 C7:1", loopers=("serves, and calls later",))
@@ -100,17 +96,14 @@ def books_of(s, moment, bits):
 @case("D5:1", loopers=("called",))
 @case("D13:1 W5:1", loopers=("oneway",))
 @case("D5:1 W5:1", loopers=("oneway later",))
-@case("D5:1", loopers=("freed oneway",))
-@case("D5:1", loopers=("got a call",))
+@case("D5:1", loopers=each_of(("freed oneway",), ("got a call",)))
 def death_and_loopers(s, loopers, says=BC_ENTER_LOOPER, wait=1100, met="from-start", lost=False, beside=False):
     """A process with loopers, of which each does something else, asks for the death of one that ends. `beside`: so does
     one whose looper waits."""
     service, client = s.two()
     short, watcher = s.process(300, "short-lived"), s.process(400, "watcher", met)
-    short.main.gives(service.main, 3)
-    watcher.main.is_given(service.main, 1, server_handle=3)
-    watcher.main.gives(service.main, 4)
-    client.main.is_given(service.main, 1, server_handle=4)
+    watcher.main.is_passed(short.main, service.main, 1, 3)
+    client.main.is_passed(watcher.main, service.main, 1, 4)
     watches(s, watcher)
     if beside:
         second = s.process(500, "second")
@@ -123,8 +116,7 @@ def death_and_loopers(s, loopers, says=BC_ENTER_LOOPER, wait=1100, met="from-sta
         if what != "unsaid":
             one.writes(record(says))
         before_the_death(s, what, one, caller, service)
-    if lost:
-        s.loses(watcher)
+    s.loses(watcher, lost)
     short.ends()
     for what, one, caller in zip(loopers, threads, callers):
         if what.endswith(" later"):
@@ -147,8 +139,7 @@ def before_the_death(s, what, looper, caller, service):
     if what == "calls":
         looper.sends(0, 8)
     if what == "is refused":
-        looper.sends(0, 8)
-        looper.reads(record(BR_FAILED_REPLY))
+        looper.sends(0, 8, told=BR_FAILED_REPLY)
     if what == "called":
         looper.asks(service.main, 8)
     if what in ("oneway", "freed oneway"):
@@ -159,10 +150,9 @@ def before_the_death(s, what, looper, caller, service):
 
 @case("D5:2", at_once=True)
 @case("D13:2", at_once=False)
-def deaths_of_uncertain_objects(s, at_once):
+def deaths_of_uncertain_objects(s, manager, at_once):
     """Two processes that end hand an object over to one that asks for both deaths, and of which the only looper leaves.
     It is not known which object is whose if both were sent before the first one came."""
-    manager, _ = s.two()
     watcher = s.process(310, "watcher")
     watcher.main.gives(manager.main, 3, node=0x9000)
     looper = watcher.looper(1)
