@@ -24,8 +24,9 @@ def has_history() -> bool:
 
 
 @functools.cache
-def is_commit(name: str) -> bool:
-    return git("cat-file", "-e", f"{name}^{{commit}}").returncode == 0
+def is_in_history(name: str) -> bool:
+    """Whether this is a commit that HEAD stands on. A clone may have others too, which go with it."""
+    return git("merge-base", "--is-ancestor", name, "HEAD").returncode == 0
 
 
 def wrong(page: pathlib.Path) -> Iterator[tuple[int, str]]:
@@ -34,5 +35,5 @@ def wrong(page: pathlib.Path) -> Iterator[tuple[int, str]]:
         return
     for number, line in enumerate(lengths.prose(page.read_text("utf-8")), 1):
         for name in COMMIT.findall(re.sub(r"`[^`]*`", "", line)):
-            if not is_commit(name):
+            if not is_in_history(name):
                 yield number, f"no commit {name}"
