@@ -27,7 +27,7 @@ ROOTS = [("audit_run", "part_runs.rt", "run_parts")]
 # The chapters in their order, and what is in each: crates, and files of crates, which go before their crate. Where
 # definitions do not decide which file comes first, this does.
 CHAPTERS = {
-    "The headline": "audit_run audit_join audit_judge audit_streams",
+    "The headline": "audit_run audit_join audit_judge streams",
     "The answer": "report_text/Answers.antt report_text/Text.antt report_text/Section.antt report_text/Fault.antt",
     "The grammar": "transaction_view/Grammar.antt capture_frame/ReadOn.antt capture_frame/Tests.antt capture_frame",
     "Records": "record_view",

@@ -7,11 +7,7 @@ mod limits;
 mod look_work;
 mod shares;
 
-pub use audit_findings::{
-    BadRow, CallSections, Calls, CodeRow, EventSections, Findings, OnewayCounts, OnewayRow,
-    OpenAndStray, ProcessRow, ProcessSections, RecordCounts, References, Refused, Rows, Sections,
-    Served, SortCounts,
-};
+pub use audit_findings::Findings;
 pub use audit_judge::{AuditError, PartsError, Piece, Plan};
 pub use audits::{audit, audit_one, audit_parts};
 pub use limits::CAPTURE_LIMIT;

@@ -1,9 +1,9 @@
 -- What a failure leaves on standard output if the words ask for something.
 use Rattle.std.proofs.Common.{List, ℕ, Option, Err}
 use Rattle.clap.specs.Words.{Text}
-use Rattle.audit_streams.specs.declared.failure.Failure.TheVariants.{Run}
-use Rattle.audit_streams.specs.declared.run_error.RunError.{RunError}
-use Rattle.audit_streams.specs.declared.run_error.RunError.TheVariants.{Memory, TooLarge, Read, Write, Open}
+use Rattle.streams.specs.declared.failure.Failure.TheVariants.{Run}
+use Rattle.streams.specs.declared.run_error.RunError.{RunError}
+use Rattle.streams.specs.declared.run_error.RunError.TheVariants.{Memory, TooLarge, Read, Write, Open}
 use Rattle.audit_run.specs.Run.{given, none_given}
 use Rattle.audit_words.specs.declared.request.Request.{Request}
 use Rattle.audit_words.specs.CommandLine.{Ask}

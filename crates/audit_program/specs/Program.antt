@@ -8,9 +8,9 @@ use Rattle.std.specs.declared.string.String.{String}
 use Rattle.std.specs.declared.vec.IntoIter.{IntoIter}
 use Rattle.std.specs.Io.KnownBytes.{Appends, Keeps}
 use Rattle.clap.specs.Words.{Text}
-use Rattle.audit_streams.specs.declared.run_error.RunError.{RunError}
-use Rattle.audit_streams.specs.declared.run_error.RunError.TheVariants.{Memory}
-use Rattle.audit_streams.specs.KnownBytes.{AppendsPrefix}
+use Rattle.streams.specs.declared.run_error.RunError.{RunError}
+use Rattle.streams.specs.declared.run_error.RunError.TheVariants.{Memory}
+use Rattle.streams.specs.KnownBytes.{AppendsPrefix}
 use Rattle.transaction_view.specs.Grammar.{frames_of_parts}
 use Rattle.audit_words.specs.Request.{names_of}
 use Rattle.audit_words.specs.CommandLine.{Ask, AskForNothing}
@@ -19,9 +19,9 @@ use Rattle.audit_run.specs.PartRuns.{FilesGive}
 use Rattle.audit_run.specs.Run.{RunEnds}
 use Rattle.audit_run.specs.Store.{unknown}
 use Rattle.audit_words.specs.declared.request.Request.{Request}
-use Rattle.audit_streams.specs.declared.failure.Failure.{Failure}
-use Rattle.audit_streams.specs.declared.failure.Failure.TheVariants.{Usage, Run}
-use Rattle.audit_streams.specs.Failure.{line_of, status_of}
+use Rattle.streams.specs.declared.failure.Failure.{Failure}
+use Rattle.streams.specs.declared.failure.Failure.TheVariants.{Usage, Run}
+use Rattle.streams.specs.Failure.{line_of, status_of}
 use Rattle.audit_program.specs.Failure.{failure_of_words}
 
 -- A run on the files of a request, in the order in which it names them, ends so (`RunEnds`). `bytes_of` gives the bytes

@@ -3,11 +3,11 @@ ghost use Rattle.std.specs.Prelude.{map, string_bytes, IfErr, IfOk};
 ghost use Rattle.audit_program.specs.Program.{AnswersWords, FailureLeaves};
 
 use audit_run::{Store, answer_files};
-use audit_streams::Failure;
 use audit_words::{free, matches_of, request_of};
 use std::alloc::Global;
 use std::io::Write;
 use std::thread::Threads;
+use streams::Failure;
 
 /// Answers what the words ask for. The first word is the program's own name.
 pub(crate) fn answer_words<T: Threads + Sync, S: Store, W: Write>(

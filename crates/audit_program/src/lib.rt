@@ -5,4 +5,4 @@ mod answers;
 mod status;
 
 pub use crate::status::{Ending, ended, program, program_on};
-pub use audit_streams::SharedFiles;
+pub use streams::SharedFiles;

@@ -2,13 +2,12 @@
 ghost use Rattle.std.specs.Prelude.{◌≡◌, IfOk, map, string_bytes};
 ghost use Rattle.std.specs.Process.{exit_status};
 ghost use Rattle.std.specs.Vec.Iter.{into_iter_items};
-ghost use Rattle.audit_streams.specs.Failure.{line_of, status_of};
+ghost use Rattle.streams.specs.Failure.{line_of, status_of};
 ghost use Rattle.audit_program.specs.Failure.{failure_of_words};
 ghost use Rattle.audit_program.specs.Program.{EndsOn, HostProgramEnds, ProgramEnds, Tells};
 
 use crate::answers::answer_words;
 use audit_run::{HostFiles, Store};
-use audit_streams::{Failure, RunError, SharedFiles};
 use std::alloc::{AllocError, Global};
 use std::env::Args;
 use std::fs::Files;
@@ -16,6 +15,7 @@ use std::io;
 use std::io::{ErrorKind, Write};
 use std::process::ExitCode;
 use std::thread::Threads;
+use streams::{Failure, RunError, SharedFiles};
 
 /// How the program ended.
 #[derive(Clone, Copy, Debug, PartialEq, Eq)]

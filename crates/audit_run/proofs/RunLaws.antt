@@ -5,10 +5,10 @@ use Rattle.std.specs.Io.KnownBytes.{Appends}
 use Rattle.std.specs.List.{AllZip}
 use Rattle.std.proofs.lemmas.List.{length-map, map-append, take_more}
 use Rattle.std.proofs.lemmas.Slice.Zip.{AllZip-long}
-use Rattle.audit_streams.specs.declared.run_error.RunError.{RunError}
-use Rattle.audit_streams.specs.declared.run_error.RunError.TheVariants.{Memory, TooLarge, Read, Write, Open}
-use Rattle.audit_streams.specs.KnownBytes.{AppendsPrefix}
-use Rattle.audit_streams.specs.Parts.{IsAllOf}
+use Rattle.streams.specs.declared.run_error.RunError.{RunError}
+use Rattle.streams.specs.declared.run_error.RunError.TheVariants.{Memory, TooLarge, Read, Write, Open}
+use Rattle.streams.specs.KnownBytes.{AppendsPrefix}
+use Rattle.streams.specs.Parts.{IsAllOf}
 use Rattle.audit_run.specs.PartRuns.{FilesGive, IsOpeningError, ReadersGive}
 use Rattle.audit_run.specs.Store.{HasLeft}
 use Rattle.audit_run.specs.Run.{RunEnds, Writes, given, none_given}

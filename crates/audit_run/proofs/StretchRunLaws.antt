@@ -15,14 +15,14 @@ use Rattle.capture_frame.proofs.PartLaws.{parts_joined, taken_of_same}
 use Rattle.transaction_view.specs.Grammar.{frames_of_parts, unless, whole_parser, wholes_of}
 use Rattle.transaction_view.proofs.WholeLaws.{whole_wide}
 use Rattle.report_text.specs.Answers.{answer}
-use Rattle.audit_streams.specs.Parts.{bytes_of}
-use Rattle.audit_streams.specs.Stretches.{IsPartOf, IsStretchError}
-use Rattle.audit_streams.specs.declared.run_error.RunError.{RunError}
-use Rattle.audit_streams.specs.declared.run_error.RunError.TheVariants.{Memory, TooLarge, Read, Write, Open}
+use Rattle.streams.specs.Parts.{bytes_of}
+use Rattle.streams.specs.Stretches.{IsPartOf, IsStretchError}
+use Rattle.streams.specs.declared.run_error.RunError.{RunError}
+use Rattle.streams.specs.declared.run_error.RunError.TheVariants.{Memory, TooLarge, Read, Write, Open}
 use Rattle.audit_run.specs.PartRuns.{AreOfOneFile, FilesGive}
 use Rattle.audit_run.specs.Question.{reading_status}
 use Rattle.audit_run.proofs.AnswerLaws.{answer_of}
-use Rattle.audit_streams.proofs.StretchLaws.{few_parts, joined_bytes, joined_from_first, joined_short}
+use Rattle.streams.proofs.StretchLaws.{few_parts, joined_bytes, joined_from_first, joined_short}
 
 abbrev Part : Type 0
 Part = Vec ℕ Global

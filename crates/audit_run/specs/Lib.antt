@@ -3,7 +3,7 @@ pub mod Question
 pub mod Run
 pub mod Store
 pub mod Stretches
-pub use Rattle.audit_streams.specs.KnownBytes
-pub use Rattle.audit_streams.specs.Parts
-pub use Rattle.audit_streams.specs.RunError
+pub use Rattle.streams.specs.KnownBytes
+pub use Rattle.streams.specs.Parts
+pub use Rattle.streams.specs.RunError
 pub use Rattle.report_text.specs.Answers

@@ -2,10 +2,10 @@
 use Rattle.std.specs.Prelude.{ℕ, List, [], ◌∷◌, All, Option, Result, Ok, Err, ⊤}
 use Rattle.capture_frame.specs.Units.{IsBytes}
 use Rattle.audit_join.specs.declared.limits.TheConstants.{CAPTURE_LIMIT}
-use Rattle.audit_streams.specs.Parts.{AreRead, ArePastLimit}
-use Rattle.audit_streams.specs.Stretches.{AreStretchesOf}
-use Rattle.audit_streams.specs.declared.run_error.RunError.{RunError}
-use Rattle.audit_streams.specs.declared.run_error.RunError.TheVariants.{Memory, TooLarge, Read, Write, Open}
+use Rattle.streams.specs.Parts.{AreRead, ArePastLimit}
+use Rattle.streams.specs.Stretches.{AreStretchesOf}
+use Rattle.streams.specs.declared.run_error.RunError.{RunError}
+use Rattle.streams.specs.declared.run_error.RunError.TheVariants.{Memory, TooLarge, Read, Write, Open}
 
 -- Readers that had these bytes give parts or an error. There is a part from each reader, in order. Each part consists
 -- of bytes, and if it is known what its reader had, the part is all of that. Together the parts are within the limit.

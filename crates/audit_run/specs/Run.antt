@@ -10,9 +10,9 @@ use Rattle.capture_frame.specs.Envelope.{PlacedFrame}
 use Rattle.capture_frame.specs.Units.{IsBytes}
 use Rattle.transaction_view.specs.Grammar.{frames_of_parts}
 use Rattle.audit_join.specs.declared.limits.TheConstants.{CAPTURE_LIMIT}
-use Rattle.audit_streams.specs.KnownBytes.{AppendsPrefix}
-use Rattle.audit_streams.specs.declared.run_error.RunError.{RunError}
-use Rattle.audit_streams.specs.declared.run_error.RunError.TheVariants.{Memory, TooLarge, Read, Write, Open}
+use Rattle.streams.specs.KnownBytes.{AppendsPrefix}
+use Rattle.streams.specs.declared.run_error.RunError.{RunError}
+use Rattle.streams.specs.declared.run_error.RunError.TheVariants.{Memory, TooLarge, Read, Write, Open}
 use Rattle.audit_run.specs.declared.written.Written.{Written}
 use Rattle.audit_run.specs.declared.written.Written.TheVariants.{Report, Malformed}
 

@@ -2,8 +2,8 @@
 use Rattle.std.specs.Prelude.{Option, Some, None, Result, Ok, Err}
 use Rattle.audit_judge.specs.declared.audit_error.AuditError.{AuditError}
 use Rattle.audit_judge.specs.declared.audit_error.AuditError.TheVariants.{Memory as WasMemory, Malformed}
-use Rattle.audit_streams.specs.declared.run_error.RunError.{RunError}
-use Rattle.audit_streams.specs.declared.run_error.RunError.TheVariants.{Memory, Open}
+use Rattle.streams.specs.declared.run_error.RunError.{RunError}
+use Rattle.streams.specs.declared.run_error.RunError.TheVariants.{Memory, Open}
 
 -- a file that can't be opened again is not read in stretches
 abbrev pub unless_not_opened : {A : Type 0} → Result (Option A) RunError → Result (Option A) RunError

@@ -3,7 +3,7 @@ ghost use Rattle.std.specs.Prelude.{◌≡◌, ◌<◌, ◌^◌, ℕ, List, leng
 ghost use Rattle.std.specs.List.{AllZip};
 ghost use Rattle.transaction_view.specs.Grammar.{frames_of_parts};
 ghost use Rattle.audit_join.specs.declared.limits.TheConstants.{CAPTURE_LIMIT};
-ghost use Rattle.audit_streams.specs.Stretches.{AreStretchesOf, IsStretchError};
+ghost use Rattle.streams.specs.Stretches.{AreStretchesOf, IsStretchError};
 ghost use Rattle.audit_words.specs.Request.{names_of};
 ghost use Rattle.audit_run.specs.PartRuns.{AreOfOneFile, FilesGive, IsOpeningError, ReadersGive};
 ghost use Rattle.audit_run.specs.Stretches.{unless_not_opened};
@@ -16,12 +16,12 @@ use crate::store::Store;
 use crate::stretch_runs::report_stretches;
 use crate::written::PartsWritten;
 use audit_join::{CAPTURE_LIMIT, Piece};
-use audit_streams::{RunError, SharedFiles, read_stretches};
 use audit_words::{Question, Request};
 use claim_board::{NoGate, Workers};
 use std::alloc::Global;
 use std::io::{Read, Write};
 use std::thread::Threads;
+use streams::{RunError, SharedFiles, read_stretches};
 
 /// Opens the files that the request names, in order and all before the first is read, and answers
 /// its question as `answer` does.

@@ -15,8 +15,6 @@ pub use crate::runs::{run, run_first_fault, run_gated, write_first_fault};
 pub use crate::store::{HostFiles, Store};
 pub use crate::written::{PartsWritten, Written};
 pub use audit_join::{CAPTURE_LIMIT, Piece};
-pub use audit_streams::{
-    FoundFile, RunError, SharedFiles, read_capture, read_parts, read_stretches, write_text,
-};
 pub use audit_words::{Question, Request};
 pub use claim_board::{Gate, NoGate, Workers};
+pub use streams::{FoundFile, RunError, SharedFiles, read_capture, read_parts};

@@ -11,21 +11,21 @@ ghost use Rattle.audit_join.specs.declared.limits.TheConstants.{CAPTURE_LIMIT};
 ghost use Rattle.report_text.specs.Fault.{part_fault_line};
 ghost use Rattle.report_text.specs.Answers.{answer, first_fault_line};
 ghost use Rattle.report_text.specs.Text.{report_text};
-ghost use Rattle.audit_streams.specs.KnownBytes.{AppendsPrefix};
-ghost use Rattle.audit_streams.specs.Parts.{AreRead, bytes_of};
+ghost use Rattle.streams.specs.KnownBytes.{AppendsPrefix};
+ghost use Rattle.streams.specs.Parts.{AreRead, bytes_of};
 ghost use Rattle.audit_run.specs.PartRuns.{ReadersGive};
 ghost use Rattle.audit_run.specs.Run.{RunEnds, Writes, written_of};
 
 use crate::written::PartsWritten;
 use audit_findings::Findings;
 use audit_join::{CAPTURE_LIMIT, PartsError, Piece, audit_parts};
-use audit_streams::{RunError, read_parts, write_text};
 use capture_frame::PartFault;
 use claim_board::{Gate, Workers};
 use report_text::{part_fault_text, text};
 use std::alloc::{AllocError, Global};
 use std::io::{Read, Write};
 use std::thread::Threads;
+use streams::{RunError, read_parts, write_text};
 use transaction_view::first_fault_parts;
 
 /// Reads the parts of a capture in order, each to its end, and writes the report on the joined

@@ -9,12 +9,12 @@ ghost use Rattle.audit_join.specs.declared.limits.TheConstants.{CAPTURE_LIMIT};
 use crate::part_runs::{as_bytes, write_first_fault_parts, write_parts};
 use crate::written::Written;
 use audit_join::{CAPTURE_LIMIT, Piece};
-use audit_streams::{RunError, read_capture};
 use capture_frame::Fault;
 use claim_board::{Gate, NoGate, Workers};
 use std::alloc::Global;
 use std::io::{Read, Write};
 use std::thread::Threads;
+use streams::{RunError, read_capture};
 
 /// Reads a capture to its end, and writes its report, or the line that names its first fault. The
 /// workers share its frames, a piece at a time. The text does not depend on workers and piece: see

@@ -1,16 +1,16 @@
 //! Where the parts of a capture are opened by their names.
 ghost use Rattle.std.specs.Prelude.{◌≡◌, List, Option, Some, IfOk, IfSome, IsSome, ℕ};
-ghost use Rattle.audit_streams.specs.declared.run_error.RunError.{RunError};
+ghost use Rattle.streams.specs.declared.run_error.RunError.{RunError};
 ghost use Rattle.audit_run.specs.Store.{HasLeft, unknown};
 
-use audit_streams::SharedFiles;
 use std::fs::Files;
 use std::io::Read;
 use std::{fs, io};
+use streams::SharedFiles;
 
 /// A place where the parts of a capture are opened by their names.
 pub trait Store {
-    ghost use Rattle.audit_streams.specs.declared.run_error.RunError.{RunError};
+    ghost use Rattle.streams.specs.declared.run_error.RunError.{RunError};
 
     /// A part that is open for reading.
     type Part: Read + Drop;

@@ -6,8 +6,8 @@ ghost use Rattle.capture_frame.specs.Parts.{joined_as};
 ghost use Rattle.transaction_view.specs.Grammar.{frames_of_parts};
 ghost use Rattle.report_text.specs.Answers.{answer};
 ghost use Rattle.audit_join.specs.declared.limits.TheConstants.{CAPTURE_LIMIT};
-ghost use Rattle.audit_streams.specs.Parts.{bytes_of};
-ghost use Rattle.audit_streams.specs.Stretches.{IsPartOf};
+ghost use Rattle.streams.specs.Parts.{bytes_of};
+ghost use Rattle.streams.specs.Stretches.{IsPartOf};
 ghost use Rattle.audit_run.specs.Question.{reading_status};
 ghost use Rattle.audit_run.specs.Run.{Writes};
 ghost use Rattle.audit_run.specs.Stretches.{unless_malformed};
@@ -15,13 +15,13 @@ ghost use Rattle.audit_run.specs.Stretches.{unless_malformed};
 use crate::part_runs::{report_on, room_for, slices_of, write_parts};
 use crate::written::PartsWritten;
 use audit_join::{PartsError, Piece};
-use audit_streams::{RunError, write_text};
 use capture_frame::FILE_HEADER;
 use claim_board::{NoGate, Workers};
 use std::alloc::Global;
 use std::io::Write;
 use std::thread;
 use std::thread::Threads;
+use streams::{RunError, write_text};
 
 /// Writes the report on the capture that was read as these parts, or the line that names its first
 /// fault, and gives the status that goes with it. The parts are judged as they are. Only if they

@@ -1,4 +1,4 @@
-//! Tests of the public calls of `audit_streams`, `audit_join` and `audit_run`, on captures and rows
+//! Tests of the public calls of `streams`, `audit_join` and `audit_run`, on captures and rows
 //! that were typed from docs/.
 #![tactic(auto)]
 
@@ -9,6 +9,6 @@ mod join;
 #[cfg(test)]
 mod runs;
 #[cfg(test)]
-mod streams;
+mod whole;
 #[cfg(test)]
 mod writes;

@@ -1,7 +1,7 @@
 -- The failure if clap does not take the words of a command line.
-use Rattle.audit_streams.specs.declared.failure.Failure.{Failure}
-use Rattle.audit_streams.specs.declared.failure.Failure.TheVariants.{Usage, Run}
-use Rattle.audit_streams.specs.declared.run_error.RunError.TheVariants.{Memory}
+use Rattle.streams.specs.declared.failure.Failure.{Failure}
+use Rattle.streams.specs.declared.failure.Failure.TheVariants.{Usage, Run}
+use Rattle.streams.specs.declared.run_error.RunError.TheVariants.{Memory}
 use Rattle.audit_words.specs.declared.command_line.WordsError.{WordsError}
 use Rattle.audit_words.specs.declared.command_line.WordsError.TheVariants as words
 

@@ -9,11 +9,11 @@ ghost use Rattle.audit_words.specs.declared.request.Request.{Request};
 
 use crate::request::{Question, Request};
 use audit_judge::Piece;
-use audit_streams::{Failure, RunError};
 use claim_board::Workers;
 use clap::error::ErrorKind;
 use clap::{Arg, ArgAction, ArgMatches, Command, Error, value_parser};
 use std::alloc::{AllocError, Global};
+use streams::{Failure, RunError};
 
 /// The most files that a command line may name.
 const MOST_FILES: usize = 256;

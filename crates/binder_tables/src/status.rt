@@ -2,13 +2,13 @@
 
 use crate::tables::answer;
 use crate::words::request_of;
-use audit_streams::write_text;
 use listing_fields::ListingError;
 use std::alloc::{AllocError, Global};
 use std::env::Args;
 use std::fs::Files;
 use std::io::{self, ErrorKind, Write};
 use std::process::ExitCode;
+use streams::write_text;
 
 /// Does what the words of the process ask for, as the system gave them.
 pub fn ended<T: Files, W: Write, E: Write>(

@@ -3,12 +3,12 @@
 ghost use Rattle.std.specs.Prelude.{◌≡◌, ◌<◌, ◌^◌, map, vec_len, IfOk};
 
 use crate::words::{Question, Request};
-use audit_streams::{read_parts, write_text};
 use listing_fields::{FILE_LIMIT, ListingError, push_fault};
 use listing_tables::{Ending, list_rows, seek_rows, write_all, write_one};
 use std::alloc::Global;
 use std::fs::{self, Files};
 use std::io::Write;
+use streams::{read_parts, write_text};
 
 /// Writes what is asked for, and returns the status that the process ends with.
 pub fn answer<T: Files, W: Write, E: Write>(

@@ -4,9 +4,9 @@ ghost use Rattle.std.specs.Prelude.{◌≡◌};
 ghost use Rattle.std.specs.IoError.{error_kind};
 ghost use Rattle.listing_fields.specs.Errors.{error_of_write, line_of, status_of};
 
-use audit_streams::RunError;
 use std::alloc::{AllocError, AllocFailed};
 use std::io::{self, ErrorKind};
+use streams::RunError;
 use thiserror::Error;
 
 /// Why a listing ended early. `Display` shows its line without the line feed.

@@ -9,13 +9,13 @@ use crate::given::Given;
 use crate::runs::Shown;
 use audit_join::{CAPTURE_LIMIT, PartsError, Piece, audit_parts};
 use audit_run::{Question, answer, run_first_fault_parts, run_parts};
-use audit_streams::read_parts;
 use capture_frame::{PartCut, cut_parts};
 use claim_board::{NoGate, Workers};
 use refusal_ledgers::{NoAnswer, Printed, kept_frames, value};
 use std::alloc::{AllocError, Global};
 use std::io::Write;
 use std::thread::Threads;
+use streams::read_parts;
 
 /// The most parts that a list may have: as many as the program takes.
 const MOST_PARTS: usize = 256;

@@ -7,7 +7,6 @@ use audit_program::program;
 use audit_run::{
     HostFiles, Question, Request, SharedFiles, answer_files, run, run_first_fault, run_gated,
 };
-use audit_streams::read_capture;
 use claim_board::{NoGate, Workers};
 use refusal_ledgers::{NoAnswer, Printed, value};
 use report_text::{rows, text};
@@ -15,6 +14,7 @@ use std::alloc::{AllocError, Global};
 use std::fs::Files;
 use std::io::Write;
 use std::thread::Threads;
+use streams::read_capture;
 
 /// The most files that a line may name: as many as a command line may.
 const MOST_FILES: usize = 256;

@@ -6,13 +6,13 @@ use crate::runs::Shown;
 use crate::{parts, pieces, runs};
 use audit_join::CAPTURE_LIMIT;
 use audit_run::{Question, SharedFiles};
-use audit_streams::read_capture;
 use claim_board::Workers;
 use refusal_ledgers::{NoAnswer, Printed, Way, by_name, of_ledgers};
 use std::alloc::Global;
 use std::fs::Files;
 use std::io::{Read, Write};
 use std::thread::Threads;
+use streams::read_capture;
 
 /// Makes the call that the first line of the input names, on the bytes after that line, and prints
 /// its answer. Without input it lists the names.

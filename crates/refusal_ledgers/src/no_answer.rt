@@ -1,7 +1,7 @@
 //! Why a call prints no answer.
-use audit_streams::RunError;
 use std::alloc::AllocError;
 use std::io;
+use streams::RunError;
 
 /// Whether the answer of a call is printed.
 pub type Printed = Result<(), NoAnswer>;

@@ -1,8 +1,8 @@
 use Rattle.std.proofs.Common.{◌≡◌, ◌∙◌}
 use Rattle.std.specs.Vec.Iter.{into_iter_items}
 use Rattle.std.proofs.KnownBytes.{Keeps-refl}
-use Rattle.audit_streams.specs.declared.run_error.RunError.TheVariants.{Memory}
-use Rattle.audit_streams.specs.declared.failure.Failure.TheVariants.{Run}
+use Rattle.streams.specs.declared.run_error.RunError.TheVariants.{Memory}
+use Rattle.streams.specs.declared.failure.Failure.TheVariants.{Run}
 use Rattle.audit_program.specs.Program.{failed}
 use Rattle.audit_program.proofs.status.program_on_args.Goals as goal
 

@@ -1,5 +1,5 @@
 use Rattle.std.proofs.Common.{◌≡◌, ◌<◌, ◌^◌, length, map, refl, arith, rules}
-use Rattle.audit_streams.specs.declared.run_error.RunError.TheVariants.{Memory}
+use Rattle.streams.specs.declared.run_error.RunError.TheVariants.{Memory}
 use Rattle.std.proofs.KnownBytes.{Keeps-refl}
 use Rattle.std.proofs.lemmas.Result.{err_from_is_err_and}
 use Rattle.audit_run.specs.Run.{given, none_given}

@@ -4,7 +4,7 @@ use Rattle.std.proofs.lemmas.Result.{err_from_is_err_and}
 use Rattle.capture_frame.specs.Parts.{joined_as}
 use Rattle.transaction_view.specs.Grammar.{frames_of_parts}
 use Rattle.report_text.specs.Answers.{answer}
-use Rattle.audit_streams.proofs.StretchLaws.{joined_short}
+use Rattle.streams.proofs.StretchLaws.{joined_short}
 use Rattle.audit_run.specs.Question.{reading_status}
 use Rattle.audit_run.proofs.RunLaws.{line_begun, line_written}
 use Rattle.audit_run.proofs.StretchRunLaws.{few_within, same_answer}

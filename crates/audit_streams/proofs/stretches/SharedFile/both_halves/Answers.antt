@@ -1,8 +1,0 @@
-use Rattle.std.proofs.Common.{arith}
-use Rattle.std.proofs.lemmas.Grind.{common_steps}
-use Rattle.std.proofs.lemmas.List.{map-append}
-use Rattle.audit_streams.proofs.StretchLaws.{parts_both}
-use Rattle.audit_streams.proofs.stretches.SharedFile.both_halves.Goals as goal
-
-pub returns-clause-read : goal.returns-clause-read
-returns-clause-read g c = grind (arith, common_steps, parts_both, map-append)
