@@ -10,8 +10,8 @@ and fields. A narrowed listing must be the lines of the whole listing that fit. 
 each capture is cut into a file for each frame. In version 2 a frame has a device. Of the payloads in kit/tokens.py each
 must have the interface and the service that it names, and no other. The columns that listing_tables fills are those of
 viewer/database/schema.sql. Of a malformed capture, with each kind of fault, in one part and in a later one, --tables
-also writes what comes before the fault: a good capture with the same rows. A side list of another version is
-refused; one with many frames in a line is read like one with a line for each frame.
+also writes what comes before the fault: a good capture with the same rows. A side list with many frames in a line is
+read like one with a line for each frame.
 """
 
 import argparse
@@ -27,7 +27,7 @@ from checks.kit.captures import (BC_ACQUIRE, BC_CLEAR_FREEZE_NOTIFICATION, BC_FR
                                  BC_REPLY_SG, BC_REQUEST_FREEZE_NOTIFICATION, BC_TRANSACTION, BC_TRANSACTION_SG,
                                  BR_CLEAR_FREEZE_NOTIFICATION_DONE, BR_FROZEN_BINDER, BR_NOOP, BR_REPLY, BR_TRANSACTION,
                                  BR_TRANSACTION_SEC_CTX, COMMANDS, ENTER, HEADER, HEADER_2, MAX_32, MAX_64, attached,
-                                 each, each_long, entry, frame, frame_header, frozen, loopers, of_handle, offsets, read,
+                                 each, each_long, entry, frame, frame_header, frozen, of_handle, offsets, read,
                                  record, transaction, u32, u64, watch, write)
 from checks.kit.cases import Part, parts_of, play
 from checks.kit.checking import FLAG, Fail, check, compare
@@ -302,39 +302,6 @@ def check_side(program: pathlib.Path, room: pathlib.Path, capture: pathlib.Path,
         today = room / f"{capture.parent.name}.side"
         today.write_text(packed(text, longest), "utf-8", errors="surrogateescape", newline="\n")
         compare(f"{today.name}, in lines of {longest}", listing(capture, "--side", today), (0, due), fail)
-
-
-def check_frames_of_a_line(program: pathlib.Path, room: pathlib.Path, fail: Fail) -> None:
-    """Each frame of a line has its time. From a word on that is no number, or makes a number or a time too large or
-    too small, no frame of the line has one."""
-    capture, side = room / "a.cap", room / "a.side"
-    capture.write_bytes(loopers(4))
-    most = (1 << 64) - 1
-    for frames, due in (("5 frames 1 2 3 4", ["5", "7", "10", "14"]), ("5 frames 1 2 -3 0", ["5", "7", "4", "4"]),
-                        ("5 frames 1", ["5"]), ("5 frames 2 2 3", ["", "5", "7", "10"]),
-                        ("5 frames 1 2 x 4", ["5", "7"]), ("5 frames 1 2  4", ["5", "7"]), ("5 frames 1 -6 9", ["5"]),
-                        (f"{most} frames 1 1", [f"{most}"]), (f"5 frames {most} 1 1", []), ("x frames 1 2", []),
-                        ("5 frames x 2", []), ("5 frames", []),
-                        ("5 frames 1 2 x\n9 frame 3\n11 frames 4 1", ["5", "7", "9", "11"])):
-        side.write_text(f"binder side list 3\n{frames}\n", "utf-8")
-        status, lines = listing(capture, "--side", side)
-        times = [line.partition(" time=")[2].split(" ")[0] for line in lines]
-        compare(f"times of {frames!r}", (status, times), (0, due + [""] * (4 - len(due))), fail)
-
-
-def check_side_begins(program: pathlib.Path, room: pathlib.Path, fail: Fail) -> None:
-    """A side list begins as one of version 1, 2 or 3."""
-    capture, side = "samples/acquire.cap", room / "a.side"
-    refused = 4, ["listing: the side list is not of version 1, 2 or 3"]
-    for begin, due in (("binder side list 1\n", (0, 2)), ("binder side list 2\n", (0, 2)),
-                       ("binder side list 3\n", (0, 2)), ("binder side list 4\n", None), ("binder side list 3", None),
-                       ("binder side list 22\n", None), ("", None), ("5 frame 1\n", None)):
-        side.write_text(begin + "7 frame 1\n" * begin.endswith("\n"), "utf-8")
-        status, lines = listing(capture, "--side", side)
-        if due is None:
-            compare(f"side list that begins {begin!r}", (status, lines), refused, fail)
-        else:
-            compare(f"side list that begins {begin!r}", (status, sum("time=7" in line for line in lines)), due, fail)
 
 
 def check_calls(capture: str, lines: list[list[str]], fail: Fail) -> None:
@@ -631,7 +598,7 @@ PARTS = [
     *(Part(f"tables/{capture.parent.name}", check_tables, (capture,)) for capture in CAPTURES),
     *(Part(f"side/{capture.parent.name}", check_side, (capture,)) for capture in CAPTURES),
     *parts_of(check_captures, check_narrowed, check_freezes, check_forms, check_parts, check_interfaces, check_services,
-              check_side_begins, check_frames_of_a_line, check_before_fault, check_columns, check_places, check_words)]
+              check_before_fault, check_columns, check_places, check_words)]
 
 
 def judge(given: argparse.Namespace, room: pathlib.Path, fail: Fail) -> None:

@@ -7,7 +7,8 @@ sanitizers for memory, prints it. What it prints must be the listings in `stored
 takes all options about lines. With --names each line has the method that the viewer's database names, and the service.
 Of streams that are cut, of which bytes are changed, or rows left out or put elsewhere,
 it must print what it can, and end with a status of ./listing, without a word of a sanitizer: if it is cut, with 4. So
-it must of files of names that are harmed, and print no name that is none.
+it must of side lists and of files of names that are harmed, and print no time and no name that is none. A side list of
+another version is refused.
 """
 
 import argparse
@@ -19,11 +20,13 @@ import struct
 from contextlib import closing
 from typing import Iterator
 
+from checks.hostile.mutations import changed_lines
 from checks.kit import runs, tokens
-from checks.kit.captures import BC_REPLY, BC_TRANSACTION, HANDLE, HEADER, entry, frame, offsets, transaction
+from checks.kit.captures import BC_REPLY, BC_TRANSACTION, HANDLE, HEADER, entry, frame, loopers, offsets, transaction
 from checks.kit.cases import Part, parts_of, play
 from checks.kit.checking import Fail, check, compare
 from checks.kit.programs import CHECKS, DRIVER, ROOT, SMALL
+from checks.kit.side_lists import packed, unpacked
 from checks.kit.tables.reading import Row, numbered, object_rows, names_of, record_row
 from checks.kit.tables.stream import Stream, split, stream_of
 from commands.listing import LISTING
@@ -203,6 +206,70 @@ def check_harmed_names(printer: pathlib.Path, room: pathlib.Path, fail: Fail) ->
     methods.write_bytes(good)
 
 
+# ---- side lists
+
+
+def with_side(printer: pathlib.Path, capture: pathlib.Path, side: pathlib.Path) -> tuple[int, list[str]]:
+    given = Given([("--side", [str(side)])], [str(capture)])
+    return printed(printer, given, stream_for(given))
+
+
+def check_side_begins(printer: pathlib.Path, room: pathlib.Path, fail: Fail) -> None:
+    """A side list begins as one of version 1, 2 or 3."""
+    side = room / "a.side"
+    refused = 4, ["listing: the side list is not of version 1, 2 or 3"]
+    for begin, due in (("binder side list 1\n", (0, 2)), ("binder side list 2\n", (0, 2)),
+                       ("binder side list 3\n", (0, 2)), ("binder side list 4\n", None), ("binder side list 3", None),
+                       ("binder side list 22\n", None), ("binder side list \n", None), ("\n", None), ("", None),
+                       ("5 frame 1\n", None)):
+        side.write_text(begin + "7 frame 1\n" * begin.endswith("\n"), "utf-8")
+        status, lines = with_side(printer, ROOT / "samples/acquire.cap", side)
+        came = (status, lines) if due is None else (status, sum("time=7" in line for line in lines))
+        compare(f"side list that begins {begin!r}", came, due or refused, fail)
+
+
+# The times of four frames, by lines of a side list. Of a line that was cut, or of what is behind one that is too long,
+# none is taken.
+MOST, LONGEST = 2**64 - 1, 2**22
+TIMES_OF = (
+    ("5 frames 1 2 3 4\n", ["5", "7", "10", "14"]), ("5 frames 1 2 -3 0\n", ["5", "7", "4", "4"]),
+    ("5 frames 1\n", ["5"]), ("5 frames 2 2 3\n", ["", "5", "7", "10"]), ("5 frames 1 2 x 4\n", ["5", "7"]),
+    ("5 frames 1 2  4\n", ["5", "7"]), ("5 frames 1 2x 4\n", ["5"]), ("5 frames 1 -6 9\n", ["5"]),
+    ("5 frames 1 0x2\n", ["5"]), (f"5 frames 1 {'2'.zfill(20)} {'3'.zfill(21)}\n", ["5", "7"]),
+    (f"{MOST} frames 1 1\n", [f"{MOST}"]), (f"5 frames {MOST} 1 1\n", []), (f"{MOST + 1} frames 1\n", []),
+    *((f"{line}\n", []) for line in (
+        "x frames 1 2", "5 frames x 2", "5 frames 1x", "5 frames", "5  frames 1", "x frame 1", "-5 frame 1", " frame 1",
+        "5 frame 1 2", "5 frame 0x1", "5 frame", "frame 1", "\0005 frame 1")),
+    ("5 frames 1 2 x\n9 frame 3\n11 frames 4 1\n", ["5", "7", "9", "11"]), ("\n\n5 frame 1\n", ["5"]),
+    ("5 frame 1\n7 frame 2", ["5"]), ("5 frames 1 2 3", []), ("5 frame 1\0\0\n7 frame 2\n\0\0", ["", "7"]),
+    ("5 frame 1\n" + "a" * LONGEST + "\n7 frame 2\n", ["5", "7"]),
+    ("5 frame 1\n" + "\0" * LONGEST + "a\n7 frame 2\n", ["5"]))
+
+
+def check_times(printer: pathlib.Path, room: pathlib.Path, fail: Fail) -> None:
+    """Each frame of a line has its time. From a word on that is no number, or makes a number or a time too large or
+    too small, no frame of the line has one."""
+    capture, side = room / "a.cap", room / "a.side"
+    capture.write_bytes(loopers(4))
+    for text, due in TIMES_OF:
+        side.write_text(f"binder side list 3\n{text}", "utf-8")
+        status, lines = with_side(printer, capture, side)
+        times = [line.partition(" time=")[2].split(" ")[0] for line in lines]
+        compare(f"times of {text[:80]!r}", (status, times), (0, due + [""] * (4 - len(due))), fail)
+
+
+def check_harmed_sides(printer: pathlib.Path, room: pathlib.Path, fail: Fail) -> None:
+    """Side lists of which lines and bytes are changed, cut or lost."""
+    chance, side = random.Random("sides"), room / "a.side"
+    good = SIDE.read_text("utf-8")
+    for form in (good, packed(unpacked(good), 40), unpacked(good)):
+        for _ in range(WAYS * 4):
+            side.write_bytes(changed_lines(chance, form.encode()))
+            status, lines = with_side(printer, SIDED, side)
+            if status not in (0, 4) or any("Sanitizer" in line or "runtime error" in line for line in lines):
+                fail(f"side list {side.read_bytes()!r}: ends with status {status}: {lines[-40:]}")
+
+
 # ---- streams that are harmed
 
 
@@ -251,7 +318,8 @@ def check_harmed(printer: pathlib.Path, room: pathlib.Path, number: int, fail: F
 
 def parts() -> Iterator[Part]:
     yield from (Part(f"stored/{stored.name}", check_stored, (stored,)) for stored in STORED)
-    yield from parts_of(check_options, check_named, check_harmed_names)
+    yield from parts_of(check_options, check_named, check_harmed_names, check_side_begins, check_times,
+                        check_harmed_sides)
     yield from (Part(f"harm/{number}", check_harmed, (number,)) for number in range(HARMED))
 
 

@@ -86,7 +86,8 @@ def said_by(program: Word, status: int, told: bytes) -> str:
 
 # What is built, each of the sources that follow, in C.
 BUILT = {
-    "load": ("load.c", "side_lines.c", "pack_rows.c", "packer.c", "packed.c", "packed_rows.c", "sums.c"),
+    "load": ("load.c", "side_lines.c", "side_reader.c", "pack_rows.c", "packer.c", "packed.c", "packed_rows.c",
+             "sums.c"),
     "packed.so": ("packed.c", "packed_rows.c", "sums.c")}
 
 # How all are built, as Debian's programs are, and how each.

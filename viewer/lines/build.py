@@ -6,7 +6,7 @@ import tempfile
 
 from viewer.database.raw_tables import compile_c, need_compiler
 from viewer.lines.numbers import lines
-from viewer.lines.run import FOLDER, PRINTER, is_ready, path
+from viewer.lines.run import FOLDER, PRINTER, READER, is_ready, path
 
 HEADER = "numbers.h"
 
@@ -15,7 +15,8 @@ def build_printer(folder: pathlib.Path, *how: str) -> pathlib.Path:
     """Builds the printer into a folder, with these words for the compiler besides."""
     sources = pathlib.Path(FOLDER)
     (folder / HEADER).write_text("".join(f"{line}\n" for line in lines()), "utf-8")
-    compile_c(folder / PRINTER, sources, sorted(it.name for it in sources.glob("*.c")), f"-I{folder}", *how)
+    own = sorted(it.name for it in sources.glob("*.c"))
+    compile_c(folder / PRINTER, sources, [*own, f"{READER}.c"], f"-I{folder}", *how)
     return folder / PRINTER
 
 

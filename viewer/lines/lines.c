@@ -302,7 +302,7 @@ static enum status status_of_child(void)
 static void open_files(void)
 {
 	if (asked.side)
-		side_open(asked.side);
+		side_begin(asked.side);
 	if (asked.methods)
 		names_open(asked.methods);
 }

@@ -183,7 +183,8 @@ bool number_in(const char *begin, const char *end, uint64_t *number);
 
 /* ---- side.c: the side list */
 
-void side_open(const char *path);
+/* Opens the list, which must begin as one. */
+void side_begin(const char *path);
 
 /* What the list says of a frame of a thread, each field with what is before it. Frames come in their order. */
 const struct text *side_notes(uint64_t sequence, const struct thread *thread, enum form_of_lines form);

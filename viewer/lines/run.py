@@ -12,8 +12,10 @@ if TYPE_CHECKING:
 FOLDER = os.path.dirname(os.path.realpath(__file__))
 VIEWER = os.path.dirname(FOLDER)
 PRINTER = "lines"
-# What the printer is made of beside its files in C.
-MADE_OF = (f"{FOLDER}/numbers.py", f"{VIEWER}/database/numbers.sql", f"{VIEWER}/malformed.py")
+# What the printer is made of beside its own files in C: the reader of side lists, and names of numbers.
+READER = "../database/side_reader"
+MADE_OF = (f"{FOLDER}/{READER}.c", f"{FOLDER}/{READER}.h", f"{FOLDER}/numbers.py", f"{VIEWER}/database/numbers.sql",
+           f"{VIEWER}/malformed.py")
 PACKED = not os.path.exists(f"{VIEWER}/database/load.c")
 # So many bytes the pipe between the two holds.
 PIPE = 2**20

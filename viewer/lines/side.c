@@ -1,17 +1,18 @@
 /*
- * The side list of ./record, whose form is in docs/SIDE-LIST.md: the times of frames, and the ids and names of processes
- * and threads. It is read line by line, as far as the frames go.
+ * What a side list says: the times of frames, and the ids and names of processes and threads. It is read as far as the
+ * frames go.
  */
-#include <errno.h>
+#include <inttypes.h>
 #include <stdio.h>
-#include <stdlib.h>
 #include <string.h>
 
+#include "../database/side_reader.h"
 #include "lines.h"
 
 /* The first line of each form that is read begins so, and ends in one of these. */
 #define FIRST "binder side list "
 #define VERSIONS "123"
+enum { MOST_DIGITS = 20 };
 
 /* Characters from one place to another. */
 struct part {
@@ -28,19 +29,17 @@ struct person {
 	struct span pid, tid, name;
 };
 
-static FILE *list;
-static char *line;
-static size_t line_room;
+static struct side_reader list;
+/* Nothing more is read: the list has ended, in a line that was cut, or has a line that is too long. */
+static bool has_ended;
 
 /* All ids and names, and those of threads and processes. */
 static struct text words, persons, spans;
 static struct map threads, processes;
 
-/* The latest frame, its time, and that in nanoseconds if it is of a line of several; and the rest of that line. */
+/* The latest frame, and where its line goes on. */
 static bool has_frame;
-static uint64_t frame, nanoseconds;
-static struct text frame_time, following;
-static size_t next;
+static struct side_frame latest;
 
 /* ---- words of a line */
 
@@ -52,25 +51,21 @@ static struct part first_word(struct part in, struct part *rest)
 	return (struct part){ in.at, space ? space : in.end };
 }
 
-static bool begins(struct part in, const char *key)
-{
-	size_t length = strlen(key);
-	return (size_t)(in.end - in.at) >= length && !memcmp(in.at, key, length);
-}
-
 static bool is_word(struct part in, const char *word)
 {
-	return begins(in, word) && in.at + strlen(word) == in.end;
+	return side_after_word(in.at, in.end, word) == in.end;
 }
 
 /* What comes after a key, to the end of the line. */
 static bool after(struct part in, const char *key, struct part *value)
 {
-	for (; in.at < in.end; first_word(in, &in))
-		if (begins(in, key)) {
-			*value = (struct part){ in.at + strlen(key), in.end };
+	for (; in.at < in.end; first_word(in, &in)) {
+		const char *behind = side_after_word(in.at, in.end, key);
+		if (behind) {
+			*value = (struct part){ behind, in.end };
 			return true;
 		}
+	}
 	return false;
 }
 
@@ -78,7 +73,7 @@ static bool after(struct part in, const char *key, struct part *value)
 static bool take_number(struct part *fields, uint64_t *number)
 {
 	struct part word = first_word(*fields, fields);
-	return number_in(word.at, word.end, number) && *number <= UINT32_MAX;
+	return side_after_number(word.at, word.end, number) == word.end && *number <= UINT32_MAX;
 }
 
 static struct span keep(struct part part)
@@ -92,67 +87,6 @@ static bool is_kept(struct span span, struct part part)
 {
 	size_t length = (size_t)(part.end - part.at);
 	return span.end - span.at == length && !memcmp(words.bytes + span.at, part.at, length);
-}
-
-/* ---- times */
-
-static void set_time(const char *bytes, size_t length)
-{
-	frame_time.length = 0;
-	text_add(&frame_time, bytes, length);
-}
-
-static void come_to(uint64_t number, struct part time)
-{
-	has_frame = true;
-	frame = number;
-	set_time(time.at, (size_t)(time.end - time.at));
-}
-
-static void take_frame(struct part time, struct part fields)
-{
-	uint64_t number;
-	if (number_in(fields.at, fields.end, &number))
-		come_to(number, time);
-}
-
-/* Takes the first frame of a line of several. */
-static void take_frames(struct part time, struct part fields)
-{
-	uint64_t number;
-	struct part rest, word = first_word(fields, &rest);
-	if (!number_in(word.at, word.end, &number) || !number_in(time.at, time.end, &nanoseconds))
-		return;
-	come_to(number, time);
-	next = following.length = 0;
-	text_add(&following, rest.at, (size_t)(rest.end - rest.at));
-}
-
-/* The time that comes so many nanoseconds after another, or with `-` before it. */
-static bool time_after(uint64_t time, struct part later, uint64_t *found)
-{
-	uint64_t by;
-	bool is_earlier = begins(later, "-");
-	return number_in(later.at + is_earlier, later.end, &by)
-		&& !(is_earlier ? __builtin_sub_overflow(time, by, found) : __builtin_add_overflow(time, by, found));
-}
-
-/* Takes the next frame of a line of several, if one is left. What comes after a word that is no number is skipped. */
-static bool take_next(void)
-{
-	if (next >= following.length)
-		return false;
-	struct part rest, left = { following.bytes + next, following.bytes + following.length };
-	struct part later = first_word(left, &rest);
-	if (frame == UINT64_MAX || !time_after(nanoseconds, later, &nanoseconds)) {
-		next = following.length;
-		return false;
-	}
-	char digits[24];
-	frame++;
-	next = (size_t)(rest.at - following.bytes);
-	set_time(digits, (size_t)sprintf(digits, "%llu", (unsigned long long)nanoseconds));
-	return true;
 }
 
 /* ---- names */
@@ -236,27 +170,33 @@ static bool is_utf8(const char *bytes, size_t left)
 	return true;
 }
 
-static size_t read_line(void)
+/* Reads the next line. Returns whether there is one. */
+static bool read_line(void)
 {
-	errno = 0;
-	ssize_t length = getline(&line, &line_room, list);
-	if (length < 0 && (ferror(list) || errno == ENOMEM))
-		stop(errno == ENOMEM ? NO_MEMORY : FAILED, errno == ENOMEM ? "fault Memory" : "fault Read");
-	return length < 0 ? 0 : (size_t)length;
+	enum side_came came = has_ended ? SIDE_END : side_next_line(&list);
+	if (came == SIDE_NO_MEMORY)
+		stop(NO_MEMORY, "fault Memory");
+	if (came == SIDE_UNREADABLE)
+		stop(FAILED, "fault Read");
+	has_ended = came != SIDE_LINE;
+	return !has_ended;
 }
 
-/* Takes a line. One of another sort is skipped, and one that is no UTF-8. */
-static void take_line(size_t length)
+/* Takes the line. One of another sort is skipped, and one that is no UTF-8. */
+static void take_line(void)
 {
-	if (!is_utf8(line, length))
+	struct side_frame frame;
+	if (side_first_frame(&list, &frame)) {
+		has_frame = true;
+		latest = frame;
 		return;
-	struct part fields, in = { line, line + length - (line[length - 1] == '\n') };
-	struct part time = first_word(in, &fields), word = first_word(fields, &fields);
-	if (is_word(word, "frame"))
-		take_frame(time, fields);
-	else if (is_word(word, "frames"))
-		take_frames(time, fields);
-	else if (is_word(word, "process"))
+	}
+	if (!is_utf8(list.line, list.length))
+		return;
+	struct part fields, word, in = { list.line, list.line + list.length };
+	first_word(in, &fields);
+	word = first_word(fields, &fields);
+	if (is_word(word, "process"))
 		take_process(fields);
 	else if (is_word(word, "thread"))
 		take_thread(fields);
@@ -264,27 +204,25 @@ static void take_line(size_t length)
 		rename_threads(fields);
 }
 
-void side_open(const char *path)
+void side_begin(const char *path)
 {
-	list = fopen(path, "re");
-	if (!list)
+	if (!side_open(&list, path))
 		stop(FAILED, "fault Open");
-	size_t length = read_line(), begin = strlen(FIRST);
-	if (length != begin + 2 || memcmp(line, FIRST, begin) || !memchr(VERSIONS, line[begin], strlen(VERSIONS))
-	    || line[length - 1] != '\n')
+	const char *version = read_line() ? side_after_word(list.line, list.line + list.length, FIRST) : NULL;
+	if (!version || version + 1 != list.line + list.length || !memchr(VERSIONS, *version, strlen(VERSIONS)))
 		stop(FAILED, "listing: the side list is not of version 1, 2 or 3");
 }
 
 /* Reads on to the line of the frame with this sequence, or of the first frame after it. */
 static void go_to(uint64_t sequence)
 {
-	while (!has_frame || frame < sequence) {
-		if (take_next())
+	while (!has_frame || latest.number < sequence) {
+		if (side_next_frame(&latest))
 			continue;
-		size_t length = read_line();
-		if (!length)
+		latest.at = NULL;	/* the line goes */
+		if (!read_line())
 			break;
-		take_line(length);
+		take_line();
 	}
 }
 
@@ -339,8 +277,10 @@ const struct text *side_notes(uint64_t sequence, const struct thread *thread, en
 	const uint64_t *of_process = map_find(&processes, (uint64_t[]){ thread->device, thread->process, 0 });
 	const struct person *person = of_thread ? (const struct person *)(void *)persons.bytes + *of_thread : NULL;
 	notes.length = 0;
-	bool is_timed = has_frame && frame == sequence;
-	add_noted(&notes, form, " time=", is_timed ? frame_time.bytes : "", is_timed ? frame_time.length : 0);
+	char time[MOST_DIGITS + 1] = "";
+	if (has_frame && latest.number == sequence)
+		sprintf(time, "%" PRIu64, latest.time);
+	add_noted(&notes, form, " time=", time, strlen(time));
 	add_span(&notes, form, " pid=", person ? &person->pid : NULL);
 	add_span(&notes, form, " tid=", person ? &person->tid : NULL);
 	add_span(&notes, form, " thread=", person ? &person->name : NULL);
