@@ -1,7 +1,6 @@
 """Numbers for the data of transactions, by which it is known which calls are alike, and the exceptions of replies: the
 database has no data. In a redacted capture the same data have the same bytes too, and each exception is there."""
 
-import mmap
 import os
 import sqlite3
 from contextlib import ExitStack
@@ -25,19 +24,20 @@ ALL_EXCEPTIONS = (
 
 
 class Data:
-    """The data of the records of a capture in these files, whose places are those of the joined capture."""
+    """The data of the records of a capture in these files, whose places are those of the joined capture. The files are
+    not mapped: what was looked at would stay in memory, with all that lies around it, and a file that is cut meanwhile
+    would end this program."""
 
     def __init__(self, files: list[str]):
         self.stack = ExitStack()
-        self.parts: list[tuple[int, mmap.mmap]] = []
+        self.parts: list[tuple[int, int]] = []
         base = 0
         for name in files:
-            with open(name, "rb") as file:
-                size = os.fstat(file.fileno()).st_size
-                if size > FILE_HEADER:
-                    mapped = mmap.mmap(file.fileno(), size, access=mmap.ACCESS_READ)
-                    self.parts.append((base, self.stack.enter_context(mapped)))
-                    base += size - FILE_HEADER
+            file = self.stack.enter_context(open(name, "rb", buffering=0)).fileno()
+            size = os.fstat(file).st_size
+            if size > FILE_HEADER:
+                self.parts.append((base, file))
+                base += size - FILE_HEADER
 
     def __enter__(self) -> "Data":
         return self
@@ -61,9 +61,12 @@ class Data:
 
     def bytes_of(self, attachment: int, size: int) -> bytes:
         """So many bytes of an entry that begins there, after its header."""
-        base, data = next(part for part in reversed(self.parts) if part[0] + FILE_HEADER <= attachment)
+        base, file = next(part for part in reversed(self.parts) if part[0] + FILE_HEADER <= attachment)
         begin = attachment - base + ENTRY_HEADER
-        return data[begin:begin + size]
+        data = os.pread(file, size, begin)
+        while len(data) < size and (more := os.pread(file, size - len(data), begin + len(data))):
+            data += more  # the system reads at most 2 GiB at once
+        return data
 
 
 def take_all(database: sqlite3.Connection, files: list[str]) -> None:
