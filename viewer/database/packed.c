@@ -594,7 +594,8 @@ static const sqlite3_module packed_module = {
 int packed_module_add(sqlite3 *database)
 {
 	int status = sqlite3_create_module(database, "packed", &packed_module, NULL);
-	return status ? status : sums_module_add(database);
+	status = status ? status : sums_module_add(database);
+	return status ? status : packed_keys_add(database);
 }
 
 static int add_to_new(sqlite3 *database, const char **why, const void *calls)

@@ -58,7 +58,9 @@ int packer_end(struct packer *packer);
  *
  *     CREATE VIRTUAL TABLE NAME USING packed('PATH', (COLUMNS) [, NUMBER]..)
  *
- * NUMBER is that of a column, from 0, by which rows are found too. And adds the module `sums` of sums.c.
+ * NUMBER is that of a column, from 0, by which rows are found too. And adds the module `sums` of sums.c, and the
+ * functions of packed_keys.c.
  */
 int packed_module_add(sqlite3 *database);
 int sums_module_add(sqlite3 *database);
+int packed_keys_add(sqlite3 *database);

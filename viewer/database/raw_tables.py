@@ -84,11 +84,11 @@ def said_by(program: Word, status: int, told: bytes) -> str:
     return said or f"{os.path.basename(program)} ended with status {status}"
 
 
-# What is built, each of the sources that follow, in C.
+# What reads packed tables, and what is built, each of the sources that follow, in C.
+PACKED_C = ("packed.c", "packed_rows.c", "packed_keys.c", "sums.c")
 BUILT = {
-    "load": ("load.c", "side_lines.c", "side_reader.c", "pack_rows.c", "packer.c", "packed.c", "packed_rows.c",
-             "sums.c"),
-    "packed.so": ("packed.c", "packed_rows.c", "sums.c")}
+    "load": ("load.c", "side_lines.c", "side_reader.c", "pack_rows.c", "packer.c", *PACKED_C),
+    "packed.so": PACKED_C}
 
 # How all are built, as Debian's programs are, and how each.
 HARDENED = ("-D_FORTIFY_SOURCE=2", "-Wl,-z,relro,-z,now")

@@ -5,6 +5,9 @@ A capture may be cut at either end, be some of the parts of a recording, or lack
 frames than the capture only gives a doubt."""
 
 import sqlite3
+from typing import NamedTuple
+
+from viewer.database.finders import path_of
 
 OTHER = "the side list belongs to another capture"
 
@@ -24,8 +27,31 @@ MORE = """SELECT count(*) FILTER (WHERE s.seq < c.first_seq),
     count(*) FILTER (WHERE c.last_seq IS NULL OR s.seq > c.last_seq)
   FROM raw_capture c, side_time s"""
 
-# Those that look at all frames, or at all times.
-LONG = {"untold": UNTOLD, "more": MORE}
+# The same of packed tables, by the keys in their files (packed_keys.c). MORE is asked where each frame is told.
+UNTOLD_IN_FILES = """SELECT seq FROM (SELECT first_only_in(:frames, :times) AS seq) WHERE seq <= :last"""
+
+MORE_IN_FILES = f"""SELECT rows_up_to(:times, first_seq) - 1,
+    rows_up_to(:times, last_seq) - rows_up_to(:times, first_seq) + 1 - frames,
+    rows_up_to(:times, {2**63 - 1}) - ifnull(rows_up_to(:times, last_seq), 0)
+  FROM raw_capture"""
+
+
+class Looks(NamedTuple):
+    """The statements by their names, those of them that look at all frames, or at all times, and their values."""
+    text: dict[str, str]
+    long: tuple[str, ...]
+    values: dict[str, object]
+
+
+def looks_of(database: sqlite3.Connection, last: int) -> Looks:
+    """The looks at a side list with this last number."""
+    packed, = database.execute("SELECT count(*) FROM sqlite_schema WHERE name IN ('raw_frame', 'side_time')"
+                               " AND sql LIKE 'CREATE VIRTUAL %'").fetchone()
+    if packed < 2:
+        return Looks({"untold": UNTOLD, "more": MORE}, ("untold", "more"), {"last": last})
+    path = path_of(database)
+    return Looks({"untold": UNTOLD_IN_FILES, "more": MORE_IN_FILES}, ("untold",),
+                 {"last": last, "frames": f"{path}.raw_frame", "times": f"{path}.side_time"})
 
 
 def why_other(database: sqlite3.Connection, last: int, ended: bool, untold: tuple | None) -> str | None:

@@ -253,13 +253,16 @@ class SideList:
 
     def begin_to_compare(self, finders: Finders) -> None:
         """Has other processes compare the numbers of frames with those of the capture."""
-        finders.begin([Query(*it) for it in side_belongs.LONG.items()], [], {"last": self.last()})
+        looks = side_belongs.looks_of(self.database, self.last())
+        finders.begin([Query(name, looks.text[name]) for name in looks.long], [], looks.values)
 
     def doubt(self, finders: Finders | None) -> str | None:
         """Refuses a list that certainly belongs to another capture. Returns the doubt if it may belong to another."""
+        looks = side_belongs.looks_of(self.database, self.last())
+
         def first(name: str) -> tuple | None:
-            if not finders:
-                return self.database.execute(side_belongs.LONG[name], {"last": self.last()}).fetchone()
+            if not finders or not finders.has(name):
+                return self.database.execute(looks.text[name], looks.values).fetchone()
             with finders.found(self.database, name):
                 return self.database.execute("SELECT * FROM found.rows").fetchone()
         why = side_belongs.why_other(self.database, self.last(), "end_ts" in self.facts, first("untold"))

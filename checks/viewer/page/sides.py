@@ -9,6 +9,7 @@ import sqlite3
 import subprocess
 import time
 from typing import Callable
+from unittest import mock
 
 from checks.kit.checking import Fail, compare
 from checks.kit.frames import frames_of
@@ -16,7 +17,7 @@ from checks.kit.programs import DRIVER
 from checks.kit.rows import columns_of_tables, rows_of
 from checks.kit.side_lists import packed, unpacked
 from checks.viewer.page.common import loaded, texts_of, texts_stored, view
-from viewer.database import programs, raw_tables, side_list
+from viewer.database import finders, loading, programs, raw_tables, side_list
 from viewer.database.sqlite import open_database
 from viewer.files import Stopped
 from viewer.units import signed
@@ -29,6 +30,17 @@ def renumbered(scenario: str, other: str) -> str:
     return re.sub(r"(?<=[ =])\d+(?= )", lambda found: numbers.get(found[0], found[0]), sides[0])
 
 
+def doubt_if_packed(folder: pathlib.Path, made: pathlib.Path, capture: pathlib.Path, side: pathlib.Path) -> str:
+    """What is said of a side list where tables are packed and other processes look at them, as of a large capture."""
+    with mock.patch.object(finders, "LEAST_RECORDS", 0), mock.patch.object(loading, "LEAST_PACKED", 0):
+        try:
+            loading.database_of(folder, [str(capture)], str(side), made, lambda _: None, kept=False)
+        except Stopped as stopped:
+            return stopped.line
+    with contextlib.closing(open_database(made)) as database:
+        return database.execute("SELECT value FROM capture WHERE key = 'side_doubt'").fetchone()[0] or ""
+
+
 def check_side(folder: pathlib.Path, room: pathlib.Path, fail: Fail) -> None:
     """A side list of another capture is refused. If one may belong to another, a line says so, also on the page."""
     capture, side = texts_stored("leaks")
@@ -38,7 +50,8 @@ def check_side(folder: pathlib.Path, room: pathlib.Path, fail: Fail) -> None:
     # A word that the list may have in time is passed over.
     side = side.replace("\n", "\n1 lines 0 a=b\n2 line\n", 1)
     stopped = side[:side.index(" frame 50\n")].rpartition("\n")[0] + "\n"
-    lists = {"whole": side, "stopped": stopped, "short": stopped + "9 end recording after=49 frames=49 lost=0\n",
+    lists = {"whole": side, "stopped": stopped, "none": side[:side.index(" frame 1\n")].rpartition("\n")[0] + "\n",
+             "short": stopped + "9 end recording after=49 frames=49 lost=0\n",
              "lost": side.replace(" frame 30\n", " lost 30 why=call-unreadable\n"),
              "later": re.sub(r"^((?:.* (?:process|command|thread) 0 176 .*\n){3})(.* frame 25\n)", r"\2\1", side,
                              flags=re.MULTILINE)}
@@ -57,6 +70,8 @@ def check_side(folder: pathlib.Path, room: pathlib.Path, fail: Fail) -> None:
            ("weak-refs", "renumbered", 0, more.format("35 after the last")),
            ("whole", "stopped", 0, "the side list ends with frame 49, before the capture does: it was cut, or belongs"
             " to another capture"),
+           ("whole", "none", 0, "the side list ends with frame 0, before the capture does: it was cut, or belongs to"
+            " another capture"),
            ("whole", "short", 1, other.format("it ends with frame 49, and the capture has frame 50")),
            ("whole", "lost", 1, other.format("it does not have frame 30 of the capture")),
            ("whole", "later", 1, other.format("thread 176 of process 176 on device 0 makes a call in frame 25 of the"
@@ -65,9 +80,11 @@ def check_side(folder: pathlib.Path, room: pathlib.Path, fail: Fail) -> None:
                                                 " capture, and the list has not named that thread by then"))]
     for number, (cap, list_, status, line) in enumerate(due):
         shown = room / f"side-{number}.html"
-        came, _, told = view(folder, room, f"{cap}.cap", "--side", f"{list_}.side", "-o", shown.name)
+        ended, _, told = view(folder, room, f"{cap}.cap", "--side", f"{list_}.side", "-o", shown.name)
         what = f"{cap}.cap with {list_}.side"
-        compare(what, (came, told), (status, f"view: {line}\n" if line else ""), fail)
+        compare(what, (ended, told), (status, f"view: {line}\n" if line else ""), fail)
+        came = doubt_if_packed(folder, room / f"side-{number}.db", room / f"{cap}.cap", room / f"{list_}.side")
+        compare(f"{what}, packed", came, line, fail)
         compare(f"{what}, the page is there", shown.exists(), status == 0, fail)
         if shown.exists():
             compare(f"{what}, the page says it", "The side list " in shown.read_text("utf-8"), bool(line), fail)
