@@ -53,7 +53,7 @@ def named_numbers(database: sqlite3.Connection) -> dict[str, int]:
 
 def open_database(path: pathlib.Path) -> sqlite3.Connection:
     """The database, without a journal: it has no other user, and is made again if it is not whole."""
-    database = sqlite3.connect(path, isolation_level=None)
+    database = sqlite3.connect(path, isolation_level=None, cached_statements=1000)
     for setting in ("journal_mode=OFF", "synchronous=OFF", "locking_mode=EXCLUSIVE", "cache_size=-131072",
                     "temp_store=MEMORY"):
         database.execute(f"PRAGMA {setting}")

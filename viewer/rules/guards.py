@@ -1,11 +1,13 @@
 """What a statement takes rows of. Where nothing of that is there, the statement does nothing, as for a capture without
 freeze notifications, and need not be compiled; nor does a form of it that checks try."""
 
-from typing import Iterator, NamedTuple
+from typing import Callable, Iterator, Mapping, NamedTuple, Union
 
 from viewer.rules.sql import Clause, Group, Item, Token, clauses, items_of, split
 
-AGGREGATES = ("COUNT", "SUM", "MIN", "MAX", "AVG", "TOTAL", "GROUP_CONCAT")
+AGGREGATES = ("COUNT", "SUM", "MIN", "MAX", "AVG", "TOTAL", "GROUP_CONCAT", "JSON_GROUP_ARRAY", "JSON_GROUP_OBJECT")
+# Of two values or more they are the least and the greatest one of a row.
+OF_A_ROW = ("MIN", "MAX")
 # By these a term says which findings it takes.
 OF_FINDING = ("section", "rule", "what")
 
@@ -26,51 +28,93 @@ class Guard(NamedTuple):
         return end <= self.start or self.end <= start
 
 
-def guards_of(statement: str) -> list[list[Guard]]:
-    """For each part of a UNION, or for the whole statement, its guards. Nothing is done if each part has one without
-    rows."""
-    items = items_of(statement)
-    columns_left = [item for item in items if not isinstance(item, Group) or item.is_query]
-    names = {one.text for one, other in zip(columns_left, columns_left[1:])
-             if isinstance(one, Token) and other.says("AS")}
-    return [list(guards_in(statement, part, names)) for part in parts_of(clauses(items))]
+# The parts of a UNION, or a query that is one, each with its guards: tables, and queries from which it takes rows.
+Parts = list[list[Union[Guard, "Parts"]]]
+Views = Mapping[str, Parts]
+
+
+def finds_nothing(parts: Parts, is_empty: Callable[[Guard], bool]) -> bool:
+    """Whether each part has a guard without rows."""
+    return bool(parts) and all(
+        any(is_empty(one) if isinstance(one, Guard) else finds_nothing(one, is_empty) for one in part)
+        for part in parts)
+
+
+def guards_of(statement: str, views: Views = {}) -> Parts:
+    """The guards of a statement, or of the query of a view; `views` has those of views before it."""
+    return Reading(statement).parts(items_of(statement), views)
+
+
+class Reading(NamedTuple):
+    """A statement that is read."""
+    text: str
+
+    def parts(self, items: list[Item], views: Views, within: Group | None = None, name: str = "") -> Parts:
+        """The guards of a query, which WITH may give this name. A part that takes rows of the query itself has none
+        before another part has some, and is left out."""
+        every, known = clauses(items), {**views, name: [[]]}
+        for called, query in (one for clause in every if clause.says("WITH") for one in named_by(clause)):
+            known[called] = self.parts(query.items, known, query, called)
+        return [self.guards(part, known, within) for part in parts_of(every)
+                if name not in (table for table, _ in tables_of(part))]
+
+    def guards(self, part: list[Clause], views: Views, within: Group | None) -> list[Union[Guard, Parts]]:
+        """The guards of a part."""
+        if any(has_aggregate(one.items) for one in part) and not any(one.says("GROUP") for one in part):
+            return []  # it has a row whatever is there
+        found: list[Union[Guard, Parts]] = []
+        start, end = (within.start, within.end) if within else (0, 0)
+        aliases = set()
+        for table, alias in tables_of(part):
+            found.append(views[table] if table in views else Guard(table, "", start, end))
+            aliases |= {alias} if table == "finding" else set()
+        found += [self.parts(one.items, views, one) for one in queries_of(part)]
+        for term in terms_of(part):
+            said = term_of_finding(self.text, term, aliases)
+            if said:
+                found.append(Guard("finding", f" WHERE {said}", term[0].start, term[-1].end))
+        return found
 
 
 def parts_of(every: list[Clause]) -> Iterator[list[Clause]]:
     """The clauses of each part. What comes before the first SELECT belongs to none, but what an UPDATE changes does."""
     part: list[Clause] = []
     for clause in every:
-        if clause.says("SELECT") and any(one.says("SELECT") for one in part):
+        if clause.says("SELECT", "VALUES") and any(one.says("SELECT", "VALUES") for one in part):
             yield part
             part = []
-        if part or clause.says("SELECT", "UPDATE", "DELETE"):
+        if part or clause.says("SELECT", "VALUES", "UPDATE", "DELETE"):
             part.append(clause)
     yield part
 
 
-def guards_in(statement: str, part: list[Clause], queries: set[str]) -> Iterator[Guard]:
-    """The guards of a part. `queries` has names that are of queries, such as those of WITH."""
-    sums = any(one.says("SELECT") and has_aggregate(one.items) for one in part)
-    if sums and not any(one.says("GROUP") for one in part):
-        return  # it has a row whatever is there
-    aliases = set()
-    for table, alias in tables_of(part):
-        if table not in queries:
-            yield Guard(table)
-            aliases |= {alias} if table == "finding" else set()
-    for clause in part:
-        for term in split(clause.items, "AND") if clause.says("WHERE") and not split(clause.items, "OR")[1:] else []:
-            said = term_of_finding(statement, term, aliases)
-            if said:
-                yield Guard("finding", f" WHERE {said}", term[0].start, term[-1].end)
+def named_by(clause: Clause) -> Iterator[tuple[str, Group]]:
+    """The queries of a WITH, by their names."""
+    for member in split(clause.items, ","):
+        items = [item for item in member if not item.says("RECURSIVE")]
+        if items and isinstance(items[0], Token) and isinstance(items[-1], Group) and items[-1].is_query:
+            yield items[0].text, items[-1]
 
 
 def has_aggregate(items: list[Item]) -> bool:
-    return any(has_aggregate(item.items) if isinstance(item, Group) else item.says(*AGGREGATES) for item in items)
+    """Whether a value is of many rows. Over a window a function has a value for each row."""
+    for at, item in enumerate(items):
+        if isinstance(item, Group):
+            if not item.is_query and has_aggregate(item.items):
+                return True
+        elif item.says(*AGGREGATES) and items[at + 1:] and isinstance(items[at + 1], Group):
+            of, after = items[at + 1], items[at + 2:]
+            assert isinstance(of, Group)
+            if after and after[0].says("FILTER"):
+                after = after[2:]
+            is_of_a_row = item.says(*OF_A_ROW) and split(of.items, ",")[1:]
+            if not is_of_a_row and not (after and after[0].says("OVER")):
+                return True
+    return False
 
 
-def tables_of(part: list[Clause]) -> Iterator[tuple[str, str]]:
-    """The tables that are joined so that without a row of them there is none, with the names that they have here."""
+def members_of(part: list[Clause]) -> Iterator[list[Item]]:
+    """What is joined so that without a row of it there is none."""
     for before, clause in zip([None, *part], part):
         members = split(clause.items, ",")
         if clause.says("UPDATE", "FROM"):
@@ -82,9 +126,42 @@ def tables_of(part: list[Clause]) -> Iterator[tuple[str, str]]:
         else:
             continue
         for member in members:
-            if member and isinstance(member[0], Token) and member[0].kind == "word" and not any(
-                    item.says(".") or isinstance(item, Group) for item in member):
-                yield member[0].text, member[-1].text  # type: ignore[union-attr]
+            window = next((at for at, item in enumerate(member) if item.says("WINDOW")), len(member))
+            yield member[:window]
+
+
+def tables_of(part: list[Clause]) -> Iterator[tuple[str, str]]:
+    """The tables that are joined so, with the names that they have here."""
+    for member in members_of(part):
+        if member and isinstance(member[0], Token) and member[0].kind == "word" and not any(
+                item.says(".") or isinstance(item, Group) for item in member):
+            yield member[0].text, member[-1].text  # type: ignore[union-attr]
+
+
+def queries_of(part: list[Clause]) -> Iterator[Group]:
+    """The queries that are joined so, and those of which a term wants a row."""
+    for member in members_of(part):
+        if member and isinstance(member[0], Group) and member[0].is_query:
+            yield member[0]
+    for term in terms_of(part):
+        if isinstance(term[-1], Group) and term[-1].is_query and wants_row(term[:-1]):
+            yield term[-1]
+
+
+def wants_row(before: list[Item]) -> bool:
+    """Whether a term that says this before a query wants a row of it: EXISTS, or IN after a column or some."""
+    if len(before) == 1:
+        return before[0].says("EXISTS")
+    return bool(before) and before[-1].says("IN") and all(
+        item.says(".", "+") or isinstance(item, Group) or item.kind == "word" and not item.says("NOT")
+        for item in before[:-1])
+
+
+def terms_of(part: list[Clause]) -> Iterator[list[Item]]:
+    """The terms of which each must hold."""
+    for clause in part:
+        if clause.says("WHERE") and not split(clause.items, "OR")[1:]:
+            yield from filter(None, split(clause.items, "AND"))
 
 
 def term_of_finding(statement: str, term: list[Item], aliases: set[str]) -> str | None:

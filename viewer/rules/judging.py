@@ -12,10 +12,11 @@ from viewer.database.finders import Finders, Given, Query, insert, path_of
 from viewer.database.sqlite import named_numbers
 from viewer.exceptions import exception_name
 from viewer.page.texts import APPS
+from viewer.rules.emptiness import Emptiness
 from viewer.rules.names import Names, short_of
 from viewer.rules.notes import note_text
 from viewer.rules.paths import call_words, name_words, object_words, path_text, thing_words
-from viewer.rules.plan import FOLDER, Guard, Plan, Statement, plan_of
+from viewer.rules.plan import FOLDER, Guards, Plan, Statement, plan_of
 from viewer.rules.thresholds import THRESHOLDS
 from viewer.rules.verdicts import RANKS
 from viewer.timing import Timing
@@ -81,7 +82,7 @@ class Judging:
                  is_ruled: bool = False):
         self.database, self.plan, self.timing = database, with_sums(database, plan), timing
         self.finders, self.is_ruled = finders, is_ruled
-        self.empty: dict[str, dict[str, bool]] = {}
+        self.empty = Emptiness(database, (it.name for it in plan.statements if is_ruled and it.makes == "TABLE"))
         self.numbers = numbers_of(database)
         self.packed = packed_tables(database)
 
@@ -111,20 +112,14 @@ class Judging:
         """Runs a statement where all tables are there, if it finds anything. A table is filled in place of made."""
         if statement.makes and not statement.query:
             return
-        text = f"INSERT INTO {statement.name} {statement.text[statement.query:]}" if statement.makes else statement.text
-        rows = 0 if self.finds_nothing(statement) else self.database.execute(text, self.numbers).rowcount
-        if rows or statement.makes:
-            self.empty[statement.name] = {"": not rows}
-
-    def finds_nothing(self, statement: Statement) -> bool:
-        return bool(statement.guards) and all(any(map(self.is_empty, part)) for part in statement.guards)
-
-    def is_empty(self, guard: Guard) -> bool:
-        """Whether a table has no row for which something holds. This is asked again after the table was changed."""
-        known = self.empty.setdefault(guard[0], {})
-        if guard[1] not in known:
-            known[guard[1]] = self.database.execute("SELECT 1 FROM {}{} LIMIT 1".format(*guard)).fetchone() is None
-        return known[guard[1]]
+        rows = 0
+        if not self.empty.finds_nothing(statement.guards):
+            text = statement.text
+            if statement.makes:
+                text = f"INSERT INTO {statement.name} {text[statement.query:]}"
+            rows = self.database.execute(text, self.numbers).rowcount
+        if rows:
+            self.empty.changed(statement.name, "DELETE" not in statement.text)
 
     def begin(self, file: str) -> None:
         """Has other processes find the rows of statements for which all is there after a file."""
@@ -160,11 +155,11 @@ class Judging:
         elif file == "rule.sql":
             for table, rows in self.plan.rows.items():
                 insert(self.database, table, rows)
-            self.empty.clear()
+            self.empty.forget()
         elif file == "waits.sql" and self.database.execute("SELECT 1 FROM step LIMIT 1").fetchone():
             from viewer.rules import waiting
             waiting.count(self.database, int(THRESHOLDS["POOLS"]))
-            self.empty.clear()
+            self.empty.forget()
 
 
 def packed_tables(database: sqlite3.Connection) -> set[str]:

@@ -6,9 +6,12 @@ import functools
 import marshal
 import pathlib
 import re
-from typing import NamedTuple
+from typing import TYPE_CHECKING, Iterator, NamedTuple
 
 from viewer.kept import kept
+
+if TYPE_CHECKING:
+    from viewer.rules.guards import Parts
 
 FOLDER = pathlib.Path(__file__).resolve().parent
 # The name of the file.
@@ -24,8 +27,9 @@ MAKES = re.compile(r"^(?:CREATE (?:UNIQUE )?(?:TEMP )?(TABLE|VIEW|INDEX) (?:\S+ 
 BESIDE, QUERY = re.compile(r"^-- beside: (\S+)$", re.M), re.compile(r"\b(?:SELECT|WITH)\b")
 
 
-# A table, and what must hold for a row of it, as ` WHERE section = 'calls'`, or nothing.
-Guard = tuple[str, str]
+# A guard is a table, and what must hold for a row of it, as `finding WHERE section = 'calls'`; or a query, of which each
+# part has guards.
+Guards = tuple[tuple["str | Guards", ...], ...]
 
 
 class Statement(NamedTuple):
@@ -39,7 +43,7 @@ class Statement(NamedTuple):
     name: str
     beside: str
     query: int
-    guards: tuple[tuple[Guard, ...], ...] = ()
+    guards: Guards = ()
 
 
 class Plan(NamedTuple):
@@ -73,22 +77,43 @@ def plan_in(folder: pathlib.Path) -> Plan:
 # ---- the file in which it is kept
 
 
-def with_guards(statement: Statement, tables: set[str]) -> Statement:
-    """The statement with its guards. Of a view nobody knows when it gets a row, so only tables are asked."""
-    from viewer.rules.guards import guards_of
-    assert statement.name, statement.text  # else nobody knows which guards to ask again after it
-    return statement._replace(guards=tuple(
-        tuple((guard.table, guard.condition) for guard in part if guard.table in tables)
-        for part in guards_of(statement.text)))
+def with_guards(statements: list[Statement]) -> Iterator[Statement]:
+    """The statements with their guards. Of a view nobody knows when it gets a row, so those of its query are asked."""
+    from viewer.database.raw_tables import schema
+    from viewer.database.sqlite import statements_in
+    from viewer.rules.guards import Parts, guards_of
+    tables: set[str] = set()
+    views: dict[str, Parts] = {}
+    for one in (*(statement_of("", text) for text in statements_in(schema())), *statements):
+        guards = guards_of(one.text, views)
+        if one.makes == "VIEW":
+            views[one.name] = guards
+        elif one.makes == "TABLE":
+            tables.add(one.name)
+        if one.file:
+            assert one.name, one.text  # else nobody knows which guards to ask again after it
+            yield one._replace(guards=kept_of(guards, tables))
+
+
+def kept_of(guards: "Parts", tables: set[str]) -> Guards:
+    """The guards of tables, and of queries that have one for each part: a part without one may have rows any time."""
+    parts = []
+    for part in guards:
+        found: dict[str | Guards, None] = {}
+        for one in part:
+            if isinstance(one, list):
+                query = kept_of(one, tables)
+                found |= {query: None} if all(query) else {}
+            elif one.table in tables:
+                found[f"{one.table}{one.condition}"] = None
+        parts.append(tuple(found))
+    return tuple(parts)
 
 
 def write_plan(path: pathlib.Path) -> None:
     """Writes the plan of the rules of this folder."""
-    from viewer.database.raw_tables import schema
     statements, rows = plan_in(FOLDER)
-    tables = {*re.findall(r"^CREATE TABLE (\w+)", schema(), re.M),
-              *(it.name for it in statements if it.makes == "TABLE")}
-    path.write_bytes(marshal.dumps(([tuple(with_guards(it, tables)) for it in statements], rows), FORM))
+    path.write_bytes(marshal.dumps(([tuple(one) for one in with_guards(statements)], rows), FORM))
 
 
 @functools.cache

@@ -14,7 +14,7 @@ import struct
 from typing import Callable, Mapping, NamedTuple, Sequence
 
 from checks.viewer.wrong_rules.forms import forms_of
-from viewer.rules.guards import Guard, guards_of
+from viewer.rules.guards import Guard, Parts, finds_nothing, guards_of
 from checks.viewer.wrong_rules.judge import Judged, Rows, changed_by, filling, query_of
 from viewer.rules.sql import tokens_of
 
@@ -82,7 +82,7 @@ class Forms(NamedTuple):
     table: str
     query: int | None
     is_view: bool
-    guards: Sequence[Sequence[Guard]]
+    guards: Parts
 
 
 def by_statement(forms: Sequence[Wrong]) -> dict[str, Forms]:
@@ -238,8 +238,7 @@ class Trying(Judged):
 
     def does_nothing(self, of: Forms, form: Wrong) -> bool:
         """Whether neither the statement nor a form of it finds a row."""
-        return all(any(guard.is_left_by(form.start, form.end) and self.is_empty(guard) for guard in part)
-                   for part in of.guards)
+        return finds_nothing(of.guards, lambda guard: guard.is_left_by(form.start, form.end) and self.is_empty(guard))
 
     def is_empty(self, guard: Guard) -> bool:
         """Whether a guard has no rows, which is asked again after its table was changed."""
