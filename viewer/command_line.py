@@ -1,6 +1,7 @@
 """The command line of a program in Python."""
 
 import argparse
+import importlib
 import os
 import sys
 from typing import Any, Iterable, Mapping, NoReturn
@@ -12,6 +13,14 @@ from viewer.terminal import tell
 
 # How the values of options are read, as argparse has it.
 Reading = Mapping[str, Mapping[str, Any]]
+
+
+def read_by(module: str, name: str) -> Mapping[str, Any]:
+    """A value is read by a function, of a module that is imported when there is one. argparse calls it by its name."""
+    def read(word: str) -> Any:
+        return getattr(importlib.import_module(module), name)(word)
+    read.__name__ = name
+    return {"type": read}
 
 
 class Form(argparse.HelpFormatter):

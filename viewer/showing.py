@@ -9,26 +9,24 @@ import sqlite3
 import sys
 from typing import TYPE_CHECKING, Iterator, NamedTuple, NoReturn
 
-from viewer.absent import called as absent_call
-from viewer.calls import asked as asked_call
-from viewer.command_line import Reading, Words
-from viewer.database import loading, raw_tables, side_list
+from viewer.command_line import Reading, Words, read_by
+from viewer.database import loading, raw_tables
 from viewer.database.side_beside import side_beside
-from viewer.database.sqlite import errors_in, open_database
+from viewer.database.sqlite import errors_in
 from viewer.files import Stopped, errors_of, keep, refuse_no_folder, shown_name, unchanged, whole_file, word_of
-from viewer.malformed import Fault, fault_of
 from viewer.methods import known
-from viewer.page import within
 from viewer.scratch import folder_in, sigterm_held
 from viewer.terminal import tell, write
 from viewer.timeline.suffixes import NATIVE, SUFFIXES
-from viewer.timing import Timing
-from viewer import window as windows
+from viewer.window_asked import READ as WINDOWS, is_asked
 
 if TYPE_CHECKING:
     from viewer.arguments.recorded import Arguments
     from viewer.arguments.sources import Declarations
     from viewer.defects.gate import Gate
+    from viewer.malformed import Fault
+    from viewer.timing import Timing
+    from viewer.window import Window
 
 
 def number(word: str) -> int:
@@ -42,8 +40,8 @@ def number(word: str) -> int:
 READ: Reading = {
     "-o": {"dest": "page"}, "--fail-on": {"choices": ("real", "maybe")}, "--names": {"choices": ("android",)},
     "--thread": {"type": number}, "--from": {"type": number, "dest": "first"},
-    "--to": {"type": number, "dest": "final"}, **windows.READ, "--call": {"type": asked_call.call},
-    "--absent": {"type": absent_call.called}, "--slow": {"type": windows.length}}
+    "--to": {"type": number, "dest": "final"}, **WINDOWS, "--call": read_by("viewer.calls.asked", "call"),
+    "--absent": read_by("viewer.absent.called", "called"), "--slow": read_by("viewer.window", "length")}
 
 
 def why_not(asked: argparse.Namespace) -> Iterator[str]:
@@ -62,7 +60,7 @@ def why_not(asked: argparse.Namespace) -> Iterator[str]:
         yield "--thread, --from and --to narrow a timeline, and go with --trace"
     if asked.process is not None and not (asked.page or asked.groups or asked.trace or asked.absent):
         yield "--process narrows a page, groups, a timeline or --absent"
-    if {asked.first, asked.final} != {None} and windows.is_asked(asked):
+    if {asked.first, asked.final} != {None} and is_asked(asked):
         yield "--from and --to do not go with --last, --between or --around"
     if asked.trace is not None and not asked.trace.endswith(SUFFIXES):
         yield f"the name of a timeline ends in {', '.join(SUFFIXES[:-1])} or {SUFFIXES[-1]}"
@@ -92,7 +90,7 @@ class Progress:
 
     def __init__(self) -> None:
         self.shown = sys.stderr is not None and sys.stderr.isatty()
-        self.timing: Timing | None = None
+        self.timing: "Timing | None" = None
 
     def tell(self, what: str) -> None:
         if self.timing:
@@ -116,7 +114,7 @@ def refuse_existing(asked: argparse.Namespace) -> None:
             raise Stopped(1, f"{name} exists already")
 
 
-def tell_doubt(database: sqlite3.Connection, fault: Fault | None) -> None:
+def tell_doubt(database: sqlite3.Connection, fault: "Fault | None") -> None:
     if fault:
         tell("view", str(fault))
     for doubt, in database.execute("SELECT value FROM capture WHERE key GLOB '*_doubt' AND value NOTNULL"
@@ -127,7 +125,7 @@ def tell_doubt(database: sqlite3.Connection, fault: Fault | None) -> None:
         tell("view", str(agreement.line_of(database)))
 
 
-def write_trace(database: sqlite3.Connection, asked: argparse.Namespace, window: windows.Window | None) -> None:
+def write_trace(database: sqlite3.Connection, asked: argparse.Namespace, window: "Window | None") -> None:
     """Writes the timeline."""
     from viewer.timeline import trace
     from viewer.timeline.tracks import Window
@@ -172,8 +170,8 @@ def take_side(asked: argparse.Namespace) -> None:
             tell("view", f"takes {' '.join(asked.side)} beside the capture; --no-side leaves it out")
 
 
-def groups_of(database: sqlite3.Connection, asked: argparse.Namespace, fault: Fault | None,
-              window: windows.Window | None) -> Iterator[str]:
+def groups_of(database: sqlite3.Connection, asked: argparse.Namespace, fault: "Fault | None",
+              window: "Window | None") -> Iterator[str]:
     """What --groups prints: columns, or lines of fields."""
     if is_in_columns(asked):
         import shutil
@@ -183,25 +181,29 @@ def groups_of(database: sqlite3.Connection, asked: argparse.Namespace, fault: Fa
     return lines_of(database, fault, window)
 
 
-def absent_of(database: sqlite3.Connection, asked: argparse.Namespace, window: windows.Window | None) -> Iterator[str]:
+def absent_of(database: sqlite3.Connection, asked: argparse.Namespace, window: "Window | None") -> Iterator[str]:
     """What --absent prints."""
     from viewer.absent.asked_of import openings_of, span_of
+    from viewer.absent.called import meant_in
     from viewer.absent.lines import lines_of
     openings = None if asked.process is None else openings_of(database, asked.process)
-    span = span_of(database, window if windows.is_asked(asked) else None, asked.between)
-    return lines_of(database, absent_call.meant_in(database, asked.absent), openings, span)
+    span = span_of(database, window if is_asked(asked) else None, asked.between)
+    return lines_of(database, meant_in(database, asked.absent), openings, span)
 
 
 def is_in_columns(asked: argparse.Namespace) -> bool:
     return asked.groups and (asked.columns or sys.stdout is not None and sys.stdout.isatty())
 
 
-def told_at_end(database: sqlite3.Connection, asked: argparse.Namespace, window: windows.Window | None) -> str | None:
+def told_at_end(database: sqlite3.Connection, asked: argparse.Namespace, window: "Window | None") -> str | None:
     """What a line on standard error says at the end; None if standard output has an answer for a program, of the whole
     capture."""
     made = asked.page or asked.trace or (is_in_columns(asked) or window and asked.absent is None) and \
         shown_name(asked.files)
-    return f"{made}: {within.told_of(database, window)}" if made else None
+    if not made:
+        return None
+    from viewer.page.within import told_of
+    return f"{made}: {told_of(database, window)}"
 
 
 class Seen(NamedTuple):
@@ -220,13 +222,20 @@ def sources_of(asked: argparse.Namespace) -> "Declarations | None":
 
 
 def load(root: pathlib.Path, asked: argparse.Namespace, methods: known.Methods, room: pathlib.Path, progress: Progress,
-         sources: "Declarations | None") -> Fault | None:
-    """Makes the database in this folder, by the programs of `root`. Returns the first fault of the capture."""
+         sources: "Declarations | None") -> tuple[sqlite3.Connection, "Fault | None"]:
+    """Makes the database in this folder, by the programs of `root`. Returns it, and the first fault of the capture."""
     with unchanged(asked.side):
-        side = side_list.joined_sides(asked.side, room / "joined.side") if asked.side else None
-        malformed = loading.database_of(root, asked.files, side, room / "capture.db", progress.tell, methods,
-                                        asked.side, asked.database is not None, progress.timing, sources)
-    return fault_of(malformed, asked.files) if malformed else None
+        side = None
+        if asked.side:
+            from viewer.database.side_list import joined_sides
+            side = joined_sides(asked.side, room / "joined.side")
+        database, malformed = loading.database_of(
+            root, asked.files, side, room / "capture.db", progress.tell, methods, asked.side,
+            asked.database is not None, progress.timing, sources)
+    if not malformed:
+        return database, None
+    from viewer.malformed import fault_of
+    return database, fault_of(malformed, asked.files)
 
 
 def options_of(asked: argparse.Namespace) -> str:
@@ -255,14 +264,23 @@ def arguments_of(database: sqlite3.Connection, asked: argparse.Namespace, source
         yield arguments
 
 
-def answer(database: sqlite3.Connection, asked: argparse.Namespace, fault: Fault | None, gate: "Gate | None",
+def window_of(database: sqlite3.Connection, asked: argparse.Namespace) -> "Window | None":
+    """The frames and processes that are asked for; None if all are."""
+    if asked.process is None and not is_asked(asked):
+        return None
+    from viewer.page import within
+    return within.window_of(database, asked)
+
+
+def answer(database: sqlite3.Connection, asked: argparse.Namespace, fault: "Fault | None", gate: "Gate | None",
            arguments: "Arguments | None") -> tuple[list[str], str | None]:
     """Writes what is asked for of a database. Returns the lines to print, and what is said at the end."""
     lines: list[str] = []
-    window = within.window_of(database, asked)
+    window = window_of(database, asked)
     if asked.call is not None:
+        from viewer.calls.asked import place_of
         from viewer.calls.lines import lines_of
-        lines += lines_of(database, asked_call.place_of(database, asked.call))
+        lines += lines_of(database, place_of(database, asked.call))
     if asked.absent is not None:
         lines += absent_of(database, asked, window)
     if asked.groups:
@@ -283,7 +301,9 @@ def answer(database: sqlite3.Connection, asked: argparse.Namespace, fault: Fault
 
 def view(root: pathlib.Path, asked: argparse.Namespace, progress: Progress) -> Seen:
     """Makes what is asked for."""
-    progress.timing = Timing() if asked.timing else None
+    if asked.timing:
+        from viewer.timing import Timing
+        progress.timing = Timing()
     refuse_existing(asked)
     refuse_no_folder(asked.symbols)
     methods, sources = known.methods_of(asked.methods), sources_of(asked)
@@ -294,8 +314,7 @@ def view(root: pathlib.Path, asked: argparse.Namespace, progress: Progress) -> S
     beside = os.path.dirname(os.path.abspath(asked.database)) if asked.database else None
     with (errors_of(asked.database or os.environ.get("TMPDIR", "/tmp")), folder_in(beside) as room,
           errors_in(room / "capture.db")):
-        fault = load(root, asked, methods, room, progress, sources)
-        database = open_database(room / "capture.db")
+        database, fault = load(root, asked, methods, room, progress, sources)
         progress.end()
         tell_doubt(database, fault)
         if asked.symbols:
@@ -304,8 +323,8 @@ def view(root: pathlib.Path, asked: argparse.Namespace, progress: Progress) -> S
         progress.tell("writing")
         with arguments_of(database, asked, sources) as arguments:
             lines, told = answer(database, asked, fault, gate, arguments)
-        database.close()
         if asked.database:
+            database.close()
             keep(room / "capture.db", pathlib.Path(asked.database))
     failed = has_failed(gate)
     return Seen(2 if fault else 10 if failed else 0, lines, told)

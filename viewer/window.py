@@ -76,9 +76,8 @@ def place(word: str) -> int:
     return int(word)
 
 
-# How the values of the options are read, of which a command line has one.
+# How the values of the options are read.
 READ_BY: dict[str, Callable[[str], Any]] = {"--last": length, "--between": moment, "--around": place}
-READ = {option: {"type": read} for option, read in READ_BY.items()}
 
 
 class Asked(NamedTuple):
@@ -86,10 +85,6 @@ class Asked(NamedTuple):
     last: Any
     between: Any
     around: Any
-
-
-def is_asked(asked: argparse.Namespace) -> bool:
-    return not (asked.last is None and asked.between is None and asked.around is None)
 
 
 class Window(NamedTuple):

@@ -114,7 +114,7 @@ def judged(room: pathlib.Path, name: str, way: Way) -> tuple[Rows, list[str]]:
     made = folder / "capture.db"
     least = mock.patch.object(finders, "LEAST_RECORDS", 0 if way is Way.BESIDE else 2**63)
     with least, mock.patch.object(loading, "LEAST_PACKED", 2**63 if way is Way.RULED else 0):
-        loading.database_of(ROOT, files, side, made, lambda _: None, kept=way is Way.KEPT)
+        loading.database_of(ROOT, files, side, made, lambda _: None, kept=way is Way.KEPT)[0].close()
     return rows_of(made), list(sums_of(name, made)) if way is Way.BESIDE else []
 
 

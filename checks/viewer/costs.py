@@ -66,7 +66,8 @@ def instructions(name: str, size: int, packed: bool, room: pathlib.Path) -> int:
             write_costly(name, size, capture)
         with mock.patch.multiple(loading, judge=judge, LEAST_PACKED=0), \
                 mock.patch.object(finders, "LEAST_RECORDS", 2**63):
-            loading.database_of(ROOT, [str(capture)], side, capture.with_suffix(".db"), lambda _: None, kept=not packed)
+            loading.database_of(ROOT, [str(capture)], side, capture.with_suffix(".db"), lambda _: None, kept=not packed
+                                )[0].close()
     return taken[0].instructions
 
 

@@ -61,7 +61,7 @@ def names() -> list[str]:
 
 def database_of(one: Stored, room: pathlib.Path) -> sqlite3.Connection:
     made = room / f"{one.name.replace('/', '-')}.db"
-    loading.database_of(ROOT, [str(one.capture)], str(one.side), made, lambda _: None)
+    loading.database_of(ROOT, [str(one.capture)], str(one.side), made, lambda _: None)[0].close()
     return sqlite3.connect(made)
 
 

@@ -8,7 +8,7 @@ import pathlib
 import sqlite3
 from typing import Iterator, Mapping, NamedTuple
 
-from viewer.database.sqlite import open_beside
+from viewer.database.sqlite import insert, open_beside, path_of
 from viewer.piped import Piped, Send
 
 # The least records of a capture for which there are such processes: of fewer, rows are found before one has begun.
@@ -29,11 +29,6 @@ class Query(NamedTuple):
     """What is asked, and the name by which its rows are asked for."""
     name: str
     text: str
-
-
-def insert(database: sqlite3.Connection, table: str, rows: list[tuple]) -> None:
-    if rows:
-        database.executemany(f"INSERT INTO {table} VALUES ({', '.join('?' * len(rows[0]))})", rows)
 
 
 def attach(database: sqlite3.Connection, path: str) -> None:
@@ -130,11 +125,6 @@ class Finders:
     def __exit__(self, *_: object) -> None:
         for crew in self.every:
             crew.piped.__exit__()
-
-
-def path_of(database: sqlite3.Connection) -> str:
-    """The file of a database; nothing if it is in memory."""
-    return next(path for _, name, path in database.execute("PRAGMA database_list") if name == "main")
 
 
 def finders_of(database: sqlite3.Connection) -> Finders | None:

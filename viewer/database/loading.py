@@ -8,25 +8,24 @@ import sqlite3
 from typing import TYPE_CHECKING, Callable
 
 from viewer.database import data_hash, packages
-from viewer.database.finders import Finders, finders_of
 from viewer.database.programs import Asked, answer, build_programs, fault_in
 from viewer.database.raw_tables import (
     MADE_FILE, RULED_FILE, SCHEMA_FILE, Loading, can_pack, load_as_it_comes, load_rows)
 from viewer.database.report import load_findings, load_report
-from viewer.database.side_list import SideList
 from viewer.database.sqlite import open_database
 from viewer.files import Stopped, linked, shown_name, unchanged
-from viewer.malformed import fault_of
 from viewer.methods.known import Methods, load_methods, named_in
 from viewer.program_names import called
 from viewer.rules.judging import OfData, begin, judge
 from viewer.scratch import remove
 from viewer.started import Started
-from viewer.timing import Timing
 from viewer.zeros import Ended, without_zeros
 
 if TYPE_CHECKING:
     from viewer.arguments.sources import Declarations
+    from viewer.database.finders import Finders
+    from viewer.database.side_list import SideList
+    from viewer.timing import Timing
 
 # The least bytes of a capture of which tables are packed: of fewer, the files of these take longer than they save. A
 # database of fewer has the tables of the rules from the first, unless it is kept.
@@ -52,8 +51,8 @@ def load_facts(database: sqlite3.Connection, files: list[str], malformed: str | 
 
 def fill(database: sqlite3.Connection, files: list[str], side: str | None, report: pathlib.Path,
          malformed: str | None, methods: Methods | None = None, beside: list[str] | None = None,
-         others: pathlib.Path | None = None, finders: Finders | None = None, is_packed: bool = False,
-         sources: "Declarations | None" = None) -> SideList:
+         others: pathlib.Path | None = None, finders: "Finders | None" = None, is_packed: bool = False,
+         sources: "Declarations | None" = None) -> "SideList | None":
     """Adds the side list, the report and its findings to the raw tables. The driver's books are beside the side lists
     `beside`, or else beside the side list, of which `others` has the lines that are not loaded yet. If there are
     `finders`, `doubt_side_list` tells later whether the side list is that of the capture. The methods are those of
@@ -61,8 +60,10 @@ def fill(database: sqlite3.Connection, files: list[str], side: str | None, repor
     database.execute("BEGIN")
     if not is_packed:
         data_hash.take_all(database, files)
-    taken = SideList(database)
+    taken = None
     if side is not None:
+        from viewer.database.side_list import SideList
+        taken = SideList(database)
         taken.load(side, others)
         if finders:
             taken.begin_to_compare(finders)
@@ -73,7 +74,7 @@ def fill(database: sqlite3.Connection, files: list[str], side: str | None, repor
             taken.facts["books_doubt"] = load_books.load(database, taken.copies, beside or [side], taken.met)
         taken.facts["packages_doubt"] = packages.load(database, beside or [side])
     load_report(database, report)
-    load_facts(database, files, malformed, taken.facts if side is not None else {})
+    load_facts(database, files, malformed, taken.facts if taken else {})
     load_findings(database)
     given = {**(sources.names(named_in(database)) if sources else {}), **(methods or {})}
     load_methods(database, given)
@@ -82,7 +83,7 @@ def fill(database: sqlite3.Connection, files: list[str], side: str | None, repor
     return taken
 
 
-def doubt_side_list(database: sqlite3.Connection, taken: SideList, finders: Finders) -> None:
+def doubt_side_list(database: sqlite3.Connection, taken: "SideList", finders: "Finders") -> None:
     """Refuses a side list of another capture, and keeps the doubt if it may be of another."""
     database.execute("UPDATE capture SET value = ? WHERE key = 'side_doubt'", (taken.doubt(finders),))
 
@@ -149,17 +150,20 @@ def fault_with_zeros(root: pathlib.Path, files: list[str], room: pathlib.Path) -
 
 def tell_zeros(database: sqlite3.Connection, files: list[str], malformed: str | None, ends: dict[str, Ended]) -> None:
     """Keeps which files end in zeros, but for the one of which the first fault says that already."""
-    told = fault_of(malformed, files).file if malformed else None
+    told = None
+    if malformed:
+        from viewer.malformed import fault_of
+        told = fault_of(malformed, files).file
     doubt = "; ".join(f"{os.path.basename(name)} {end.meaning}" for name, end in ends.items() if name != told)
     database.execute("UPDATE capture SET value = ? WHERE key = 'zeros_doubt'", (doubt or None,))
 
 
 def database_of(root: pathlib.Path, files: list[str], side: str | None, made: pathlib.Path,
                 tell: Callable[[str], None], methods: Methods | None = None,
-                beside: list[str] | None = None, kept: bool = True, timing: Timing | None = None,
-                sources: "Declarations | None" = None) -> str | None:
+                beside: list[str] | None = None, kept: bool = True, timing: "Timing | None" = None,
+                sources: "Declarations | None" = None) -> tuple[sqlite3.Connection, str | None]:
     """Makes the database of a capture, with the report and the verdicts of the rules, and the names of methods. Returns
-    the line of the capture's first fault, or None. If it is not kept, a part of it stays in files beside it."""
+    it, and the line of the capture's first fault, or None. If it is not kept, a part of it stays in files beside it."""
     with unchanged(files):
         build_programs(root)
         rows, report = made.with_suffix(".rows"), made.with_suffix(".report")
@@ -183,7 +187,10 @@ def database_of(root: pathlib.Path, files: list[str], side: str | None, made: pa
     remove(rows)
     database = open_database(made)
     tell("taking the side list and the report")
-    finders = finders_of(database) if empty != RULED_FILE else None
+    finders = None
+    if empty != RULED_FILE:
+        from viewer.database.finders import finders_of
+        finders = finders_of(database)
     with finders or contextlib.nullcontext():
         if finders:
             begin(database, finders)
@@ -194,8 +201,10 @@ def database_of(root: pathlib.Path, files: list[str], side: str | None, made: pa
         with data_hash.Data(files) as data:
             judge(database, timing=timing, finders=finders, of_data=OfData(data.hash_of, data.exception_of),
                   is_ruled=empty == RULED_FILE)
-        if finders and side is not None:
+        if finders and taken:
             doubt_side_list(database, taken, finders)
     compare_with_books(database)
-    database.close()
-    return malformed
+    if empty != RULED_FILE:  # which has no temporary tables, and SQLite has read its schema
+        database.close()
+        database = open_database(made)
+    return database, malformed

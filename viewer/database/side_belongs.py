@@ -7,7 +7,7 @@ frames than the capture only gives a doubt."""
 import sqlite3
 from typing import NamedTuple
 
-from viewer.database.finders import path_of
+from viewer.database.sqlite import path_of
 
 OTHER = "the side list belongs to another capture"
 

@@ -4,16 +4,18 @@ import itertools
 import pathlib
 import re
 import sqlite3
-from typing import BinaryIO, Iterable, Iterator, NamedTuple
+from typing import TYPE_CHECKING, BinaryIO, Iterable, Iterator, NamedTuple
 
 from viewer.database import side_belongs
-from viewer.database.finders import Finders, Query
 from viewer.database.last_names import LastNames
 from viewer.database.narrowed import narrowed_of
 from viewer.database.process_names import is_app, is_not_yet_named, long_name
 from viewer.files import Stopped, errors_of, for_owner
 from viewer.units import signed
 from viewer.zeros import ended_text
+
+if TYPE_CHECKING:
+    from viewer.database.finders import Finders
 
 # ---- numbers
 
@@ -174,10 +176,10 @@ MOST_OF_STACK = 64
 ANSWERS = {0x7205: 261, 0x7211: 273, 0x7212: 274}
 
 # The time and the number of a frame, of at most 18 digits each, in a list of an earlier recorder.
-FRAME_LINE = re.compile(r"([0-9]{1,18}) frame ([0-9]{1,18})\n")
+FRAME_LINE = r"([0-9]{1,18}) frame ([0-9]{1,18})\n"
 
 # The number of a frame and that of its stack.
-CALL_LINE = re.compile(r"[0-9]{1,18} call ([0-9]{1,18}) stack=([0-9]{1,18})\n")
+CALL_LINE = r"[0-9]{1,18} call ([0-9]{1,18}) stack=([0-9]{1,18})\n"
 
 
 def delta(word: str) -> int:
@@ -197,8 +199,9 @@ def frames_of(time: int, words: list[str]) -> tuple[int, list[int]]:
 
 def times_in(lines: Iterable[str]) -> Iterator[tuple[int, int]]:
     """The numbers and the times of the frames in a side list, whose lines are good."""
+    frame_in = re.compile(FRAME_LINE).match
     for line in lines:
-        if frame := FRAME_LINE.match(line):
+        if frame := frame_in(line):
             yield int(frame[2]), int(frame[1])
         elif line.endswith("\n") and line.partition(" ")[2].startswith("frames "):
             time, _, *words = line.split()
@@ -251,12 +254,13 @@ class SideList:
             [(long_name(name, command), command.replace("\0", " "), is_app(name, command), row)
              for row, name, command in told])
 
-    def begin_to_compare(self, finders: Finders) -> None:
+    def begin_to_compare(self, finders: "Finders") -> None:
         """Has other processes compare the numbers of frames with those of the capture."""
+        from viewer.database.finders import Query
         looks = side_belongs.looks_of(self.database, self.last())
         finders.begin([Query(name, looks.text[name]) for name in looks.long], [], looks.values)
 
-    def doubt(self, finders: Finders | None) -> str | None:
+    def doubt(self, finders: "Finders | None") -> str | None:
         """Refuses a list that certainly belongs to another capture. Returns the doubt if it may belong to another."""
         looks = side_belongs.looks_of(self.database, self.last())
 
@@ -271,11 +275,12 @@ class SideList:
         return side_belongs.doubt(self.database, self.last(), first("more") or (0, 0, 0))
 
     def read_lines(self, lines: Iterable[str], path: str) -> None:
+        frame_in, call_in = re.compile(FRAME_LINE).match, re.compile(CALL_LINE).match
         for line in lines:
             # Nearly all lines may be those of a frame and of its stack, so they are not split like the others.
-            if frame := FRAME_LINE.match(line):
+            if frame := frame_in(line):
                 self.frame = frame
-            elif call := CALL_LINE.match(line):
+            elif call := call_in(line):
                 self.add_call(call[1], call[2])
             elif line.endswith("\n"):
                 self.take(line_of(line[:-1], path), path)

@@ -67,3 +67,13 @@ def open_beside(path: str) -> sqlite3.Connection:
     for setting in ("cache_size=-16384", "temp_store=FILE"):
         database.execute(f"PRAGMA {setting}")
     return database
+
+
+def path_of(database: sqlite3.Connection) -> str:
+    """The file of a database; nothing if it is in memory."""
+    return next(path for _, name, path in database.execute("PRAGMA database_list") if name == "main")
+
+
+def insert(database: sqlite3.Connection, table: str, rows: list[tuple]) -> None:
+    if rows:
+        database.executemany(f"INSERT INTO {table} VALUES ({', '.join('?' * len(rows[0]))})", rows)

@@ -9,7 +9,7 @@ from viewer.clocks import SECOND, Times
 from viewer.files import word_of
 from viewer.malformed import fault_of
 from viewer.program_names import called
-from viewer.page.within import groups_within
+from viewer.page.groups_within import groups_within
 from viewer.rules.names import Names
 from viewer.window import WHOLE, Window
 

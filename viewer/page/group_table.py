@@ -7,7 +7,7 @@ import unicodedata
 from typing import Iterable, Iterator, NamedTuple
 
 from viewer.clocks import Times
-from viewer.page.within import groups_within
+from viewer.page.groups_within import groups_within
 from viewer.page.why_kept import kept_of
 from viewer.terminal import shown
 from viewer.units import counted

@@ -1,16 +1,15 @@
-"""The groups that a page and --groups show: all of a capture, or those of some frames and processes."""
+"""What is asked for of a capture: all of it, or some frames and processes; and what a line says of that."""
 
 import argparse
-import pathlib
 import sqlite3
 
 from viewer.files import Stopped
+from viewer.page.groups_within import groups_within
 from viewer.processes_asked import processes_of
 from viewer.terminal import shown
 from viewer.units import counted
-from viewer.window import Recording, Window, is_asked
-
-WITHIN = (pathlib.Path(__file__).resolve().parent / "queries/within.sql").read_text("utf-8")
+from viewer.window import Recording, Window
+from viewer.window_asked import is_asked
 
 
 def window_of(database: sqlite3.Connection, asked: argparse.Namespace) -> Window | None:
@@ -34,14 +33,6 @@ def time_of(database: sqlite3.Connection, asked: argparse.Namespace) -> Window:
             raise Stopped(1, f"--around: no frame has the byte at {asked.around}")
         asked.around = found[0]
     return Recording(database, first, last).window(asked)
-
-
-def groups_within(database: sqlite3.Connection, window: Window | None) -> list[int]:
-    """The groups that are shown, in their order: those that have a finding in the window, or a call that was open
-    then; and of processes, what these have or cause."""
-    if window is None:
-        return [group for group, in database.execute("SELECT grp FROM finding_group ORDER BY nth")]
-    return [group for group, in database.execute(WITHIN, window.values())]
 
 
 # Of some frames, and of processes if some are asked for: the frames; the calls that were under way; the frames that are

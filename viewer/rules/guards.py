@@ -52,7 +52,8 @@ class Reading(NamedTuple):
     def parts(self, items: list[Item], views: Views, within: Group | None = None, name: str = "") -> Parts:
         """The guards of a query, which WITH may give this name. A part that takes rows of the query itself has none
         before another part has some, and is left out."""
-        every, known = clauses(items), {**views, name: [[]]}
+        every, known = clauses(items), dict(views)
+        known[name] = [[]]
         for called, query in (one for clause in every if clause.says("WITH") for one in named_by(clause)):
             known[called] = self.parts(query.items, known, query, called)
         return [self.guards(part, known, within) for part in parts_of(every)

@@ -5,22 +5,24 @@ import functools
 import pathlib
 import re
 import sqlite3
-from typing import Callable, Iterator, NamedTuple
+from typing import TYPE_CHECKING, Callable, Iterator, NamedTuple
 
 from viewer.clocks import Times
-from viewer.database.finders import Finders, Given, Query, insert, path_of
-from viewer.database.sqlite import named_numbers
+from viewer.database.sqlite import insert, named_numbers, path_of
 from viewer.exceptions import exception_name
 from viewer.page.texts import APPS
 from viewer.rules.emptiness import Emptiness
 from viewer.rules.names import Names, short_of
 from viewer.rules.notes import note_text
 from viewer.rules.paths import call_words, name_words, object_words, path_text, thing_words
-from viewer.rules.plan import FOLDER, Guards, Plan, Statement, plan_of
+from viewer.rules.plan import FOLDER, Plan, Statement, plan_of
 from viewer.rules.thresholds import THRESHOLDS
 from viewer.rules.verdicts import RANKS
-from viewer.timing import Timing
 from viewer.units import LETTERS, counted, defect_key, duration_of, status_name
+
+if TYPE_CHECKING:
+    from viewer.database.finders import Finders, Given, Query
+    from viewer.timing import Timing
 
 # Most statements look at the findings of some sections, and a capture may have very many of others. Without statistics
 # SQLite takes it that ten findings are of a section, and that it need make no index for these few of what is joined to
@@ -63,11 +65,12 @@ def name_of(number: int) -> str:
     return f"statement {number}"
 
 
-def query_of(number: int, statement: Statement) -> Query:
+def query_of(number: int, statement: Statement) -> "Query":
+    from viewer.database.finders import Query
     return Query(name_of(number), statement.text[statement.query:].rstrip().removesuffix(";"))
 
 
-def begin(database: sqlite3.Connection, finders: Finders) -> None:
+def begin(database: sqlite3.Connection, finders: "Finders") -> None:
     """Has other processes find what the rules take of the raw tables alone, while the database is filled."""
     plan = with_sums(database, plan_of(FOLDER))
     due = due_after(plan, LOADING)
@@ -78,7 +81,7 @@ class Judging:
     """The rules at work on a database. Some rows come of other processes, if there are `finders`: of statements that
     say `-- beside: FILE`, from the end of that file on. A database that is ruled has all tables, as ruled.py says."""
 
-    def __init__(self, database: sqlite3.Connection, plan: Plan, timing: Timing | None, finders: Finders | None,
+    def __init__(self, database: sqlite3.Connection, plan: Plan, timing: "Timing | None", finders: "Finders | None",
                  is_ruled: bool = False):
         self.database, self.plan, self.timing = database, with_sums(database, plan), timing
         self.finders, self.is_ruled = finders, is_ruled
@@ -130,13 +133,15 @@ class Judging:
             self.finders.begin([query_of(number, it) for number, it in due], given, self.numbers)
             self.database.execute("BEGIN")
 
-    def of_findings(self) -> Given:
+    def of_findings(self) -> "Given":
         """The sections and codes of the findings."""
+        from viewer.database.finders import Given
         rows = self.database.execute("SELECT DISTINCT section, code FROM finding").fetchall()
         return Given("CREATE TEMP TABLE finding(section TEXT, code INTEGER)", "finding", rows)
 
-    def tables_of(self, due: list[tuple[int, Statement]]) -> Iterator[Given]:
+    def tables_of(self, due: list[tuple[int, Statement]]) -> Iterator["Given"]:
         """The temporary tables that statements name, as far as they are filled."""
+        from viewer.database.finders import Given
         names = names_in(due).intersection(it.name for it in self.plan.statements if it.makes == "TABLE")
         made = self.database.execute("SELECT name, sql FROM temp.sqlite_schema WHERE type = 'table'").fetchall()
         for name, making in made:
@@ -191,8 +196,9 @@ def names_in(due: list[tuple[int, Statement]]) -> set[str]:
     return {word for _, it in due for word in re.findall(r"\w+", it.text)}
 
 
-def views_of(plan: Plan, due: list[tuple[int, Statement]]) -> list[Given]:
+def views_of(plan: Plan, due: list[tuple[int, Statement]]) -> list["Given"]:
     """The temporary views that statements name."""
+    from viewer.database.finders import Given
     names = names_in(due)
     return [Given(it.text, it.name, []) for it in plan.statements if it.makes == "VIEW" and it.name in names]
 
@@ -211,8 +217,8 @@ def take_words(database: sqlite3.Connection, of_data: OfData) -> None:
         database.create_function(name, -1, functools.lru_cache(4096)(function), deterministic=True)
 
 
-def judge(database: sqlite3.Connection, folder: pathlib.Path = FOLDER, timing: Timing | None = None,
-          finders: Finders | None = None, of_data: OfData = NO_DATA, is_ruled: bool = False) -> None:
+def judge(database: sqlite3.Connection, folder: pathlib.Path = FOLDER, timing: "Timing | None" = None,
+          finders: "Finders | None" = None, of_data: OfData = NO_DATA, is_ruled: bool = False) -> None:
     """Gives each finding its verdict. In the statements `:BR_REPLY` is the number of that name, and `:LONG` a
     threshold. They make texts by the functions of WORDS, and after names.sql by `call_name(code, upid, ptr)`, the name
     of a call, and `moment(ts)`, the time of day. `short_name(interface)` is what an interface is called, and

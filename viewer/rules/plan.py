@@ -21,14 +21,14 @@ KEPT = "rules"
 FORM = 0
 
 # What a statement makes, and whether of a query; or the table that it changes. Of an index the name is its table's.
-MAKES = re.compile(r"^(?:CREATE (?:UNIQUE )?(?:TEMP )?(TABLE|VIEW|INDEX) (?:\S+ ON )?|UPDATE |INSERT (?:OR \w+ )?INTO "
-                   r"|DELETE FROM )(\w+)( AS\b)?", re.M)
+MAKES = (r"^(?:CREATE (?:UNIQUE )?(?:TEMP )?(TABLE|VIEW|INDEX) (?:\S+ ON )?|UPDATE |INSERT (?:OR \w+ )?INTO "
+         r"|DELETE FROM )(\w+)( AS\b)?")
 # After which file another process may find the rows of a statement, and its query.
-BESIDE, QUERY = re.compile(r"^-- beside: (\S+)$", re.M), re.compile(r"\b(?:SELECT|WITH)\b")
+BESIDE, QUERY = r"^-- beside: (\S+)$", r"\b(?:SELECT|WITH)\b"
 
 
-# A guard is a table, and what must hold for a row of it, as `finding WHERE section = 'calls'`; or a query, of which each
-# part has guards.
+# A guard is a table, and what must hold for a row of it, as `finding WHERE section = 'calls'`; or a query, of which
+# each part has guards.
 Guards = tuple[tuple["str | Guards", ...], ...]
 
 
@@ -53,10 +53,10 @@ class Plan(NamedTuple):
 
 
 def statement_of(file: str, text: str) -> Statement:
-    made, said = MAKES.search(text), BESIDE.search(text)
+    made, said = re.search(MAKES, text, re.M), re.search(BESIDE, text, re.M)
     makes, name, of_query = made.groups("") if made else ("", "", "")
     before = said or (made if makes == "TABLE" and of_query else None)
-    query = QUERY.search(text, before.end()) if before else None
+    query = re.compile(QUERY).search(text, before.end()) if before else None
     return Statement(file, text, makes, name, said[1] if said else "", query.start() if query else 0)
 
 

@@ -6,7 +6,6 @@ from typing import Iterator, NamedTuple
 
 from checks.recorder.blind.expected import Expected, Line
 from viewer.database import loading
-from viewer.database.sqlite import open_database
 from viewer.files import Stopped
 from viewer.page.group_lines import group_lines
 
@@ -38,13 +37,12 @@ def viewed(folder: pathlib.Path, to: pathlib.Path, programs: pathlib.Path, kept:
     captures = sorted(folder.glob("capture-*.cap"), key=lambda path: int(path.stem.split("-")[1]))
     made, side = to / f"{folder.name}.db", str(folder / "capture.side")
     try:
-        malformed = loading.database_of(programs, list(map(str, captures)), side, made, lambda _: None,
-                                        kept=kept)
+        database, malformed = loading.database_of(programs, list(map(str, captures)), side, made, lambda _: None,
+                                                  kept=kept)
     except Stopped as stopped:
         return Session(folder, [], {}, [], str(stopped))
     if malformed:
         return Session(folder, [], {}, [], malformed)
-    database = open_database(made)
     lines = [Line(line) for line in group_lines(database)]
     facts = dict(database.execute("SELECT key, value FROM capture"))
     differences = [" ".join(map(str, found)) for found in database.execute(

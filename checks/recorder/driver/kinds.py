@@ -279,7 +279,8 @@ def database_of(folder):
     """The database that `./view` makes of the capture."""
     with tempfile.TemporaryDirectory() as room:
         made = pathlib.Path(room) / "made.db"
-        loading.database_of(ROOT, [str(folder / "capture-1.cap")], str(folder / "capture.side"), made, lambda _: None)
+        loading.database_of(ROOT, [str(folder / "capture-1.cap")], str(folder / "capture.side"), made,
+                            lambda _: None)[0].close()
         yield sqlite3.connect(made)
 
 

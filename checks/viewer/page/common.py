@@ -12,7 +12,6 @@ from checks.kit.side_lists import unpacked
 from checks.kit.stored import renew
 from checks.viewer.sessions.session import Session
 from viewer.database import loading
-from viewer.database.sqlite import open_database
 from viewer.page.group_lines import group_lines
 
 
@@ -61,8 +60,8 @@ def written(session: Session, room: pathlib.Path, name: str) -> tuple[str, str, 
 def loaded(folder: pathlib.Path, made: pathlib.Path, files: list[pathlib.Path], side: pathlib.Path | None
            ) -> sqlite3.Connection:
     """The database of a capture, made without a page."""
-    loading.database_of(folder, list(map(str, files)), None if side is None else str(side), made, lambda _: None)
-    return open_database(made)
+    return loading.database_of(folder, list(map(str, files)), None if side is None else str(side), made,
+                               lambda _: None)[0]
 
 
 def timeline_of(path: pathlib.Path) -> dict:
