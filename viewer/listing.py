@@ -1,5 +1,6 @@
 """What `./listing` does: from its words to the proved program that reads the capture, and to what prints its rows."""
 
+import functools
 import os
 import pathlib
 import sys
@@ -13,6 +14,10 @@ from viewer.listing_words import TABLES, TIMES, doubts_of_files, doubts_of_optio
 from viewer.terminal import tell, write
 from viewer.whole_python import need_whole_python
 
+TYPE_CHECKING = False
+if TYPE_CHECKING:
+    from viewer.window import Asked
+
 # The options of which the printer knows nothing.
 OF_VIEWER = ("--arguments", "--aidl")
 
@@ -24,21 +29,45 @@ def without(given: Given, *names: str) -> Given:
 # ---- a time
 
 
-def with_frames(root: pathlib.Path, given: Given) -> Given:
-    """What is given with the frames of a time, by --from and --to, in place of the time."""
-    need_whole_python("listing")
+def frame_at(root: pathlib.Path, files: list[str], place: int) -> int:
+    """The number of the frame that has a place."""
+    import subprocess
+    words = ["--frame", str(place), "--form", "tab", "--", *files]
+    asked = subprocess.run([root / "listing", *words], stdout=subprocess.PIPE)
+    line = asked.stdout.decode("utf-8", "replace").partition("\n")[0]
+    if "\t" not in line and asked.returncode in (0, 2):
+        raise Stopped(1, f"--around: the frame that has the byte at {place} has no record")
+    if "\t" not in line:  # the program has said why
+        os._exit(asked.returncode)
+    return int(line.split("\t")[1])
+
+
+def time_of(given: Given) -> "Asked":
+    """The time that is asked for."""
     import argparse
-    from viewer.lines.by_side import frames_within
-    from viewer.window import READ_BY as READ
+    from viewer.window import READ_BY as READ, Asked
     name, values = next((name, values) for name, values in given.options if name in TIMES)
     for other in ("--from", "--to"):
         if given.asks(other):
             raise Refused(f"{other} does not go with {name}")
     try:
-        read_values = [READ[name](value) for value in values]
+        one, *more = map(READ[name], values)
     except argparse.ArgumentTypeError as error:
         raise Refused(f"{name}: {error}") from error
-    first, last = frames_within(root, name, read_values, given.values("--side"), given.files)
+    return Asked(**{name.removeprefix("--"): [one, *more] if more else one})
+
+
+def with_frames(root: pathlib.Path, given: Given) -> Given:
+    """What is given with the frames of a time, by --from and --to, in place of the time. Without side lists those
+    beside the capture are taken."""
+    need_whole_python("listing")
+    from viewer.database.side_alone import NUMBERS, database_of
+    from viewer.database.side_beside import side_beside
+    from viewer.window import Recording
+    asked = time_of(given)
+    with database_of(given.values("--side") or side_beside(given.files)) as database:
+        found = Recording(database, *NUMBERS).window(asked, functools.partial(frame_at, root, given.files))
+    first, last = found[:2] if found.first <= found.last else (1, 0)
     others = without(given, *TIMES)
     return Given([("--from", [str(first)]), ("--to", [str(last)]), *others.options], given.files)
 

@@ -81,10 +81,10 @@ READ_BY: dict[str, Callable[[str], Any]] = {"--last": length, "--between": momen
 
 
 class Asked(NamedTuple):
-    """What one of the options is given."""
-    last: Any
-    between: Any
-    around: Any
+    """What one of the options is given, and None of the others."""
+    last: Any = None
+    between: Any = None
+    around: Any = None
 
 
 class Window(NamedTuple):
@@ -116,10 +116,10 @@ class Recording:
         self.first, self.last = first or 0, last or 0
         self.times = Times(database)
 
-    def window(self, asked: argparse.Namespace | Asked) -> Window:
-        """What is asked for, with the number of a frame for a place."""
+    def window(self, asked: argparse.Namespace | Asked, frame_at: Callable[[int], int]) -> Window:
+        """What is asked for. `frame_at` finds the number of the frame that has a place."""
         if asked.around is not None:
-            return self.around(asked.around)
+            return self.around(frame_at(asked.around))
         name = "--last" if asked.between is None else "--between"
         if self.times.first is None or self.times.until is None:
             raise Stopped(1, f"{name} takes the times of a side list, and there are none")

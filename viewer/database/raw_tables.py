@@ -53,8 +53,9 @@ def schema() -> str:
     return "".join(map(schema_of, SCHEMA))
 
 
-# The file that has them for the loader, a database that they made, and one that also has the tables of the rules.
-SCHEMA_FILE, MADE_FILE, RULED_FILE = "schema", "schema.db", "ruled.db"
+# The file that has them for the loader, a database that they made, one that also has the tables of the rules, and one
+# for a side list without its capture.
+SCHEMA_FILE, MADE_FILE, RULED_FILE, SIDE_FILE = "schema", "schema.db", "ruled.db", "side.db"
 
 
 def write_schema(path: pathlib.Path) -> None:
@@ -72,7 +73,15 @@ def write_ruled(path: pathlib.Path) -> None:
     ruled.write(path)
 
 
-EMPTY = {SCHEMA_FILE: write_schema, MADE_FILE: write_made, RULED_FILE: write_ruled}
+def write_side(path: pathlib.Path) -> None:
+    write_made(path)
+    with closing(sqlite3.connect(path)) as database:
+        tables = database.execute(
+            "SELECT name FROM sqlite_schema WHERE type = 'table' AND name GLOB 'raw_*'").fetchall()
+        database.executescript("".join(f"DROP TABLE {table};" for table, in tables))
+
+
+EMPTY = {SCHEMA_FILE: write_schema, MADE_FILE: write_made, RULED_FILE: write_ruled, SIDE_FILE: write_side}
 
 
 # ---- the loader
@@ -234,6 +243,17 @@ def load_rows(database: pathlib.Path, rows: pathlib.Path, side: str | None, empt
     """Makes a new database from the `.rows` files of a folder, with the times of frames in a side list."""
     with Loading(Loading.words(database, rows, side, None, False, empty), rows) as loading:
         loading.end()
+
+
+def load_side(database: pathlib.Path, side: str | None, others: pathlib.Path) -> None:
+    """Makes a new database of a side list alone, with the times of frames; `others` gets the lines that are not loaded.
+    Without a list it is empty."""
+    import subprocess
+    words: list[Word] = [loader(), database, database.parent, kept(SIDE_FILE, (FOLDER,), write_side)]
+    words += [] if side is None else [side, others]
+    ended = subprocess.run(words, capture_output=True)
+    if ended.returncode:
+        raise Stopped(4, said_by(words[0], ended.returncode, ended.stderr).removeprefix("load: "))
 
 
 def load_as_it_comes(database: pathlib.Path, rows: pathlib.Path, side: str | None,

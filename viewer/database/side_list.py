@@ -4,7 +4,7 @@ import itertools
 import pathlib
 import re
 import sqlite3
-from typing import TYPE_CHECKING, BinaryIO, Iterable, Iterator, NamedTuple
+from typing import TYPE_CHECKING, BinaryIO, Iterable, NamedTuple
 
 from viewer.database import side_belongs
 from viewer.database.last_names import LastNames
@@ -195,18 +195,6 @@ def frames_of(time: int, words: list[str]) -> tuple[int, list[int]]:
     if first + len(times) > 2**64 or min(times) < 0 or max(times) >= 2**63:
         raise OverflowError(words)
     return first, times
-
-
-def times_in(lines: Iterable[str]) -> Iterator[tuple[int, int]]:
-    """The numbers and the times of the frames in a side list, whose lines are good."""
-    frame_in = re.compile(FRAME_LINE).match
-    for line in lines:
-        if frame := frame_in(line):
-            yield int(frame[2]), int(frame[1])
-        elif line.endswith("\n") and line.partition(" ")[2].startswith("frames "):
-            time, _, *words = line.split()
-            first, times = frames_of(int(time), words)
-            yield from enumerate(times, first)
 
 
 class SideList:

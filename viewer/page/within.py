@@ -26,13 +26,15 @@ def window_of(database: sqlite3.Connection, asked: argparse.Namespace) -> Window
 def time_of(database: sqlite3.Connection, asked: argparse.Namespace) -> Window:
     """The frames of the time that is asked for."""
     size, first, last = database.execute("SELECT bytes, first_seq, last_seq FROM raw_capture").fetchone()
-    if asked.around is not None:
+
+    def frame_at(place: int) -> int:
         found = database.execute("SELECT seq FROM raw_frame WHERE place <= ? ORDER BY place DESC LIMIT 1",
-                                 (asked.around,)).fetchone()
-        if found is None or asked.around >= size:
-            raise Stopped(1, f"--around: no frame has the byte at {asked.around}")
-        asked.around = found[0]
-    return Recording(database, first, last).window(asked)
+                                 (place,)).fetchone()
+        if found is None or place >= size:
+            raise Stopped(1, f"--around: no frame has the byte at {place}")
+        return found[0]
+
+    return Recording(database, first, last).window(asked, frame_at)
 
 
 # Of some frames, and of processes if some are asked for: the frames; the calls that were under way; the frames that are
