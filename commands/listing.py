@@ -22,8 +22,8 @@ LISTING = Command(
                one_of="place"),
         Option("--arguments", "", "with --at also what the transaction or reply of the record says: each value with"
                " its place. The proved program has no part in these lines"),
-        Option("--aidl", "SOURCE", "names the values of --arguments: a file or a folder of .aidl; without one there"
-               " are the texts in the data", FILE, many=True),
+        Option("--aidl", "SOURCE", "names the values of --arguments, and the methods of --names: a file or a folder of"
+               " .aidl; without one --arguments has the texts in the data", FILE, many=True),
         Option("--frame", "PLACE", "the records of the frame that has the byte at PLACE", many=True,
                one_of="place"),
         Option("--call", "PLACE", "the records of a thread from the opener of a call to its closer; the opener has the"
@@ -64,8 +64,8 @@ LISTING = Command(
                 " columns",
                 FILE),
          Option("--names", "", "at the end of each line, before what --side adds, method= and service=: the method"
-                " that a transaction calls, if its name is built in, and the service that it asks the manager of"
-                " services about; with --form tab, two more columns"))),
+                " that a transaction calls, if its name is built in or in a source of --aidl, and the service that it"
+                " asks the manager of services about; with --form tab, two more columns"))),
      Part("Tables", "DATABASE.md#raw-tables", (
          Option("--tables", "FOLDER", "writes each raw table of docs/DATABASE.md to FOLDER/NAME.rows, and of a"
                 " malformed capture what comes before its first fault to FOLDER/before-fault.cap", FOLDER,

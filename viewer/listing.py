@@ -8,7 +8,7 @@ import sys
 from commands.listing import LISTING
 from commands.reading import Given, Refused, read
 from viewer.files import Stopped, quoted
-from viewer.lines.asked import printer_words, program_words
+from viewer.lines.asked import OF_VIEWER, printer_words, program_words, words_without
 from viewer.lines.run import is_ready, run
 from viewer.listing_words import TABLES, TIMES, doubts_of_files, doubts_of_options, is_text
 from viewer.terminal import tell, write
@@ -17,14 +17,6 @@ from viewer.whole_python import need_whole_python
 TYPE_CHECKING = False
 if TYPE_CHECKING:
     from viewer.window import Asked
-
-# The options of which the printer knows nothing.
-OF_VIEWER = ("--arguments", "--aidl")
-
-
-def without(given: Given, *names: str) -> Given:
-    return Given([(name, values) for name, values in given.options if name not in names], given.files)
-
 
 # ---- a time
 
@@ -38,7 +30,7 @@ def frame_at(root: pathlib.Path, files: list[str], place: int) -> int:
     if "\t" not in line and asked.returncode in (0, 2):
         raise Stopped(1, f"--around: the frame that has the byte at {place} has no record")
     if "\t" not in line:  # the program has said why
-        os._exit(asked.returncode)
+        sys.exit(asked.returncode)
     return int(line.split("\t")[1])
 
 
@@ -68,19 +60,19 @@ def with_frames(root: pathlib.Path, given: Given) -> Given:
     with database_of(given.values("--side") or side_beside(given.files)) as database:
         found = Recording(database, *NUMBERS).window(asked, functools.partial(frame_at, root, given.files))
     first, last = found[:2] if found.first <= found.last else (1, 0)
-    others = without(given, *TIMES)
-    return Given([("--from", [str(first)]), ("--to", [str(last)]), *others.options], given.files)
+    others = [(name, values) for name, values in given.options if name not in TIMES]
+    return Given([("--from", [str(first)]), ("--to", [str(last)]), *others], given.files)
 
 
 # ---- arguments
 
 
 def refuse_arguments(given: Given) -> None:
-    """Arguments are those of a record that is shown whole."""
-    if not given.asks("--arguments"):
-        raise Refused("--aidl goes with --arguments")
-    if given.asks(*TABLES) or not given.asks("--at"):
+    """Arguments are those of a record that is shown whole. Sources name them, or methods."""
+    if given.asks("--arguments") and (given.asks(*TABLES) or not given.asks("--at")):
         raise Refused("--arguments goes with --at")
+    if not given.asks("--arguments", "--names"):
+        raise Refused("--aidl goes with --arguments or --names")
 
 
 def list_with_arguments(root: pathlib.Path, given: Given) -> int:
@@ -88,7 +80,7 @@ def list_with_arguments(root: pathlib.Path, given: Given) -> int:
     need_whole_python("listing")
     import subprocess
     from viewer.arguments.listed import listed
-    words = printer_words(without(given, *OF_VIEWER))
+    words = words_without(given, "--arguments", *([] if given.asks("--names") else ["--aidl"]))
     asked = subprocess.run([root / "listing", *words, "--", *given.files], stdout=subprocess.PIPE)
     if asked.returncode in (0, 2):
         lines = asked.stdout.decode("utf-8", "replace").splitlines(True)
@@ -105,7 +97,7 @@ def name_words(root: pathlib.Path, given: Given) -> list[str]:
         return []
     need_whole_python("listing")
     from viewer.lines.named import method_words
-    return method_words(root, given.files)
+    return method_words(root, given.files, given.values("--aidl"))
 
 
 # ---- what is asked for

@@ -31,17 +31,18 @@ from checks.kit.tables.reading import Row, numbered, object_rows, names_of, reco
 from checks.kit.tables.stream import Stream, split, stream_of
 from commands.listing import LISTING
 from commands.reading import Given, read
-from viewer.lines.asked import printer_words
+from viewer.lines.asked import OF_VIEWER, printer_words
+from viewer.arguments.sources import Declarations
 from viewer.database import raw_tables
 from viewer.lines.build import build_printer
 from viewer.lines.named import is_before_15, lines_of
-from viewer.listing import OF_VIEWER
 from viewer.listing_words import PLACES, TABLES, TIMES, number_of
-from viewer.methods.known import BINDER, MANAGER, load_methods
+from viewer.methods.known import BINDER, MANAGER, Methods, load_methods
 from viewer.units import signed
 
 SIDED = DRIVER / "leaks/capture-1.cap"
 SIDE = SIDED.with_name("capture.side")
+INTERFACES = ROOT / "samples/interfaces"
 STORED = sorted((CHECKS / "listing/stored").iterdir())
 SANITIZED = "-O1", "-g", "-fsanitize=address,undefined", "-fno-sanitize-recover=all", "-U_FORTIFY_SOURCE"
 STATUSES = 0, 1, 2, 4
@@ -73,11 +74,17 @@ def printed(printer: pathlib.Path, given: Given, stream: bytes) -> tuple[int, li
     return status, (out + err).decode("utf-8", "replace").splitlines()
 
 
-def write_methods(printer: pathlib.Path, files: list[str]) -> None:
+def write_methods(printer: pathlib.Path, files: list[str], methods: Methods) -> None:
     """Writes the file of names for a capture, as ./listing does, beside the printer."""
     asked = Given([("--interface", [MANAGER]), ("--objects", [])], files)
     _, lines = printed(printer, asked, stream_for(asked))
-    printer.with_name(METHODS).write_text("".join(lines_of(is_before_15(lines))), "utf-8")
+    printer.with_name(METHODS).write_text("".join(lines_of(is_before_15(lines), methods)), "utf-8")
+
+
+def methods_of(sources: list[str]) -> Methods:
+    """The methods of all that these sources declare."""
+    declared = Declarations(sources)
+    return declared.names(list(declared.unread))
 
 
 # ---- stored listings
@@ -88,7 +95,7 @@ def check_stored(printer: pathlib.Path, room: pathlib.Path, stored: pathlib.Path
     words, *lines, status = stored.read_text("utf-8").splitlines()
     given = read(LISTING, words.split()[1:])
     if given.asks("--names"):
-        write_methods(printer, given.files)
+        write_methods(printer, given.files, methods_of(given.values("--aidl")))
     compare(f"stored/{stored.name}", printed(printer, given, stream_for(given)), (int(status.split()[1]), lines), fail)
 
 
@@ -107,7 +114,7 @@ def check_options(printer: pathlib.Path, room: pathlib.Path, fail: Fail) -> None
 # ---- names
 
 
-def names_by_database(capture: bytes) -> list[tuple[str, str]]:
+def names_by_database(capture: bytes, methods: Methods) -> list[tuple[str, str]]:
     """The method and the service of each record, by the statements of the viewer, from the second reading."""
     stream, rows = Stream([capture]), dict[str, list[Row]](record=[], object=[])
     for it in (it for records in stream.cut.records for it in records):
@@ -125,7 +132,7 @@ def names_by_database(capture: bytes) -> list[tuple[str, str]]:
             if made:
                 database.executemany(f"INSERT INTO raw_{table} VALUES ({', '.join('?' * len(made[0]))})",
                                      [[signed(it) if isinstance(it, int) else it for it in row] for row in made])
-        load_methods(database, {})
+        load_methods(database, methods)
         return database.execute(NAMES, (BINDER,)).fetchall()
 
 
@@ -167,10 +174,12 @@ def check_named(printer: pathlib.Path, room: pathlib.Path, fail: Fail) -> None:
 def check_names(printer: pathlib.Path, capture: pathlib.Path, more: Options, fail: Fail) -> None:
     """The names of one capture. With more options each line has more after it."""
     names: Options = [("--names", [])]
-    write_methods(printer, [str(capture)])
+    methods = methods_of([str(INTERFACES)])
+    write_methods(printer, [str(capture)], methods)
+    by_database = names_by_database(capture.read_bytes(), methods)
     for form, join in (([], with_names), ([("--form", ["tab"])], with_tabs)):
         lines = came_of(printer, form, capture)
-        due = [join(line, *named) for line, named in zip(lines, names_by_database(capture.read_bytes()), strict=True)]
+        due = [join(line, *named) for line, named in zip(lines, by_database, strict=True)]
         if due == lines:
             fail(f"{capture}: no record has a name")
         compare(f"{capture}, {form}", came_of(printer, [*form, *names], capture), due, fail)
@@ -188,7 +197,7 @@ def came_of(printer: pathlib.Path, options: Options, capture: pathlib.Path) -> l
 def check_harmed_names(printer: pathlib.Path, room: pathlib.Path, fail: Fail) -> None:
     """Files of names that are cut or changed, and names that are none."""
     chance, given = random.Random("names"), Given([("--names", []), ("--form", ["tab"])], [str(NAMED[0])])
-    good, stream, methods = "".join(lines_of(True)).encode(), stream_for(given), printer.with_name(METHODS)
+    good, stream, methods = "".join(lines_of(True, {})).encode(), stream_for(given), printer.with_name(METHODS)
     made = [f"{MANAGER}\t3\t{name}\n".encode() for name in ("", "a b", "\x1b[2J", "a\tb", "ä", "a\0b")]
     made += [b"\t1\ta\n", b"*\t\ta\n", b"*\t-1\ta\n", b"*\t18446744073709551616\ta\n", b"\n", b"\t\t\n", b"*\t1", b"\0"]
     for at in range(WAYS * WAYS):
@@ -328,7 +337,7 @@ PARTS = list(parts())
 
 def judge(given: argparse.Namespace, room: pathlib.Path, fail: Fail) -> None:
     printer = build_printer(room, *SANITIZED)
-    printer.with_name(METHODS).write_text("".join(lines_of(True)), "utf-8")
+    printer.with_name(METHODS).write_text("".join(lines_of(True, {})), "utf-8")
     play([part for part in PARTS if part.name in given.cases], printer, room, fail)
 
 
