@@ -1,5 +1,6 @@
 """What `./listing` does: from its words to the proved program that reads the capture, and to what prints its rows."""
 
+import contextlib
 import functools
 import os
 import pathlib
@@ -7,7 +8,7 @@ import sys
 
 from commands.listing import LISTING
 from commands.reading import Given, Refused, read
-from viewer.files import Stopped, quoted
+from viewer.files import Stopped, quoted, state_of, unchanged
 from viewer.lines.asked import OF_VIEWER, printer_words, program_words, words_without
 from viewer.lines.run import is_ready, run
 from viewer.listing_words import TABLES, TIMES, doubts_of_files, doubts_of_options, is_text
@@ -22,8 +23,10 @@ if TYPE_CHECKING:
 
 
 def frame_at(root: pathlib.Path, files: list[str], place: int) -> int:
-    """The number of the frame that has a place."""
+    """The number of the frame that has a place, for which the capture is read once more."""
     import subprocess
+    for file in files:
+        state_of(file)
     words = ["--frame", str(place), "--form", "tab", "--", *files]
     asked = subprocess.run([root / "listing", *words], stdout=subprocess.PIPE)
     line = asked.stdout.decode("utf-8", "replace").partition("\n")[0]
@@ -81,10 +84,14 @@ def list_with_arguments(root: pathlib.Path, given: Given) -> int:
     import subprocess
     from viewer.arguments.listed import listed
     words = words_without(given, "--arguments", *([] if given.asks("--names") else ["--aidl"]))
-    asked = subprocess.run([root / "listing", *words, "--", *given.files], stdout=subprocess.PIPE)
-    if asked.returncode in (0, 2):
+    with unchanged([*given.files, *given.values("--side")]):
+        asked = subprocess.run([root / "listing", *words, "--", *given.files], stdout=subprocess.PIPE)
+        if asked.returncode not in (0, 2):
+            return asked.returncode
         lines = asked.stdout.decode("utf-8", "replace").splitlines(True)
-        write(listed(root, lines, given.files, given.values("--side"), given.values("--aidl")))
+        said = list(listed(root, lines, given.files, given.values("--side"), given.values("--aidl")))
+    with contextlib.suppress(BrokenPipeError):  # who reads has enough, as of other lines
+        write(said)
     return asked.returncode
 
 

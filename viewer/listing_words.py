@@ -109,9 +109,11 @@ def is_text(word: str) -> bool:
 
 
 def why_not(file: str) -> str | None:
-    """Why a file can't be opened. What can be opened is not, so that nothing is taken from a pipe."""
+    """Why a file can't be opened and read. What can be is not opened, so that nothing is taken from a pipe."""
     try:
         mode = os.stat(file).st_mode
+        if stat.S_ISDIR(mode):
+            return os.strerror(errno.EISDIR)
         if stat.S_ISFIFO(mode) or os.access(file, os.R_OK) and not stat.S_ISSOCK(mode):
             return None
         os.close(os.open(file, os.O_RDONLY | os.O_NONBLOCK))
@@ -122,14 +124,9 @@ def why_not(file: str) -> str | None:
 
 def doubts_of_files(given: Given) -> Iterator[str]:
     """Which files and folders can't be opened, or can't be read."""
-    is_of_tables = given.asks(*TABLES)
     for folder in given.values("--tables"):
         if not os.path.isdir(folder):
             yield f"{quoted(folder)} is no folder"
-    for file in [*([] if is_of_tables else given.values("--side")), *given.files]:
+    for file in [*([] if given.asks(*TABLES) else given.values("--side")), *given.files]:
         if why := why_not(file):
             yield f"{quoted(file)}: {why}"
-    # What comes after a malformed part is not read.
-    for file in given.files if is_of_tables else given.files[:1]:
-        if os.path.isdir(file):
-            yield f"{quoted(file)}: {os.strerror(errno.EISDIR)}"

@@ -581,16 +581,38 @@ def check_words(program: pathlib.Path, room: pathlib.Path, fail: Fail) -> None:
         compare(f"the script, {words}", (status, told[-1:]), (due_status, due[-1:]), fail)
     compare("a place without a record", listing(capture, "--at", 20)[0], 1, fail)
     compare("a file that is not there", listing("no-such.cap"), (4, ["fault Open"]), fail)
-    with subprocess.Popen([script, "--form", "tab", capture], cwd=ROOT, stdout=subprocess.PIPE,
-                          stderr=subprocess.PIPE) as ended:
-        assert ended.stdout and ended.stderr
-        ended.stdout.close()
-        compare("a closed pipe", (ended.stderr.read(), ended.wait(60)), (b"", 0), fail)
-    with open("/dev/full", "w", encoding="utf-8") as full:
-        ended_early = runs.answer([script, capture], cwd=ROOT, stdout=full)
-    compare("a full device", ended_early, (4, None, b"fault Write\n"), fail)
     piped = runs.answer(["sh", "-c", f"cat {capture} | ./listing /dev/stdin"], cwd=ROOT)
     compare("a pipe", lines_of(piped), listing(capture), fail)
+
+
+def check_errors(program: pathlib.Path, room: pathlib.Path, fail: Fail) -> None:
+    """What can't be read is named in one line. What is read more than once can't be a pipe, and nothing waits for
+    one. Who reads the lines may have enough, and the disk may be full, whatever lists them."""
+    script, capture, pipe = ROOT / "listing", DRIVER / "hello-stuck/capture-1.cap", room / "pipe"
+    side, arguments = capture.with_name("capture.side"), ("--at", 5188, "--arguments", "--aidl", "samples/interfaces")
+    os.mkfifo(pipe)
+    (room / "numbers.side").write_text(f"binder side list 3\n5 frames {2**63} 1 1\n", "utf-8")
+    again = (f"listing: {pipe} is a pipe or a device, and is read more than once: write it into a file first, by cat >"
+             " FILE")
+    folder, absent = f"listing: {room}: Is a directory", "listing: no.cap: No such file or directory"
+    for words, due in (
+            ((capture, room), (4, [folder, "fault Read"])), ((capture, "--side", room), (4, [folder, "fault Read"])),
+            ((capture, "no.cap"), (4, [absent, "fault Open"])), (("no.cap", "--around", 48), (4, [absent])),
+            (("no.cap", *arguments), (4, [absent])), ((capture, "--side", pipe, "--last", "2s"), (4, [again])),
+            ((pipe, "--around", 48, "--side", side), (4, [again])), ((pipe, *arguments), (4, [again])),
+            ((capture, *arguments, "--side", pipe), (4, [again])),
+            ((capture, "--side", room / "numbers.side", "--last", "1s"), (0, [])),
+            ((capture, "--names", "--aidl", "no.aidl"), (4, ["listing: no.aidl: No such file or directory"]))):
+        compare(f"{words}", answer(script, *words), due, fail)
+    for words in ((capture, "--form", "tab"), (capture, *arguments)):
+        with subprocess.Popen([script, *map(str, words)], cwd=ROOT, stdout=subprocess.PIPE, stderr=subprocess.PIPE
+                              ) as ended:
+            assert ended.stdout and ended.stderr
+            ended.stdout.close()
+            compare(f"{words}, a closed pipe", (ended.stderr.read(), ended.wait(60)), (b"", 0), fail)
+        with open("/dev/full", "w", encoding="utf-8") as full:
+            status, _, err = runs.answer([script, *map(str, words)], cwd=ROOT, stdout=full)
+        compare(f"{words}, a full device", (status, err.count(b"\n")), (4, 1), fail)
 
 
 PARTS = [
@@ -598,7 +620,7 @@ PARTS = [
     *(Part(f"tables/{capture.parent.name}", check_tables, (capture,)) for capture in CAPTURES),
     *(Part(f"side/{capture.parent.name}", check_side, (capture,)) for capture in CAPTURES),
     *parts_of(check_captures, check_narrowed, check_freezes, check_forms, check_parts, check_interfaces, check_services,
-              check_before_fault, check_columns, check_places, check_words)]
+              check_before_fault, check_columns, check_places, check_words, check_errors)]
 
 
 def judge(given: argparse.Namespace, room: pathlib.Path, fail: Fail) -> None:

@@ -14,7 +14,7 @@ from viewer.database.programs import build_programs
 from viewer.database.side_beside import side_beside
 from viewer.database.side_list import SideList, joined_sides
 from viewer.database.sqlite import open_database
-from viewer.files import linked, unchanged
+from viewer.files import linked
 from viewer.terminal import shown
 
 # The line of a record, which begins with its place.
@@ -24,12 +24,10 @@ RECORD = re.compile(r"(\d+) \d+ \d+ \d+ \d+ B[CR]_")
 def database_of(root: pathlib.Path, files: list[str], sides: list[str], room: pathlib.Path) -> sqlite3.Connection:
     """A database that has the tables of the listing, and what the side lists say of the recording."""
     made = room / "capture.db"
-    with unchanged(files):
-        build_programs(root)
-        raw_tables.loader()
-        made.with_suffix(".rows").mkdir()
-        loading.tables_of(root, linked(files, made.with_suffix(".rows")), None, made, False,
-                          raw_tables.SCHEMA_FILE)
+    build_programs(root)
+    raw_tables.loader()
+    made.with_suffix(".rows").mkdir()
+    loading.tables_of(root, linked(files, made.with_suffix(".rows")), None, made, False, raw_tables.SCHEMA_FILE)
     database = open_database(made)
     if sides:
         taken = SideList(database)

@@ -9,6 +9,7 @@ from typing import Iterator
 from viewer.database.raw_tables import load_side
 from viewer.database.side_list import SideList, joined_sides
 from viewer.database.sqlite import errors_in, open_database
+from viewer.files import unchanged
 
 # The numbers that frames may have, as SQLite has them.
 NUMBERS = 0, 2**63 - 1
@@ -27,7 +28,7 @@ def fill(database: sqlite3.Connection, path: str, others: pathlib.Path) -> None:
 @contextlib.contextmanager
 def database_of(sides: list[str]) -> Iterator[sqlite3.Connection]:
     """A database that has of a recording what its side lists say. If there are none, it is empty."""
-    with tempfile.TemporaryDirectory(prefix="listing-") as folder:
+    with unchanged(sides), tempfile.TemporaryDirectory(prefix="listing-") as folder:
         room = pathlib.Path(folder)
         made, others = room / "side.db", room / "others"
         path = joined_sides(sides, room / "joined.side") if sides else None
