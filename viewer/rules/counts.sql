@@ -10,7 +10,7 @@ CREATE TEMP TABLE sent(generation INTEGER, code INTEGER, oneway INTEGER, sends I
   open INTEGER, bytes REAL, delivered INTEGER, one_fits INTEGER, buffers INTEGER, peak INTEGER, longest_seq INTEGER,
   longest INTEGER, good INTEGER, good_seq INTEGER, good_time INTEGER, waited INTEGER, handled INTEGER, answer INTEGER,
   upid INTEGER, handle INTEGER, node_upid INTEGER, ptr INTEGER, cookie INTEGER);
--- beside: nodes.sql
+-- beside: nodes.sql, where they stay
 INSERT INTO sent
 SELECT x.*, g.upid, g.handle, n.upid, n.ptr, n.cookie
 FROM sent_sum x CROSS JOIN raw_generation g ON g.id = x.generation LEFT JOIN node_of n ON n.generation = x.generation;

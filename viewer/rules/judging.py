@@ -65,16 +65,36 @@ def name_of(number: int) -> str:
     return f"statement {number}"
 
 
-def query_of(number: int, statement: Statement) -> "Query":
+def query_of(plan: Plan, number: int, finders: "Finders") -> "Query":
+    """What is asked for the rows of a statement."""
     from viewer.database.finders import Query
-    return Query(name_of(number), statement.text[statement.query:].rstrip().removesuffix(";"))
+    it = plan.statements[number]
+    if it.makes == "VIEW":
+        return Query(name_of(number), f"SELECT * FROM {it.name}", (), it.name)
+    text = it.text[it.query:].rstrip().removesuffix(";")
+    names = words_of(text)
+    places = tuple(place for name, place in finders.places.items() if name in names)
+    return Query(name_of(number), text, places, *((it.name, columns_of(plan, it.name)) if it.stays else ()))
+
+
+def columns_of(plan: Plan, table: str) -> str:
+    """How a table without rows declares its columns."""
+    making = next(it.text for it in plan.statements if (it.makes, it.name) == ("TABLE", table))
+    return making[making.index("("):].rstrip().removesuffix(";")
+
+
+def begin_due(plan: Plan, due: list[tuple[int, Statement]], given: list["Given"], finders: "Finders",
+              numbers: dict[str, float]) -> None:
+    """Has other processes find the rows of statements. They also get the views that these name, but of what is found
+    already."""
+    views = [it for it in views_of(plan, due) if it.name not in finders.places]
+    finders.begin([query_of(plan, number, finders) for number, _ in due], [*given, *views], numbers)
 
 
 def begin(database: sqlite3.Connection, finders: "Finders") -> None:
     """Has other processes find what the rules take of the raw tables alone, while the database is filled."""
     plan = with_sums(database, plan_of(FOLDER))
-    due = due_after(plan, LOADING)
-    finders.begin([query_of(number, it) for number, it in due], views_of(plan, due), numbers_of(database))
+    begin_due(plan, due_after(plan, LOADING), [], finders, numbers_of(database))
 
 
 class Judging:
@@ -105,11 +125,22 @@ class Judging:
         if self.is_ruled:
             self.run_ruled(statement)
             return
-        if not self.finders or not self.finders.has(name_of(number)):
+        if statement.makes == "VIEW" or not self.finders or not self.finders.has(name_of(number)):
             self.database.execute(statement.text, self.numbers)
+            return
+        if statement.stays:
+            self.look_at(statement.name)
             return
         with self.finders.found(self.database, name_of(number)):
             self.database.execute(f"{statement.text[:statement.query]}SELECT * FROM found.rows")
+
+    def look_at(self, table: str) -> None:
+        """Has a view, in place of a table without rows, of the rows that other processes find."""
+        assert self.finders
+        self.database.execute("COMMIT")
+        self.database.execute(f"DROP TABLE temp.{table}")
+        self.finders.places[table].attach(self.database)
+        self.database.execute("BEGIN")
 
     def run_ruled(self, statement: Statement) -> None:
         """Runs a statement where all tables are there, if it finds anything. A table is filled in place of made."""
@@ -129,8 +160,7 @@ class Judging:
         due = due_after(self.plan, file) if self.finders and file else []
         if self.finders and due:
             self.database.execute("COMMIT")
-            given = [self.of_findings(), *self.tables_of(due), *views_of(self.plan, due)]
-            self.finders.begin([query_of(number, it) for number, it in due], given, self.numbers)
+            begin_due(self.plan, due, [self.of_findings(), *self.tables_of(due)], self.finders, self.numbers)
             self.database.execute("BEGIN")
 
     def of_findings(self) -> "Given":
@@ -192,8 +222,12 @@ def due_after(plan: Plan, file: str) -> list[tuple[int, Statement]]:
     return [(number, it) for number, it in enumerate(plan.statements) if it.beside == file]
 
 
+def words_of(text: str) -> set[str]:
+    return set(re.findall(r"\w+", text))
+
+
 def names_in(due: list[tuple[int, Statement]]) -> set[str]:
-    return {word for _, it in due for word in re.findall(r"\w+", it.text)}
+    return set().union(*(words_of(it.text) for _, it in due))
 
 
 def views_of(plan: Plan, due: list[tuple[int, Statement]]) -> list["Given"]:

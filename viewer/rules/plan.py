@@ -23,8 +23,9 @@ FORM = 0
 # What a statement makes, and whether of a query; or the table that it changes. Of an index the name is its table's.
 MAKES = (r"^(?:CREATE (?:UNIQUE )?(?:TEMP )?(TABLE|VIEW|INDEX) (?:\S+ ON )?|UPDATE |INSERT (?:OR \w+ )?INTO "
          r"|DELETE FROM )(\w+)( AS\b)?")
-# After which file another process may find the rows of a statement, and its query.
-BESIDE, QUERY = r"^-- beside: (\S+)$", r"\b(?:SELECT|WITH)\b"
+# After which file another process may find the rows of a statement, and whether they stay where it finds them; and its
+# query.
+BESIDE, QUERY = r"^-- beside: (\S+?)(, where they stay)?$", r"\b(?:SELECT|WITH)\b"
 
 
 # A guard is a table, and what must hold for a row of it, as `finding WHERE section = 'calls'`; or a query, of which
@@ -34,14 +35,16 @@ Guards = tuple[tuple["str | Guards", ...], ...]
 
 class Statement(NamedTuple):
     """A statement of a file, and what it makes, or else the name of the table that it changes. `beside` is the file
-    after which another process may find its rows; nothing if this one does. `query` is where the query begins that does
-    so, or of which it makes a table; 0 if there is none. It does nothing if each part of it has a guard without a
-    row."""
+    after which another process may find its rows; nothing if this one does. If they stay in the file where they are
+    found, who looks at them does so there, and none copies them: so it is with those of a view. `query` is where the
+    query begins that does so, or of which it makes a table; 0 if there is none. It does nothing if each part of it has
+    a guard without a row."""
     file: str
     text: str
     makes: str
     name: str
     beside: str
+    stays: bool
     query: int
     guards: Guards = ()
 
@@ -55,9 +58,10 @@ class Plan(NamedTuple):
 def statement_of(file: str, text: str) -> Statement:
     made, said = re.search(MAKES, text, re.M), re.search(BESIDE, text, re.M)
     makes, name, of_query = made.groups("") if made else ("", "", "")
-    before = said or (made if makes == "TABLE" and of_query else None)
+    before = None if makes == "VIEW" else said or (made if makes == "TABLE" and of_query else None)
     query = re.compile(QUERY).search(text, before.end()) if before else None
-    return Statement(file, text, makes, name, said[1] if said else "", query.start() if query else 0)
+    stays = said is not None and (makes == "VIEW" or said[2] is not None)
+    return Statement(file, text, makes, name, said[1] if said else "", stays, query.start() if query else 0)
 
 
 def texts_of(path: pathlib.Path) -> list[str]:

@@ -14,6 +14,7 @@ WHERE s.generation NOTNULL GROUP BY 1, 2, 3, 4;
 -- answered, and the oneway sends that were delivered, and the two after it are the longest of these. `waited` is the
 -- longest time from a send to its delivery, and `handled` that from the delivery of a oneway send until it is freed.
 -- `answer` is the last reply to a call.
+-- beside: loading
 CREATE TEMP VIEW sent_sum AS
 SELECT
   s.generation,
@@ -46,6 +47,7 @@ WHERE s.generation NOTNULL GROUP BY 1, 2, 3;
 
 -- What each process got: replies by the call that they answer, and all else by the object. A reply has no ptr and no
 -- cookie; all else opens its call, if any, so that this has no handle and was not sent. `good` counts what was freed.
+-- beside: loading
 CREATE TEMP VIEW came_sum AS
 SELECT
   reply,
