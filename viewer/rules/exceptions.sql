@@ -19,6 +19,7 @@
 -- ---- what they say of which finding
 
 -- The last answer of each method with many.
+-- beside: counts.sql
 CREATE TEMP TABLE last_answer AS
 SELECT node_upid AS upid, ptr, code, max(answer) AS place FROM sent GROUP BY 1, 2, 3
 HAVING sum(good) >= :TOO_MANY + :ENOUGH;

@@ -5,6 +5,7 @@
 
 -- The paths that a process takes of which frames are missing: how long calls took there, and how many replies were
 -- freed, is not known of all.
+-- beside: rule.sql
 CREATE TEMP TABLE half_known AS
 SELECT DISTINCT code, node_upid AS upid, ptr
 FROM sent

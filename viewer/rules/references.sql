@@ -1,12 +1,12 @@
 -- H3 to H12, H14 to H17, T, U: references to handles and nodes that are held, and those that are balanced.
 -- needs: database/schema.sql: finding, raw_generation, raw_object, raw_record, raw_send, raw_thread, side_time;
 --   nodes.sql: manager, node_of, who; records.sql: asked, dead_record, told_death; paths.sql: given, given_way,
---   thing_path; ages.sql: ended, last, leaving, process_life, recorded; handles.sql: handle_row; rule.sql: lossy;
---   ways.sql: collector, earlier, kept_handle, kept_way, let_go, of_way, outlived; waits.sql: waits; judging.py:
---   call_name
--- makes: temporary tables: mourned, dead_way, outlives, let_go_later, told_by_reply, held_change, most_held,
---   more_references, each_again, nearly_all, growing, by_design, overdue, unused, outliving, not_collected,
---   kept_elsewhere, used_of_way, weakly_kept, handed_over; indexes: most_held_of, more_references_of, by_design_of
+--   thing_path; ages.sql: ended, last, leaving, process_life, recorded; handles.sql: handle_row; held.sql: held_change;
+--   rule.sql: lossy; ways.sql: collector, earlier, kept_handle, kept_way, let_go, of_way, outlived; waits.sql: waits;
+--   judging.py: call_name
+-- makes: temporary tables: mourned, dead_way, outlives, let_go_later, told_by_reply, most_held, more_references,
+--   each_again, nearly_all, growing, by_design, overdue, unused, outliving, not_collected, kept_elsewhere, used_of_way,
+--   weakly_kept, handed_over; indexes: most_held_of, more_references_of, by_design_of
 
 -- ---- what findings are called
 
@@ -178,21 +178,8 @@ FROM outlives o JOIN (SELECT d.upid, d.way, d.owner, count(*) AS n, count(t.id) 
 WHERE rule IS NULL AND o.id = finding.id;
 -- The most that a generation that is held had at once, if one thread took and let go of all. Records of several threads
 -- say nothing of that: one may write late that it let go, when another has taken it again. By these a generation has
--- more only if it has three now, besides one for each of them that is in a call, and may let go after it. A handle may
--- have very many generations, of which at most one is held.
-CREATE TEMP TABLE held_change(generation INTEGER, place INTEGER, seq INTEGER, utid INTEGER, strong INTEGER,
-  weak INTEGER, strong_then INTEGER, weak_then INTEGER, PRIMARY KEY(generation, place)) WITHOUT ROWID;
--- beside: loading
-INSERT INTO held_change
-WITH held AS MATERIALIZED (
-  SELECT id, upid, handle, begin FROM raw_generation WHERE strong + weak > 0 AND (acquired > 1 OR increfs > 1))
-SELECT *, sum(strong) OVER changes AS strong_then, sum(weak) OVER changes AS weak_then
-FROM (SELECT g.id AS generation, r.place, r.seq, r.utid, (r.kind = :BC_ACQUIRE) - (r.kind = :BC_RELEASE) AS strong,
-    (r.kind = :BC_INCREFS) - (r.kind = :BC_DECREFS) AS weak
-  FROM (SELECT 1 FROM held LIMIT 1) CROSS JOIN raw_record r CROSS JOIN raw_thread t USING (utid)
-    CROSS JOIN held g ON g.upid = t.upid AND g.handle = r.handle AND g.begin <= r.place
-  WHERE r.kind IN (:BC_INCREFS, :BC_ACQUIRE, :BC_RELEASE, :BC_DECREFS))
-WINDOW changes AS (PARTITION BY generation ORDER BY place);
+-- more only if it has three now, besides one for each of them that is in a call, and may let go after it.
+-- beside: waits.sql
 CREATE TEMP TABLE most_held AS
 SELECT generation, iif(min(utid) = max(utid), max(strong), max(now_strong) - 1 - count(DISTINCT calls)) AS strong,
   iif(min(utid) = max(utid), max(weak), max(now_weak) - 1 - count(DISTINCT calls)) AS weak
@@ -202,6 +189,7 @@ FROM (SELECT c.generation, g.strong AS now_strong, g.weak AS now_weak, c.utid,
 CREATE UNIQUE INDEX temp.most_held_of ON most_held(generation);
 -- Of which references become more to the end: how many there are at the half of what was recorded of the process, and
 -- at the end, if that is more by enough, and the last two quarters have each made it more.
+-- beside: held.sql
 CREATE TEMP TABLE more_references AS
 SELECT generation, half || ' held at half of its time, ' || held || ' at the end' AS told
 FROM (SELECT generation, sum(n * (left >= :LATELY)) AS half, sum(n * (left >= :LATELY / 2)) AS later, sum(n) AS held

@@ -3,8 +3,7 @@
 --   raw_record, raw_send, side_time; database/views.sql: process, thread; database/time_views.sql: call_tree; sums.sql:
 --   again_sum; nodes.sql: node_of, who; counts.sql: sent; judging.py: counted, duration, hash_of
 -- after: used_up.sql
--- makes: temporary tables: slow_main, slow_part, told_many, timed_path, listener, late_listener, slow_listener,
---   periodic
+-- makes: temporary tables: slow_main, slow_part, timed_path, listener, late_listener, slow_listener, periodic
 
 -- ---- what findings are called
 
@@ -62,16 +61,16 @@ SELECT 'slow', 'main thread', m.place, m.seq, m.upid, m.utid, m.code, m.ptr, m.s
 FROM slow_main m WHERE m.nth = 1;
 
 -- What a process sent to objects of many others by one code: each with its longest call; or with the longest handler of
--- oneway sends, the time from the delivery until its buffer is freed.
-CREATE TEMP TABLE told_many AS
-SELECT upid, code, oneway
-FROM (SELECT DISTINCT upid, code, oneway, node_upid FROM sent)
-GROUP BY 1, 2, 3 HAVING count(*) >= :TOO_MANY;
+-- oneway sends, the time from the delivery until its buffer is freed. Of objects without an interface it is not known
+-- which ones are alike.
+-- beside: counts.sql
 CREATE TEMP TABLE timed_path AS
 SELECT p.generation, p.code, p.oneway, p.upid, p.node_upid AS server, p.ptr,
   iif(p.oneway, p.handled, p.longest) AS longest
-FROM (SELECT 1 FROM told_many LIMIT 1) CROSS JOIN sent p
-WHERE (p.upid, p.code, p.oneway) IN (SELECT upid, code, oneway FROM told_many);
+FROM (SELECT 1 FROM object_interface LIMIT 1) CROSS JOIN sent p
+WHERE (p.upid, p.code, p.oneway) IN (
+  SELECT upid, code, oneway FROM (SELECT DISTINCT upid, code, oneway, node_upid FROM sent)
+  GROUP BY 1, 2, 3 HAVING count(*) >= :TOO_MANY);
 -- What a process told listeners of one interface by one code, each process that has some with its longest call, or
 -- handler.
 CREATE TEMP TABLE listener AS
