@@ -1,7 +1,7 @@
 /*
  * Loads the raw tables of a capture into a new SQLite database.
  *
- *     load [--pack TABLE [--tell COLUMN] [--by COLUMN]..].. DATABASE FOLDER SCHEMA [SIDE [OTHERS]]
+ *     load [--pack TABLE [--tell COLUMN] [--by COLUMN | --index COLUMN]..].. DATABASE FOLDER SCHEMA [SIDE [OTHERS]]
  *
  * DATABASE is created, and must not exist. SCHEMA is a file of SQL statements that create the tables; or a database that
  * has these tables, empty, to be copied, which takes a tenth of the time. Each table whose name begins with raw_ takes the rows of FOLDER/NAME.rows, where NAME is what follows raw_. docs/DATABASE.md says what
@@ -10,8 +10,8 @@
  * Everything is one transaction.
  *
  * A TABLE has whole numbers alone, and its first column rises, or repeats if it is no key. It becomes a virtual table of DATABASE.TABLE, a file of
- * packed rows, in which rows are found by the first column, and by each COLUMN. Of one that is told, blocks of rows
- * that have other values in it are passed over. If FOLDER/NAME.rows of such a table is a
+ * packed rows, in which rows are found by the first column, and by each COLUMN: by an index that is made here, or by who
+ * asks. Of one that is told, blocks of rows that have other values in it are passed over. If FOLDER/NAME.rows of such a table is a
  * named pipe, its rows are packed as they come, and all files of FOLDER are there at the end of standard input.
  *
  * Status 0: everything is loaded. Status 1: a line on standard error says why not, and DATABASE is not whole.
@@ -351,6 +351,8 @@ static void learn_table(sqlite3 *database, struct packed_table *table)
 	table->repeats = sqlite3_step(asked) == SQLITE_ROW && !sqlite3_column_int(asked, 0);
 	sqlite3_finalize(asked);
 	table->told = table->told_name ? column_of(database, table, table->told_name) : 0;
+	for (int number = 0; number < table->indexes; number++)
+		table->index_column[number] = column_of(database, table, table->index[number]);
 }
 
 static void *pack_in_thread(void *table)
@@ -436,18 +438,18 @@ static char *columns_text(sqlite3 *database, const char *table)
 }
 
 /* The numbers of the columns by which rows are found, each after a comma. */
-static char *indexes_text(sqlite3 *database, const struct packed_table *table)
+static char *indexes_text(const struct packed_table *table)
 {
 	char *text = sqlite3_mprintf("");
 	for (int number = 0; number < table->indexes; number++)
-		text = sqlite3_mprintf("%z, %d", text, column_of(database, table, table->index[number]));
+		text = sqlite3_mprintf("%z, %d", text, table->index_column[number]);
 	return text;
 }
 
 /* Puts the packed rows in the place of the table; or into it, if they are not in order. */
 static void give_packed(sqlite3 *database, const struct packed_table *table)
 {
-	char *columns = columns_text(database, table->name), *indexes = indexes_text(database, table);
+	char *columns = columns_text(database, table->name), *indexes = indexes_text(table);
 	char *statements = table->rises
 		? sqlite3_mprintf("DROP TABLE %w; CREATE VIRTUAL TABLE %w USING packed(%Q, %s%s)", table->name, table->name,
 				  table->packed, columns, indexes)
@@ -515,7 +517,8 @@ static void load(sqlite3 *database, char **words, const struct schema *schema, s
 
 static int usage(void)
 {
-	fputs("usage: load [--pack TABLE [--tell COLUMN] [--by COLUMN]..].. DATABASE FOLDER SCHEMA [SIDE [OTHERS]]\n", stderr);
+	fputs("usage: load [--pack TABLE [--tell COLUMN] [--by COLUMN | --index COLUMN]..].. DATABASE FOLDER SCHEMA"
+	      " [SIDE [OTHERS]]\n", stderr);
 	return 64;
 }
 
@@ -531,7 +534,9 @@ static int take_packed(struct packing *packing, int count, char **words)
 			packing->table[packing->tables++].name = words[at + 1];
 		} else if (last && !last->told_name && !strcmp(words[at], "--tell")) {
 			last->told_name = words[at + 1];
-		} else if (last && last->indexes < MOST_COLUMNS && !strcmp(words[at], "--by")) {
+		} else if (last && last->indexes < MOST_COLUMNS
+			   && (!strcmp(words[at], "--by") || !strcmp(words[at], "--index"))) {
+			last->is_made[last->indexes] = !strcmp(words[at], "--index");
 			last->index[last->indexes++] = words[at + 1];
 		} else {
 			break;

@@ -10,13 +10,14 @@ void stop_for(sqlite3 *database) __attribute__((noreturn));
 sqlite3_stmt *prepared(sqlite3 *database, const char *statement);
 
 /*
- * A table that is packed: its name, the columns by which its rows are found beside the first one, the column that is
- * told of each block of rows, where its rows come from, and the file of packed rows.
+ * A table that is packed: its name, the columns by which its rows are found beside the first one, whether their indexes
+ * are made, the column that is told of each block of rows, where its rows come from, and the file of packed rows.
  */
 struct packed_table {
 	const char *name;
 	int indexes;
 	const char *index[MOST_COLUMNS], *told_name;
+	int is_made[MOST_COLUMNS], index_column[MOST_COLUMNS];
 	char *rows, *packed;
 	int columns, repeats, told, rises;	/* as packed.h has it */
 };

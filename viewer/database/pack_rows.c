@@ -6,6 +6,7 @@
 #include <unistd.h>
 
 #include "load.h"
+#include "packed_index.h"
 
 enum { READ_AT_ONCE = 1 << 20, LONGEST_ROW = 8 * (MOST_COLUMNS + 1) };
 
@@ -43,6 +44,29 @@ static uint64_t take(struct stream *stream)
 	return number;
 }
 
+/* Makes the indexes that are made once for all. */
+static void make_indexes(const struct packed_table *table)
+{
+	struct packed_file file = { 0 };
+	int status = SQLITE_OK;
+	for (int number = 0; status == SQLITE_OK && number < table->indexes; number++) {
+		if (!table->is_made[number])
+			continue;
+		struct packed_index index = { .column = table->index_column[number] };
+		char *path = sqlite3_mprintf("%s.%d", table->packed, index.column);
+		status = !path ? SQLITE_NOMEM : file.bytes ? SQLITE_OK : packed_map(&file, table->packed);
+		if (status == SQLITE_OK)
+			status = packed_index_make(&index, &file);
+		if (status == SQLITE_OK)
+			status = packed_index_write(&index, path);
+		packed_index_drop(&index);
+		sqlite3_free(path);
+	}
+	packed_unmap(&file);
+	if (status && status != SQLITE_TOOBIG)
+		stop("%s: an index of it can't be made: %s", table->packed, sqlite3_errstr(status));
+}
+
 void pack_rows(struct packed_table *table)
 {
 	struct stream *stream = malloc(sizeof *stream);
@@ -72,4 +96,6 @@ void pack_rows(struct packed_table *table)
 	close(stream->file);
 	free(stream);
 	table->rises = packer_end(&packer);
+	if (table->rises)
+		make_indexes(table);
 }

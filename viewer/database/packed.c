@@ -1,12 +1,12 @@
 /*
  * Packed rows as tables of SQLite, which are read only. A row is found by the first column, or between two values of
  * it. Rows of which other columns are not equal to what is asked for are passed over here, which takes less time than
- * SQLite takes for a row. Of some columns an index is made in memory when rows are first asked for by one: of each
- * value the rows that have it.
+ * SQLite takes for a row. Of some columns there is an index in a file, which the loader has made; or it is made in
+ * memory when rows are first asked for by one.
  */
 #include <stdlib.h>
 
-#include "packed_rows.h"
+#include "packed_index.h"
 
 /*
  * How a table is looked at: bits of the number by which SQLite hands a plan from best_plan to look_up. Above them the
@@ -24,25 +24,17 @@ enum { MOST_FILTERS = 3 };
  */
 static const double ROWS = 1048576, COST_OF_ALL = 3.2e6, COST_OF_ONE = 22, ROWS_OF_VALUE = 10, COST_OF_VALUE = 40;
 
-/* The rows of a value in an index: so many from `begin` on. None: the place of the value is free. */
-struct of_value {
-	int64_t value;
-	uint32_t begin, count;
-};
-
-/* The rows by the values of a column: a table in which a value is looked for, and the numbers of rows, in their order. */
+/* An index, and how many rows would have been looked at without it while it was not there. */
 struct by_column {
-	int column;
-	size_t places, values, looked_at;
-	struct of_value *of_value;	/* NULL: it is not made yet */
-	uint32_t *row;
+	struct packed_index index;
+	size_t looked_at;
 };
 
 struct table {
 	sqlite3_vtab base;
 	struct packed_file file;
 	int indexes;
-	struct by_column index[MOST_COLUMNS];
+	struct by_column by[MOST_COLUMNS];
 };
 
 /* A cursor is at a row between `least` and `most`, or at the end. */
@@ -104,97 +96,6 @@ static int go_to_first(struct cursor *cursor)
 
 /* ---- the rows of a value */
 
-/* The place of a value in an index, where it is or may be put. */
-static struct of_value *place_of(const struct by_column *index, int64_t value)
-{
-	size_t at = (size_t)((uint64_t)value * 0x9e3779b97f4a7c15 >> 32) & (index->places - 1);
-	while (index->of_value[at].count && index->of_value[at].value != value)
-		at = (at + 1) & (index->places - 1);
-	return &index->of_value[at];
-}
-
-/* Makes room for twice as many values. */
-static int make_room(struct by_column *index)
-{
-	struct by_column more = { .places = index->places ? 2 * index->places : 1024 };
-	more.of_value = calloc(more.places, sizeof *more.of_value);
-	if (!more.of_value)
-		return SQLITE_NOMEM;
-	for (size_t at = 0; at < index->places; at++)
-		if (index->of_value[at].count)
-			*place_of(&more, index->of_value[at].value) = index->of_value[at];
-	free(index->of_value);
-	index->of_value = more.of_value;
-	index->places = more.places;
-	return SQLITE_OK;
-}
-
-static int count_value(struct by_column *index, int64_t value, size_t number)
-{
-	(void)number;
-	if (2 * index->values >= index->places && make_room(index))
-		return SQLITE_NOMEM;
-	struct of_value *of = place_of(index, value);
-	index->values += !of->count;
-	of->value = value;
-	of->count++;
-	return SQLITE_OK;
-}
-
-static int note_row(struct by_column *index, int64_t value, size_t number)
-{
-	index->row[place_of(index, value)->begin++] = (uint32_t)number;
-	return SQLITE_OK;
-}
-
-/* Hands each row that has the column to `take`, with its number. */
-static int take_all(struct cursor *cursor, struct by_column *index, int (*take)(struct by_column *, int64_t, size_t))
-{
-	int status = go_to_first(cursor);
-	for (size_t number = 0; status == SQLITE_OK && !cursor->is_at_end; number++) {
-		status = packed_take_columns(&cursor->at, index->column);
-		if (status == SQLITE_OK && cursor->at.mask >> index->column & 1)
-			status = take(index, cursor->at.values[index->column], number);
-		if (status == SQLITE_OK)
-			status = go_up(cursor);
-	}
-	return status;
-}
-
-/* Counts the rows of each value, finds where each value's rows begin, and notes these: `begin` then is where they end. */
-static int fill_index(struct cursor *cursor, struct by_column *index)
-{
-	uint32_t rows = 0;
-	int status = make_room(index);
-	if (status == SQLITE_OK)
-		status = take_all(cursor, index, count_value);
-	for (size_t at = 0; status == SQLITE_OK && at < index->places; at++) {
-		index->of_value[at].begin = rows;
-		rows += index->of_value[at].count;
-	}
-	index->row = malloc((rows + 1) * sizeof *index->row);
-	if (!index->row)
-		return SQLITE_NOMEM;
-	if (status == SQLITE_OK)
-		status = take_all(cursor, index, note_row);
-	for (size_t at = 0; at < index->places; at++)
-		index->of_value[at].begin -= index->of_value[at].count;
-	return status;
-}
-
-static int make_index(struct table *table, struct by_column *index)
-{
-	if (index->of_value)
-		return SQLITE_OK;
-	struct cursor *cursor = calloc(1, sizeof *cursor);
-	if (!cursor)
-		return SQLITE_NOMEM;
-	*cursor = (struct cursor){ .table = table, .at.file = &table->file, .least = INT64_MIN, .most = INT64_MAX };
-	int status = table->file.blocks > UINT32_MAX / ROWS_OF_BLOCK ? SQLITE_TOOBIG : fill_index(cursor, index);
-	free(cursor);
-	return status;
-}
-
 /* The first of some rows that does not come before this number. */
 static const uint32_t *from_number(const uint32_t *first, const uint32_t *end, size_t number)
 {
@@ -228,7 +129,7 @@ static int go_to_first_of_all(struct cursor *cursor, int column, int64_t value)
  * Goes to the first row of a value between the keys that are asked for. The index is made when as many rows would have
  * been looked at without it as there are: for some looks at few rows it is not worth its time and memory.
  */
-static int go_to_first_of_value(struct cursor *cursor, struct by_column *index, int64_t value)
+static int go_to_first_of_value(struct cursor *cursor, struct by_column *by, int64_t value)
 {
 	size_t rows = cursor->table->file.blocks * ROWS_OF_BLOCK, before = 0, up_to = rows;
 	int status = SQLITE_OK;
@@ -238,14 +139,15 @@ static int go_to_first_of_value(struct cursor *cursor, struct by_column *index, 
 		status = packed_count_up_to(&cursor->at, cursor->most, &up_to);
 	if (status)
 		return status;
-	index->looked_at += up_to > before ? up_to - before : 0;
-	if (!index->of_value && index->looked_at < rows)
-		return go_to_first_of_all(cursor, index->column, value);
-	status = make_index(cursor->table, index);
+	by->looked_at += up_to > before ? up_to - before : 0;
+	if (!by->index.of_value && by->looked_at < rows)
+		return go_to_first_of_all(cursor, by->index.column, value);
+	status = packed_index_make(&by->index, &cursor->table->file);
+	const uint32_t *first, *end;
+	if (status == SQLITE_OK)
+		status = packed_index_find(&by->index, value, &first, &end);
 	if (status)
 		return status;
-	const struct of_value *of = place_of(index, value);
-	const uint32_t *first = index->row + of->begin, *end = first + of->count;
 	cursor->next_row = from_number(first, end, before);
 	cursor->end_of_rows = from_number(cursor->next_row, end, up_to);
 	return go_to_next_of_value(cursor);
@@ -362,9 +264,9 @@ static void add_filter(struct cursor *cursor, int plan, sqlite3_value *asked)
 static struct by_column *index_of(struct table *table, int column)
 {
 	int number = 0;
-	while (number < table->indexes && table->index[number].column != column)
+	while (number < table->indexes && table->by[number].index.column != column)
 		number++;
-	return number < table->indexes ? &table->index[number] : NULL;
+	return number < table->indexes ? &table->by[number] : NULL;
 }
 
 /*
@@ -537,10 +439,8 @@ static int disconnect(sqlite3_vtab *base)
 {
 	struct table *table = (struct table *)base;
 	packed_unmap(&table->file);
-	for (int number = 0; number < table->indexes; number++) {
-		free(table->index[number].of_value);
-		free(table->index[number].row);
-	}
+	for (int number = 0; number < table->indexes; number++)
+		packed_index_drop(&table->by[number].index);
 	free(table);
 	return SQLITE_OK;
 }
@@ -553,16 +453,21 @@ static int declare(sqlite3 *database, const char *columns)
 	return status;
 }
 
-/* Takes the numbers of columns that have an index. */
-static int take_indexes(struct table *table, int count, const char *const *words)
+/* Takes the numbers of columns that have an index, and the files of those that are made. */
+static int take_indexes(struct table *table, const char *path, int count, const char *const *words)
 {
-	for (int number = 0; number < count; number++) {
+	int status = SQLITE_OK;
+	for (int number = 0; status == SQLITE_OK && number < count; number++) {
 		int column = atoi(words[number]);
 		if (column <= 0 || column >= table->file.columns)
 			return SQLITE_CORRUPT;
-		table->index[table->indexes++].column = column;
+		struct packed_index *index = &table->by[table->indexes++].index;
+		index->column = column;
+		char *file = sqlite3_mprintf("%s.%d", path, column);
+		status = file ? packed_index_map(index, file) : SQLITE_NOMEM;
+		sqlite3_free(file);
 	}
-	return SQLITE_OK;
+	return status;
 }
 
 static int connect(sqlite3 *database, void *nothing, int count, const char *const *words, sqlite3_vtab **made,
@@ -575,7 +480,7 @@ static int connect(sqlite3 *database, void *nothing, int count, const char *cons
 	if (status == SQLITE_OK)
 		status = packed_map(&table->file, path);
 	if (status == SQLITE_OK)
-		status = take_indexes(table, count - 5, words + 5);
+		status = take_indexes(table, path, count - 5, words + 5);
 	if (status && path)
 		*why = sqlite3_mprintf("%s: it holds no packed rows", path);
 	sqlite3_free(path);

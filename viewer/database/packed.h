@@ -9,6 +9,9 @@
  * that is there; and the other columns. All these are numbers of seven bits a byte, the least ones first, with the
  * highest bit where more follow: nearly all are small, and one below 0 takes ten bytes.
  */
+#ifndef VIEWER_PACKED_H
+#define VIEWER_PACKED_H
+
 #include <sqlite3.h>
 #include <stddef.h>
 #include <stdint.h>
@@ -58,9 +61,11 @@ int packer_end(struct packer *packer);
  *
  *     CREATE VIRTUAL TABLE NAME USING packed('PATH', (COLUMNS) [, NUMBER]..)
  *
- * NUMBER is that of a column, from 0, by which rows are found too. And adds the module `sums` of sums.c, and the
- * functions of packed_keys.c.
+ * NUMBER is that of a column, from 0, by which rows are found too: by an index in the file PATH.NUMBER, or if there is
+ * none, by one in memory. And adds the module `sums` of sums.c, and the functions of packed_keys.c.
  */
 int packed_module_add(sqlite3 *database);
 int sums_module_add(sqlite3 *database);
 int packed_keys_add(sqlite3 *database);
+
+#endif

@@ -94,7 +94,7 @@ def said_by(program: Word, status: int, told: bytes) -> str:
 
 
 # What reads packed tables, and what is built, each of the sources that follow, in C.
-PACKED_C = ("packed.c", "packed_rows.c", "packed_keys.c", "sums.c")
+PACKED_C = ("packed.c", "packed_index.c", "packed_rows.c", "packed_keys.c", "sums.c")
 BUILT = {
     "load": ("load.c", "side_lines.c", "side_reader.c", "pack_rows.c", "packer.c", *PACKED_C),
     "packed.so": PACKED_C}
@@ -159,6 +159,10 @@ def loader() -> pathlib.Path:
 PACKED_TABLES = {"raw_record": (), "raw_frame": ("utid",), "raw_delivery": (), "raw_send": ("generation", "refused"),
                  "raw_call": ("utid", "closer"), "raw_object": ("binder",), "side_time": ()}
 
+# Of which columns of these the loader makes the index, once for all who ask: while the listing is at work, or where few
+# rows have the column. Others are made by who asks, in memory.
+MADE = {("raw_frame", "utid"), ("raw_call", "utid"), ("raw_send", "refused")}
+
 # Of which of them a column is told: statements that look for rare values of it pass over all other rows.
 TOLD = {"raw_record": "kind"}
 
@@ -193,7 +197,8 @@ def refuse_other_layout(rows: pathlib.Path) -> None:
 def packed_words(table: str) -> list[str]:
     """The words by which the loader packs a table."""
     told = ("--tell", TOLD[table]) if table in TOLD else ()
-    return ["--pack", table, *told, *(word for column in PACKED_TABLES[table] for word in ("--by", column))]
+    by = (("--index" if (table, column) in MADE else "--by", column) for column in PACKED_TABLES[table])
+    return ["--pack", table, *told, *(word for words in by for word in words)]
 
 
 class Loading:
