@@ -14,7 +14,7 @@ from viewer.page.texts import APPS
 from viewer.rules.emptiness import Emptiness
 from viewer.rules.names import Names, short_of
 from viewer.rules.notes import note_text
-from viewer.rules.paths import call_words, name_words, object_words, path_text, thing_words
+from viewer.rules.paths import call_words, path_text
 from viewer.rules.plan import FOLDER, Plan, Statement, plan_of
 from viewer.rules.thresholds import THRESHOLDS
 from viewer.rules.verdicts import RANKS
@@ -39,8 +39,7 @@ NO_LONGER = ("DROP INDEX finding_of_section", "DROP TABLE sqlite_stat1")
 WORDS: dict[str, Callable] = {
     "duration": duration_of, "counted": counted, "status_name": status_name, "exception_name": exception_name,
     "defect_key": defect_key, "path_text": path_text, "note_text": note_text, "call_words": call_words,
-    "object_words": object_words, "name_words": name_words, "thing_words": thing_words, "rank_of": RANKS.get,
-    "bare_name": lambda name: name and short_of(name)}
+    "rank_of": RANKS.get, "bare_name": lambda name: name and short_of(name)}
 
 
 class OfData(NamedTuple):

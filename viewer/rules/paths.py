@@ -45,25 +45,6 @@ def path_text(relation: str | None, call: str | None, other: str | None, status:
     return "".join((before, call, "" if other is None else between + other, "" if status is None else f": {status}"))
 
 
-def object_words(who: str | None, node: int | None, service: str | None, others: int | None) -> str:
-    """An object: its process and its node or, if `who` is not known, the handle `node` that leads to it; and the
-    service that it is. Some name another service if there are `others`."""
-    place = f"handle {node}" if who is None else who if node is None else f"{who} node 0x{node % 2**64:x}"
-    return f"{place}{name_words(service, others)}"
-
-
-def name_words(name: str | None, others: int | None) -> str:
-    """A name after an object; nothing if it has none."""
-    return "" if name is None else f" {name}{' or others' if others else ''}"
-
-
-def thing_words(relation: str, number: int | None) -> str:
-    """A thing with its number, as in `handle 5` and `node 0x1000`."""
-    if number is None:
-        return f"{relation} ?"
-    return f"{relation} {number}" if relation == "handle" else f"{relation} 0x{number % 2**64:x}"
-
-
 def name_text(interface: str, others: int | None, method: str | None) -> str:
     """The interface of a call, with the method if that is known. Some name another interface if there are `others`."""
     return f"{interface}{'' if method is None else '.' + method}{' or others' if others else ''}"

@@ -2,8 +2,7 @@
 -- the call, and the object that this goes to or comes of. And the views by which it becomes a text.
 -- needs: database/schema.sql: finding, raw_call, raw_delivery, raw_generation, raw_record, raw_send, raw_thread;
 --   database/views.sql: delivery, service, status; nodes.sql: manager, node_of, who; names.sql: call_named, code_named,
---   object_named, service_named; judging.py: call_words, name_words, object_words, path_text, short_name, status_name,
---   thing_words
+--   object_named, service_named; judging.py: call_words, path_text, short_name, status_name
 -- after: records.sql
 -- makes: tables: way; temporary tables: given_by, given, given_way, object_of, status_of, answered, way_named;
 --   temporary views: way_path, finding_names, thing_path, path_of; indexes: given_generation, given_way_of,
@@ -130,11 +129,13 @@ SELECT
   w.id,
   path_text(iif(w.reply, 'given by replies to', 'given by calls of'),
     call_words(w.code, short_name(coalesce(c.interface, b.interface)), c.others, coalesce(c.method, b.method)),
-    iif(w.reply, object_words(p.who, w.node, s.service, s.others), NULL)) AS path
+    iif(w.reply, coalesce(p.who || printf(' node 0x%llx', w.node), 'handle ' || w.node)
+      || coalesce(' ' || s.service || iif(s.others, ' or others', ''), ''), NULL)) AS path
 FROM way w LEFT JOIN call_named c ON (c.code, c.upid, c.ptr) = (w.code, w.about, w.node)
   LEFT JOIN code_named b ON c.code IS NULL AND b.code = w.code
   LEFT JOIN service_named s ON (s.upid, s.ptr) = (w.about, w.node) LEFT JOIN who p ON p.upid = w.about;
--- The names of what each finding is about.
+-- The names of what each finding is about; the object, if its process is known; and what is told after an object or a
+-- thing: its service, and its interface.
 CREATE TEMP VIEW finding_names AS
 SELECT
   f.id,
@@ -142,7 +143,10 @@ SELECT
   coalesce(c.others, a.others, o.others) AS others,
   coalesce(c.method, a.method, b.method) AS method,
   coalesce(s.service, v.name) AS service,
-  s.others AS service_others
+  p.who || iif(f.node IS NULL, '', printf(' node 0x%llx', f.node)) AS object,
+  coalesce(' ' || coalesce(s.service, v.name) || iif(s.others, ' or others', ''), '') AS named,
+  coalesce(' (' || iif(o.interface IS NULL, NULL, short_name(o.interface)) || iif(o.others, ' or others', '') || ')', '')
+    AS kind
 FROM finding f
   LEFT JOIN call_named c ON (c.code, c.upid, c.ptr) = (f.code, f.about, f.node)
     AND f.relation NOT IN ('handle', 'node', 'given')
@@ -151,33 +155,38 @@ FROM finding f
     AND f.relation NOT IN ('handle', 'node', 'given')
   LEFT JOIN object_named o ON (o.upid, o.ptr) = (f.about, f.node) AND f.relation IN ('handle', 'node', 'given')
   LEFT JOIN service_named s ON (s.upid, s.ptr) = (f.about, f.node)
-  LEFT JOIN service v ON f.relation = 'service' AND v.id = f.node;
--- The thing that each finding is about, if it is none that came a way.
+  LEFT JOIN service v ON f.relation = 'service' AND v.id = f.node LEFT JOIN who p ON p.upid = f.about;
+-- The thing that each finding is about, if it is none that came a way, and its names.
 CREATE TEMP VIEW thing_path AS
 SELECT
   f.id,
-  path_text(iif(f.relation = 'given', 'handle', f.relation),
-    CASE
-      WHEN f.relation = 'a reply' THEN NULL
-      WHEN f.relation IN ('handle', 'given') THEN thing_words('handle', f.handle)
-      WHEN f.relation = 'cookie' THEN thing_words('cookie', f.cookie)
-      WHEN f.relation IN ('node', 'address') THEN thing_words(f.relation, f.node)
-      WHEN f.relation = 'service' THEN n.service
-      ELSE coalesce(f.calls, call_words(f.code, short_name(n.interface), n.others, n.method)) END,
-    CASE
-      WHEN f.relation IN ('handle', 'given')
-      THEN iif(p.who IS NULL, name_words(n.service, n.service_others),
-        ', ' || object_words(p.who, f.node, n.service, n.service_others))
-        || coalesce(' (' || short_name(n.interface) || iif(n.others, ' or others', '') || ')', '')
-      WHEN f.relation = 'node' THEN name_words(n.service, n.service_others)
-        || coalesce(' (' || short_name(n.interface) || iif(n.others, ' or others', '') || ')', '')
-      WHEN f.relation IN ('to', 'reply to', 'at', 'oneway at')
-      THEN coalesce('objects ' || w.path, object_words(p.who, f.node, n.service, n.service_others)) END,
-    iif(f.section = 'answers', status_name(f.status), NULL)) AS path
-FROM finding f JOIN finding_names n USING (id) LEFT JOIN way_path w ON w.id = f.way LEFT JOIN who p ON p.upid = f.about;
+  CASE
+    WHEN f.relation IN ('handle', 'given')
+    THEN coalesce('handle ' || f.handle, 'handle ?') || coalesce(', ' || n.object, '') || n.named || n.kind
+    WHEN f.relation = 'node' THEN 'node ' || iif(f.node IS NULL, '?', printf('0x%llx', f.node)) || n.named || n.kind
+    WHEN f.relation = 'address' THEN 'address ' || iif(f.node IS NULL, '?', printf('0x%llx', f.node))
+    WHEN f.relation = 'cookie' THEN 'cookie ' || iif(f.cookie IS NULL, '?', printf('0x%llx', f.cookie))
+    ELSE path_text(f.relation,
+      CASE
+        WHEN f.relation = 'a reply' THEN NULL
+        WHEN f.relation = 'service' THEN n.service
+        ELSE coalesce(f.calls, call_words(f.code, short_name(n.interface), n.others, n.method)) END,
+      CASE
+        WHEN f.relation IN ('to', 'reply to', 'at', 'oneway at')
+        THEN coalesce('objects ' || w.path, coalesce(n.object, 'handle ' || f.node) || n.named) END,
+      iif(f.section = 'answers', status_name(f.status), NULL)) END AS path,
+  n.interface,
+  n.others,
+  n.method,
+  n.service
+FROM finding f JOIN finding_names n USING (id) LEFT JOIN way_path w ON w.id = f.way;
 -- The path of each finding: of handles that are kept with others the way by which they came.
 CREATE TEMP VIEW path_of AS
 SELECT
   f.id,
-  iif(f.relation = 'given', w.path || coalesce(' from ' || p.who, ''), t.path) AS path
+  iif(f.relation = 'given', w.path || coalesce(' from ' || p.who, ''), t.path) AS path,
+  t.interface,
+  t.others,
+  t.method,
+  t.service
 FROM finding f JOIN thing_path t USING (id) LEFT JOIN way_path w ON w.id = f.way LEFT JOIN who p ON p.upid = f.giver;
