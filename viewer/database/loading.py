@@ -11,7 +11,7 @@ from viewer.database import data_hash, packages
 from viewer.database.programs import Asked, answer, build_programs, fault_in
 from viewer.database.raw_tables import (
     MADE_FILE, RULED_FILE, SCHEMA_FILE, Loading, can_pack, load_as_it_comes, load_rows)
-from viewer.database.report import load_findings, load_report
+from viewer.database.report import load_findings, load_report, read_meanwhile
 from viewer.database.sqlite import open_database
 from viewer.files import Stopped, linked, shown_name, unchanged
 from viewer.methods.known import Methods, load_methods, named_in
@@ -126,10 +126,12 @@ def load_while_read(loading: Loading, listing: Asked) -> int:
     return status
 
 
-def tables_of(root: pathlib.Path, parts: list[pathlib.Path], side: str | None, made: pathlib.Path,
-              packs: bool, empty: str = MADE_FILE) -> tuple[str | None, pathlib.Path | None]:
+def tables_of(root: pathlib.Path, parts: list[pathlib.Path], side: str | None, made: pathlib.Path, packs: bool,
+              empty: str = MADE_FILE, meanwhile: Callable[[], None] = lambda: None
+              ) -> tuple[str | None, pathlib.Path | None]:
     """Makes the database, with the raw tables. Returns the line of the capture's first fault, or None, and the file of
-    the lines of the side list that are left to load, if it is not the list itself."""
+    the lines of the side list that are left to load, if it is not the list itself. If tables are packed, `meanwhile` is
+    done while the listing is at work."""
     rows, told = made.with_suffix(".rows"), made.with_suffix(".told")
     words = "--tables", rows, *parts
     if not packs:
@@ -138,7 +140,14 @@ def tables_of(root: pathlib.Path, parts: list[pathlib.Path], side: str | None, m
         return fault_in(status, told), None
     others = made.with_suffix(".others") if side is not None else None
     with load_as_it_comes(made, rows, side, others) as loading, Asked(root, told, "listing", *words) as listing:
+        meanwhile()
         return fault_in(load_while_read(loading, listing), told), others
+
+
+def read_when_there(audit: Asked, report: pathlib.Path) -> None:
+    """Reads the report once it is there, if the capture has no fault."""
+    if audit.program.wait() == 0:
+        read_meanwhile(report)
 
 
 def fault_with_zeros(root: pathlib.Path, files: list[str], room: pathlib.Path) -> str | None:
@@ -176,7 +185,7 @@ def database_of(root: pathlib.Path, files: list[str], side: str | None, made: pa
                 audit.status()
             empty = SCHEMA_FILE if kept else RULED_FILE if bytes_of(files) < LEAST_PACKED else MADE_FILE
             packs = empty == MADE_FILE and can_pack()
-            listed, others = tables_of(root, parts, side, made, packs, empty)
+            listed, others = tables_of(root, parts, side, made, packs, empty, lambda: read_when_there(audit, report))
             malformed = fault_in(audit.status(), report)
         if listed != malformed:
             raise Stopped(1, f"{called('listing')} and {called('audit')} do not agree: {listed!r} and {malformed!r}")

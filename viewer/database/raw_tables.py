@@ -84,6 +84,11 @@ def write_side(path: pathlib.Path) -> None:
 EMPTY = {SCHEMA_FILE: write_schema, MADE_FILE: write_made, RULED_FILE: write_ruled, SIDE_FILE: write_side}
 
 
+def empty_database(name: str) -> pathlib.Path:
+    """The file of this name."""
+    return kept(name, (FOLDER, FOLDER.with_name("rules")), EMPTY[name])
+
+
 # ---- the loader
 
 
@@ -209,9 +214,9 @@ class Loading:
               packs: bool, empty: str = MADE_FILE) -> list[Word]:
         """What the loader is called with: for the `.rows` files of a folder, and a side list. If tables are packed,
         `others` gets the lines of the list that are not loaded. The database begins as the file `empty` says."""
-        begin = kept(empty, (FOLDER, FOLDER.with_name("rules")), EMPTY[empty])
         packed = [word for table in PACKED_TABLES for word in packed_words(table)] if packs else []
-        return [loader(), *packed, database, rows, begin, *(it for it in (side, others) if it is not None)]
+        sides = (it for it in (side, others) if it is not None)
+        return [loader(), *packed, database, rows, empty_database(empty), *sides]
 
     def __init__(self, words: list[Word], rows: pathlib.Path) -> None:
         self.rows, self.name = rows, words[0]

@@ -1,10 +1,13 @@
 """The rows of the proved report, with their fields as numbers, and the findings that they become."""
 
+import contextlib
 import itertools
 import pathlib
 import sqlite3
 from typing import Callable, Iterable, Iterator
 
+from viewer.database.raw_tables import MADE_FILE, empty_database
+from viewer.database.sqlite import open_database
 from viewer.units import signed
 
 # The columns of the rows by section, as in docs/REPORT.md. There a low is only called `low`, and what a row is in its
@@ -70,7 +73,36 @@ def fields_of(section: str, lines: Iterable[str]) -> Iterator[tuple]:
         yield text, *(read(word) for read, word in zip(readings, words))
 
 
+def read_already(path: pathlib.Path) -> pathlib.Path:
+    """The database that has the report alone, if that was read while the database of the capture was made."""
+    return path.with_suffix(".read")
+
+
+def read_meanwhile(path: pathlib.Path) -> None:
+    """Reads the report into such a database."""
+    made = read_already(path)
+    made.write_bytes(empty_database(MADE_FILE).read_bytes())
+    with contextlib.closing(open_database(made)) as database:
+        database.execute("BEGIN")
+        read_report(database, path)
+        database.execute("COMMIT")
+
+
 def load_report(database: sqlite3.Connection, path: pathlib.Path) -> None:
+    """The report, or what was read of it already: this is copied as it is."""
+    made = read_already(path)
+    if not made.exists():
+        read_report(database, path)
+        return
+    database.execute("COMMIT")
+    database.execute("ATTACH ? AS already", (str(made),))
+    database.execute("INSERT INTO report SELECT * FROM already.report")
+    database.execute("DETACH already")
+    database.execute("BEGIN")
+    made.unlink()
+
+
+def read_report(database: sqlite3.Connection, path: pathlib.Path) -> None:
     """The report, section after section. Its heads are the rows of section `head`."""
     section = "head"
     with open(path, encoding="ascii") as lines:
