@@ -1,8 +1,8 @@
 -- T, U: buffers.
--- needs: database/schema.sql: finding, raw_call, raw_delivery, raw_record, raw_send, raw_thread; nodes.sql: node_of;
---   counts.sql: buffer_path; ages.sql: ended, leaving, life, old; judging.py: counted
+-- needs: database/schema.sql: finding, raw_call, raw_delivery, raw_record, raw_send; counts.sql: buffer_path, sent;
+--   ages.sql: ended, leaving, life, old; judging.py: counted
 -- after: calls.sql
--- makes: temporary tables: of_whole_path, kept_path, kept_reply, freed_reply; indexes: kept_path_of
+-- makes: temporary tables: of_whole_path, kept_path, kept_reply, freed_reply; indexes: kept_path_of, kept_reply_of
 
 -- ---- what findings are called
 
@@ -68,15 +68,21 @@ SELECT f.upid, f.code, f.about, f.node, count(*) AS n, max(r.data_size) AS most
 FROM finding f JOIN raw_record r USING (place)
 WHERE f.section = 'buffers' AND f.what = 'BR_REPLY' AND f.rule IN ('U2', 'U3', 'U4', 'U5')
 GROUP BY 1, 2, 3, 4 HAVING count(*) >= :OFTEN;
+CREATE INDEX temp.kept_reply_of ON kept_reply(about, node, code, upid);
 -- Those to the same calls of the same process that were freed.
 CREATE TEMP TABLE freed_reply AS
 SELECT k.*, count(*) AS freed, min(r.data_size) AS least
-FROM (SELECT 1 FROM kept_reply LIMIT 1) CROSS JOIN raw_delivery d JOIN raw_record r USING (place)
-  JOIN raw_thread t ON t.utid = d.utid JOIN raw_record c ON c.place = d.call JOIN raw_send s ON s.place = d.call
-  LEFT JOIN node_of o ON o.generation = s.generation
-  JOIN kept_reply k ON (k.upid, k.code, k.about, k.node) = (t.upid, c.code, coalesce(o.upid, -t.upid),
-    coalesce(o.ptr, c.handle))
-WHERE r.kind = :BR_REPLY AND d.freed_by NOTNULL GROUP BY k.upid, k.code, k.about, k.node;
+FROM (
+    SELECT DISTINCT p.generation, p.upid, coalesce(p.node_upid, -p.upid) AS about, coalesce(p.ptr, p.handle) AS node
+    FROM (SELECT 1 FROM kept_reply LIMIT 1) CROSS JOIN sent p
+    WHERE (coalesce(p.node_upid, -p.upid), coalesce(p.ptr, p.handle), p.code, p.upid) IN (
+      SELECT about, node, code, upid FROM kept_reply)) g
+  CROSS JOIN raw_send s ON s.generation = g.generation CROSS JOIN raw_record q ON q.place = s.place
+  CROSS JOIN kept_reply k ON (k.about, k.node, k.code, k.upid) = (g.about, g.node, q.code, g.upid)
+  CROSS JOIN raw_call c ON c.place = s.place CROSS JOIN raw_delivery d ON d.place = c.closer
+  CROSS JOIN raw_record r ON r.place = d.place
+WHERE c.verdict = 1 AND d.freed_by NOTNULL
+GROUP BY k.upid, k.code, k.about, k.node;
 UPDATE finding SET note = 'all ' || k.n || ' that are kept have at most ' || counted(k.most, 'byte') || ', all '
   || k.freed || ' that were freed at least ' || k.least || ': look at what follows an error'
 FROM freed_reply k
