@@ -52,8 +52,8 @@ class Place(NamedTuple):
 
 class Query(NamedTuple):
     """What is asked, and the name by which its rows are asked for. `places` has the tables that it looks at and that
-    other queries find. If its own rows stay, `stays` is the name of their table, and `columns` how that declares them,
-    or nothing if they are as they come."""
+    other queries find. If its own rows stay, `stays` is the name of their table. `columns` declares them; nothing: they
+    are as they come."""
     name: str
     text: str
     places: tuple[Place, ...] = ()

@@ -73,13 +73,16 @@ def query_of(plan: Plan, number: int, finders: "Finders") -> "Query":
     text = it.text[it.query:].rstrip().removesuffix(";")
     names = words_of(text)
     places = tuple(place for name, place in finders.places.items() if name in names)
-    return Query(name_of(number), text, places, *((it.name, columns_of(plan, it.name)) if it.stays else ()))
+    return Query(name_of(number), text, places, it.name if it.stays else "", columns_of(plan, it))
 
 
-def columns_of(plan: Plan, table: str) -> str:
-    """How a table without rows declares its columns."""
-    making = next(it.text for it in plan.statements if (it.makes, it.name) == ("TABLE", table))
-    return making[making.index("("):].rstrip().removesuffix(";")
+def columns_of(plan: Plan, statement: Statement) -> str:
+    """How the table that a statement fills declares its columns; nothing if the statement makes it, or names columns.
+    To a table that is declared alike SQLite copies rows as they are."""
+    if not statement.text[:statement.query].rstrip().endswith(f"INSERT INTO {statement.name}"):
+        return ""
+    making = next((it.text for it in plan.statements if (it.makes, it.name) == ("TABLE", statement.name)), "")
+    return making[making.index("("):].rstrip().removesuffix(";") if making else ""
 
 
 def begin_due(plan: Plan, due: list[tuple[int, Statement]], given: list["Given"], finders: "Finders",

@@ -9,6 +9,7 @@ CREATE TABLE traffic(upid INTEGER NOT NULL, handle INTEGER NOT NULL, generation 
   open INTEGER NOT NULL, bytes INTEGER NOT NULL, delivered INTEGER NOT NULL, one_fits INTEGER NOT NULL,
   buffers INTEGER NOT NULL, buffers_peak INTEGER, longest_seq INTEGER, node_upid INTEGER, ptr INTEGER,
   cookie INTEGER, longest INTEGER) STRICT;
+-- beside: counts.sql
 INSERT INTO traffic
 SELECT upid, handle, generation, code, oneway, sends, failed, refused, open, CAST(min(bytes, 9e18) AS INTEGER),
   delivered, one_fits, buffers, peak, longest_seq, node_upid, ptr, cookie, longest
