@@ -34,6 +34,7 @@
 -- How long each oneway send waited for its delivery, or if it did not come, for the end of its receiver; but not those
 -- that waited for a thaw. Which of those that wait for one node a delivery belongs to may be a guess, which keeps their
 -- order, as the driver does. Of these, those of the nodes for which one that came waited over :LONG.
+-- beside: counts.sql
 CREATE TEMP TABLE late_node AS
 SELECT DISTINCT node_upid AS upid, ptr, cookie FROM sent WHERE oneway AND waited > :LONG;
 CREATE TEMP TABLE slow_wait AS

@@ -15,6 +15,7 @@
 -- ---- what they say of which finding
 
 -- The calls over :LONG that threads made within calls that they served.
+-- beside: rule.sql
 CREATE TEMP TABLE held_over AS
 SELECT c.place, c.closer, c.parent, p.upid, p.node_upid AS server, p.ptr, p.code, x.ts AS since, z.ts AS until
 FROM sent p CROSS JOIN raw_send s CROSS JOIN raw_call c CROSS JOIN raw_record r CROSS JOIN side_time x

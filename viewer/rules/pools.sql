@@ -9,6 +9,7 @@
 
 -- The calls that waited over :LONG, from the send to the delivery to a thread that was in no call; or to the end, over
 -- :VERY_LONG.
+-- beside: counts.sql
 CREATE TEMP TABLE served_late AS
 SELECT s.place, s.utid, t.upid AS server, x.ts AS since, y.ts AS until, v.place AS got
 FROM (SELECT 1 FROM sent WHERE waited > :LONG LIMIT 1) CROSS JOIN raw_send s

@@ -99,10 +99,11 @@ WHERE d.place = finding.place AND section = 'buffers';
 UPDATE finding SET ptr = r.ptr, cookie = r.cookie FROM raw_record r
 WHERE r.place = finding.place AND section = 'served';
 -- A reply has no code of its own: it is about the served call that it closes.
+-- beside: nodes.sql
 CREATE TEMP TABLE replied AS
 SELECT c.place, c.closer
 FROM raw_call c
-WHERE c.served = 1 AND c.closer IN (SELECT place FROM finding WHERE section = 'objects');
+WHERE c.served = 1 AND c.closer IN (SELECT place FROM report WHERE section = 'objects');
 CREATE INDEX temp.replied_by ON replied(closer);
 UPDATE finding SET code = r.code, ptr = r.ptr, cookie = r.cookie FROM replied c JOIN raw_record r USING (place)
 WHERE section = 'objects' AND c.closer = finding.place;

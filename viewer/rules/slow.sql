@@ -30,6 +30,7 @@
 -- ---- what they say of which finding
 
 -- The calls of main threads of apps that took long, of each path the longest. An app has a user id of its own.
+-- beside: counts.sql
 CREATE TEMP TABLE slow_main AS
 SELECT p.upid, p.node_upid AS server, p.ptr, p.code, c.place, c.seq, c.utid, z.ts - x.ts AS dur, count(*) OVER path AS n,
   row_number() OVER (path ORDER BY z.ts - x.ts DESC, c.place) AS nth

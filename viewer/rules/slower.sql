@@ -15,6 +15,7 @@
 -- ---- what they say of which finding
 
 -- The methods of objects of which a call took over :LONG, and all calls that these served.
+-- beside: rule.sql
 CREATE TEMP TABLE took_long AS
 SELECT node_upid AS upid, code, ptr FROM sent
 WHERE longest > :LONG AND NOT oneway AND node_upid NOT IN (SELECT upid FROM lossy);

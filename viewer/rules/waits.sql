@@ -157,14 +157,15 @@ WHERE s.upid IN (SELECT upid FROM queued) AND NOT EXISTS (SELECT 1 FROM taker t 
 -- What each of them is in: the innermost open call, or else a oneway transaction after which it has done nothing, or a
 -- call from before the capture.
 CREATE TEMP TABLE taken AS
+WITH innermost AS MATERIALIZED (
+  SELECT utid, max(place) AS place FROM (SELECT 1 FROM taker LIMIT 1) CROSS JOIN open_call GROUP BY utid)
 SELECT k.utid, k.upid, k.earlier, coalesce(c.place, o.place) AS place, c.served, x.ts,
   coalesce(l.ended, last.ts) AS until,
   coalesce((SELECT call_name(v.code, v.upid, v.ptr) FROM came_to v WHERE v.place = r.place),
     (SELECT call_name(v.code, v.upid, v.ptr) FROM sent_to v WHERE v.place = r.place), call_name(r.code, NULL, NULL))
   AS call
 FROM last, taker k LEFT JOIN life l ON l.utid = k.utid
-  LEFT JOIN raw_call c ON c.place = (SELECT place FROM open_call i WHERE i.utid = k.utid
-    ORDER BY place DESC LIMIT 1)
+  LEFT JOIN innermost i ON i.utid = k.utid LEFT JOIN raw_call c ON c.place = i.place
   LEFT JOIN raw_record o ON o.place = k.last_record AND o.kind IN (:BR_TRANSACTION, :BR_TRANSACTION_SEC_CTX)
     AND o.flags & :TF_ONE_WAY AND c.place IS NULL
   LEFT JOIN raw_record r ON r.place = coalesce(c.place, o.place) LEFT JOIN side_time x ON x.seq = r.seq;
