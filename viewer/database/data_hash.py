@@ -8,6 +8,7 @@ from contextlib import ExitStack
 from _blake2 import blake2s
 
 from viewer.exceptions import EXCEPTIONS
+from viewer.zeros import ended
 
 # Before the data of an attachment entry come so many bytes, and a file of a capture begins with so many (ENVELOPE.md).
 ENTRY_HEADER, FILE_HEADER = 12, 16
@@ -24,9 +25,9 @@ ALL_EXCEPTIONS = (
 
 
 class Data:
-    """The data of the records of a capture in these files, whose places are those of the joined capture. The files are
-    not mapped: what was looked at would stay in memory, with all that lies around it, and a file that is cut meanwhile
-    would end this program."""
+    """The data of the records of a capture in these files, whose places are those of the joined capture, without the
+    zeros in which a file may end. The files are not mapped: what was looked at would stay in memory, with all that lies
+    around it, and a file that is cut meanwhile would end this program."""
 
     def __init__(self, files: list[str]):
         self.stack = ExitStack()
@@ -34,7 +35,8 @@ class Data:
         base = 0
         for name in files:
             file = self.stack.enter_context(open(name, "rb", buffering=0)).fileno()
-            size = os.fstat(file).st_size
+            end = ended(name)
+            size = end.length if end else os.fstat(file).st_size
             if size > FILE_HEADER:
                 self.parts.append((base, file))
                 base += size - FILE_HEADER

@@ -1,11 +1,12 @@
 """Captures and side lists that end in zeros, as files may after a loss of power."""
 
+import contextlib
 import pathlib
 import re
 
 from checks.kit.checking import Fail, compare
 from checks.kit.frames import frames_of
-from checks.viewer.page.common import texts_of, texts_stored, view
+from checks.viewer.page.common import loaded, texts_of, texts_stored, view
 from checks.viewer.page.sides import as_files
 
 ZEROS = bytes(5000)
@@ -62,6 +63,21 @@ def check_several(folder: pathlib.Path, room: pathlib.Path, fail: Fail) -> None:
     compare("a file of zeros", (status, came, "has only zeros" in told), (2, due, True), fail)
 
 
+def check_data(folder: pathlib.Path, room: pathlib.Path, fail: Fail) -> None:
+    """The data of a file that comes after one that ends in zeros are found where they are."""
+    capture, _ = texts_stored("hello-answers")
+    place = frames_of(capture)[len(frames_of(capture)) // 2].place
+    hashes = []
+    for zeros in (ZEROS, b""):
+        files = [room / "data-1.cap", room / "data-2.cap"]
+        for file, data in zip(files, (capture[:place], capture[:16] + capture[place:])):
+            file.write_bytes(data + zeros)
+        with contextlib.closing(loaded(folder, room / f"data-{len(zeros)}.db", files, None)) as database:
+            hashes.append(database.execute("SELECT * FROM data_hash ORDER BY place").fetchall())
+    compare("data of files that end in zeros", *hashes, fail)
+
+
 def check_power(folder: pathlib.Path, room: pathlib.Path, fail: Fail) -> None:
     check_one(folder, room, fail)
     check_several(folder, room, fail)
+    check_data(folder, room, fail)
