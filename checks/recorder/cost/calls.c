@@ -5,11 +5,10 @@
 #include <stdio.h>
 #include <stdlib.h>
 #include <string.h>
-#include <sys/ioctl.h>
 #include <sys/mman.h>
 #include <time.h>
 #include "mark.h"
-#include "raw.h"
+#include "service.h"
 
 enum { DEPTH = 24, FIRST = 50, MOST = 1 << 16 };
 
@@ -35,24 +34,14 @@ static long long now(void)
 
 static void answer(struct exchange *exchange, transaction *delivered)
 {
-	static const uint32_t status;
-	queue_reply(exchange, &status, sizeof status, NULL, 0, 0);
-	turn(exchange, false);
+	static const struct parcel status = {.size = sizeof(uint32_t)};
+	reply_to(exchange, delivered, &status);
 	free_buffer(exchange, delivered);
 }
 
-static void serve(void)
-{
-	struct exchange *exchange = opened("binder");
-	if (ioctl(exchange->opening->descriptor, BINDER_SET_CONTEXT_MGR, 0) < 0) fail("context manager");
-	exchange->opening->serve = answer;
-	command(exchange, BC_ENTER_LOOPER, NULL);
-	turn(exchange, false);
-	shared->ready++;
-	serve_forever(exchange);
-}
+static void serve_calls(void) { manage_with("binder", 0, answer); }
 
-static void service(void) { at_depth(DEPTH, serve); }
+static void be_service(void) { at_depth(DEPTH, serve_calls); }
 
 /* ---- the client */
 
@@ -82,7 +71,7 @@ static void work(void)
 	rest();
 }
 
-static void client(void) { at_depth(DEPTH, work); }
+static void be_client(void) { at_depth(DEPTH, work); }
 
 int main(int words, char **word)
 {
@@ -92,8 +81,8 @@ int main(int words, char **word)
 	if (words > 3) rate = atol(word[3]);
 	if (bytes > MOST) return 64;
 	make_mark();
-	start_ready("service", service);
-	start("client", client);
+	start_ready("service", be_service);
+	start("client", be_client);
 	wait_long(&shared->resting, 1);
 	end_all();
 	return 0;

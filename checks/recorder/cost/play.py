@@ -37,7 +37,7 @@ def programs_for(machine: Machine, room: pathlib.Path, series: str, recorder: pa
     compiler, made = compiler_for(machine, room), room / machine.name
     made.mkdir(exist_ok=True)
     run(compiler, *FLAGS, "-fno-omit-frame-pointer", "-static", f"-I{SCENARIOS}", "-o", made / "calls",
-        COST / "calls.c", COST / "mark.c", *RAW)
+        COST / "calls.c", COST / "mark.c", *RAW, SCENARIOS / "service.c")
     if series != "5.10":
         run(compiler, *FLAGS, "-std=gnu11", "-static", f"-I{ROOT / 'recorder'}", "-isystem", recorder.parent, "-o",
             made / "opens", COST / "opens.c", COST / "mark.c", ROOT / "recorder/common.c", "-lbpf", "-lelf", "-lz")

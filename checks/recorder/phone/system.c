@@ -22,14 +22,6 @@ static const struct service {
 };
 enum { SERVICES = sizeof services / sizeof *services, NOTES = 1 };
 
-static void answer(struct exchange *exchange, transaction *delivered, const struct parcel *parcel)
-{
-	if (!(delivered->flags & TF_ONE_WAY)) {
-		queue_reply(exchange, parcel->data, parcel->size, parcel->offsets, parcel->count, 0);
-		turn(exchange, false);		/* the parcel is on a stack */
-	}
-}
-
 /* ---- the manager */
 
 static void manage_names(struct exchange *exchange, transaction *delivered)
@@ -50,7 +42,7 @@ static void manage_names(struct exchange *exchange, transaction *delivered)
 			 0x7f);
 		put_number(&parcel, 0xc);	/* how stable it is */
 	}
-	answer(exchange, delivered, &parcel);
+	reply_to(exchange, delivered, &parcel);
 	free_buffer(exchange, delivered);
 }
 
@@ -65,7 +57,7 @@ static void serve_one(struct exchange *exchange, transaction *delivered)
 	struct parcel parcel = {0};
 	if (delivered->code == HANG) sleep(HANG_SECONDS);
 	if (delivered->code == INTERFACE_TRANSACTION) put_string(&parcel, own->interface);
-	answer(exchange, delivered, &parcel);
+	reply_to(exchange, delivered, &parcel);
 	if (delivered->code != KEEP || own != &services[NOTES]) free_buffer(exchange, delivered);
 }
 

@@ -20,8 +20,7 @@ static void hand_out(struct exchange *exchange, transaction *delivered)
 	}
 	if (file < 0) file = open("/proc/version", O_RDONLY);
 	put_descriptor(&parcel, file);
-	queue_reply(exchange, parcel.data, parcel.size, parcel.offsets, parcel.count, 0);
-	turn(exchange, false);		/* the parcel is on this stack */
+	reply_to(exchange, delivered, &parcel);
 	free_buffer(exchange, delivered);
 }
 
@@ -48,15 +47,6 @@ static void copying_client(struct exchange *exchange, uint32_t handle) { get_des
 
 static void closing_client(struct exchange *exchange, uint32_t handle) { get_descriptors(exchange, handle, false); }
 
-static void copies(void)
-{
-	manager_and_service("library", serve_played);
-	start_client("copying", copying_client);
-	start_client("closing", closing_client);
-	wait_until(&shared->resting, 2);
-	rest_until_stopped();
-}
-
 /* ---- refusals: three calls to a handle that is not there, among others that are too large. Those go on when the
  * recording has ended, so the driver's log has some that the capture has not. */
 
@@ -77,13 +67,7 @@ static void refused_client(struct exchange *exchange, uint32_t handle)
 	rest();
 }
 
-static void refusals(void)
-{
-	manager_and_service("small", small_service);
-	start_client("client", refused_client);
-	wait_until(&shared->resting, 1);
-	rest_until_stopped();
-}
-
 const struct scenario alive_scenarios[] = {
-	{"copies", .run = copies, .serve = hand_out}, {"refusals", .run = refusals}, {0}};
+	{"copies", .service_name = "library", .serve = hand_out, .other_name = "copying", .other = copying_client,
+	 .client_name = "closing", .client = closing_client, .rests = 2, .stays = true},
+	{"refusals", .service_name = "small", .service = small_service, .client = refused_client, .stays = true}, {0}};

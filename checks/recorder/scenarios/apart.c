@@ -38,9 +38,8 @@ static void must_take(const struct opening *opening, const void *bytes, size_t s
 
 /* ---- cut: writes whose last command, or code word, is cut or can't be read */
 
-static void cutting_client(void)
+static void cutting_client(struct exchange *exchange)
 {
-	struct exchange *exchange = opened("binder");
 	const struct opening *opening = exchange->opening;
 	uint8_t commands[8 * COMMAND], *end = edge();
 	put_commands(commands, 8);
@@ -52,14 +51,12 @@ static void cutting_client(void)
 	if (hand_over(opening, end - 4, COMMAND) != -EFAULT) fail("cut: payload");
 	memcpy(end - COMMAND, commands, COMMAND);				/* nor the next code word */
 	if (hand_over(opening, end - COMMAND, 2 * COMMAND) != -EFAULT) fail("cut: next code word");
-	ready_to_rest(exchange);
 }
 
 /* ---- unwritten: a write of which the driver can't tell how much it consumed */
 
-static void unwritable_client(void)
+static void unwritable_client(struct exchange *exchange)
 {
-	struct exchange *exchange = opened("binder");
 	struct binder_write_read *call = own_memory(PAGE, 0);
 	uint8_t *end = edge();		/* nothing is mapped after that: it might be the page that is away */
 	put_commands(end - COMMAND, 1);
@@ -67,7 +64,6 @@ static void unwritable_client(void)
 	call->write_size = 2 * COMMAND;
 	if (mprotect(call, PAGE, PROT_READ)) fail("unwritten: protection");
 	if (ioctl(exchange->opening->descriptor, BINDER_WRITE_READ, call) >= 0 || errno != EFAULT) fail("unwritten");
-	ready_to_rest(exchange);
 }
 
 /* ---- outsider: a service of which no thread says that it takes calls. The driver in C hands a call to any thread that
@@ -76,17 +72,8 @@ static void unwritable_client(void)
 
 static void read_some(struct exchange *exchange, size_t room)
 {
-	struct binder_write_read call = {
-		.write_size = exchange->to_write,
-		.write_buffer = (binder_uintptr_t)(uintptr_t)exchange->write,
-		.read_size = room,
-		.read_buffer = (binder_uintptr_t)(uintptr_t)exchange->read,
-	};
-	if (ioctl(exchange->opening->descriptor, BINDER_WRITE_READ, &call) < 0 && errno != EAGAIN && errno != EINTR)
-		fail("outsider: read");
-	exchange->to_write = 0;
-	exchange->got = call.read_consumed;
-	exchange->at = 0;
+	int error = turn_into(exchange, room);
+	if (error && error != -EAGAIN) fail("outsider: read");
 	drain(exchange);
 }
 
@@ -111,13 +98,6 @@ static void hopeful_client(struct exchange *exchange, uint32_t handle)
 	rest();
 }
 
-static void outsiders(void)
-{
-	manager_and_service("outsider", outsider);
-	start_client("client", hopeful_client);
-	wait_until(&shared->resting, 1);
-}
-
 const struct scenario apart_scenarios[] = {
-	{"cut", .process = cutting_client}, {"unwritten", .process = unwritable_client}, {"outsider", .run = outsiders},
-	{0}};
+	{"cut", .caller = cutting_client}, {"unwritten", .caller = unwritable_client},
+	{"outsider", .service_name = "outsider", .service = outsider, .client = hopeful_client}, {0}};

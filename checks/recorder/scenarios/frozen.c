@@ -1,7 +1,6 @@
 /* A scenario about freeze notifications: a service is frozen and thawed, and others asked to be told of it. Before
  * Linux 6.12 the driver refuses their requests, and nothing more is done. */
 #include <string.h>
-#include <sys/ioctl.h>
 #include "service.h"
 #include "scenarios.h"
 
@@ -45,11 +44,9 @@ static void watching(struct exchange *exchange, uint32_t handle)
 static void freezer(void)
 {
 	struct exchange *exchange = opened("binder");
-	struct binder_freeze_info freeze = {.pid = shared->process[1], .timeout_ms = 1000};
 	for (int change = 1; change <= CHANGES; change++) {
 		int told = shared->freezes;
-		freeze.enable = change % 2;
-		if (ioctl(exchange->opening->descriptor, BINDER_FREEZE, &freeze) < 0) fail("BINDER_FREEZE");
+		freeze_service(exchange, change % 2);
 		wait_until(&shared->freezes, told + ACKNOWLEDGES_TOO + 1);
 	}
 	shared->stage = 1;

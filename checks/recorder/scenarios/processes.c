@@ -16,7 +16,8 @@
 static const char *directory;
 
 /* Seconds; so long that they are no limit for a guest that has little of a processor. */
-enum { LONGEST_WAIT = 600, LONGEST_LIFE = 3600 };
+enum { LONGEST_WAIT = 600 };
+unsigned longest_life = 3600;
 
 pid_t start(const char *name, void (*process)(void))
 {
@@ -26,7 +27,7 @@ pid_t start(const char *name, void (*process)(void))
 	if (!started) {
 		prctl(PR_SET_NAME, name);
 		prctl(PR_SET_PDEATHSIG, SIGKILL);
-		alarm(LONGEST_LIFE);
+		alarm(longest_life);
 		process();
 		_exit(0);
 	}

@@ -13,18 +13,9 @@ static void serve_late(struct exchange *exchange, transaction *delivered)
 	serve(exchange, delivered);
 }
 
-static void late_service(void)
-{
-	alarm(0);
-	serve_with_pool(serve_late);
-}
-
-static void late_manager(void) { alarm(0); manager(); }
-
 static void steady_client(struct exchange *exchange, uint32_t handle)
 {
 	struct timespec next;
-	alarm(0);
 	clock_gettime(CLOCK_MONOTONIC, &next);
 	for (int i = 0; i < scale * CALLS_OF_SECOND; i++) {
 		call(exchange, handle, ECHO);
@@ -39,18 +30,18 @@ static void steady_client(struct exchange *exchange, uint32_t handle)
 
 static void hanging_client(struct exchange *exchange, uint32_t handle)
 {
-	alarm(0);
 	for (int left = scale / 2; left > 0; left--) sleep(1);
 	call(exchange, handle, LATE);
 }
 
 static void rare(void)
 {
-	start_ready("manager", late_manager);
-	start_ready("service", late_service);
+	longest_life = 0;
+	manager_and_service("service", serve_played);
 	start_client("steady", steady_client);
 	start_client("camera_app", hanging_client);
 	wait_long(&shared->resting, 2);
 }
 
-const struct scenario rare_scenarios[] = {{"rare", .run = rare}, {0}};
+const struct scenario rare_scenarios[] = {
+	{"rare", .run = rare, .serve = serve_late, .has_pool = true}, {0}};
