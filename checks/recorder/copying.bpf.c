@@ -26,21 +26,25 @@ static __always_inline struct thread *measured_call(void)
 	t->reads_own_memory = 1;
 	t->attachments = t->is_over = t->has_late = t->commands = 0;
 	t->attached = t->spent = t->looked_at = 0;
+	t->write_number = 1;
+	t->write_from = commands_from;
+	t->write_told = t->copied = t->stack_of = 0;
 	return t;
 }
+
+/* What a program begins with. It returns 2 if there is nothing to play with. */
+#define BEGIN(its_caller) \
+	struct thread *t = its_caller; \
+	struct scratch *s = scratch(); \
+	if (!t || !s) \
+		return 2
 
 /* The driver begins a command, and the next bytes of the write are copied. */
 SEC("raw_tp/measured") int measure_command(void *unused)
 {
-	struct thread *t = measured_call();
-	if (!t)
-		return 1;
-	t->write_number = 1;
-	t->write_from = commands_from;
+	BEGIN(measured_call());
 	t->write_bytes = MOST_COMMANDS;
 	t->consumed = CODE_WORD + TRANSACTION_BYTES;
-	t->copied = 0;
-	t->write_told = 0;
 	u64 begun = bpf_ktime_get_ns();
 	take_command(t, 0, first_word);
 	took = bpf_ktime_get_ns() - begun;
@@ -52,21 +56,15 @@ SEC("raw_tp/measured") int measure_command(void *unused)
 
 SEC("raw_tp/played") int play_entry(void *unused)
 {
-	struct thread *t = measured_call();
-	if (!t)
-		return 1;
-	t->write_number = 1;
-	t->write_from = commands_from;
+	BEGIN(measured_call());
 	t->write_bytes = t->copied = MOST_COMMANDS;	/* the commands themselves are not copied */
-	t->consumed = t->write_told = 0;
+	t->consumed = 0;
 	return 0;
 }
 
 SEC("raw_tp/played") int play_command(void *unused)
 {
-	struct thread *t = caller();
-	if (!t)
-		return 1;
+	BEGIN(caller());
 	u32 record = t->consumed;
 	t->consumed += CODE_WORD + TRANSACTION_BYTES;
 	return take_command(t, record, first_word);
@@ -74,10 +72,7 @@ SEC("raw_tp/played") int play_command(void *unused)
 
 SEC("raw_tp/played") int play_write_done(void *unused)
 {
-	struct thread *t = caller();
-	struct scratch *s = scratch();
-	if (!s || !t)
-		return 1;
+	BEGIN(caller());
 	begin_run(s);
 	return end_write(t, t->consumed);
 }
@@ -86,14 +81,8 @@ SEC("raw_tp/played") int play_write_done(void *unused)
 
 SEC("raw_tp/played") int play_small_write(void *unused)
 {
-	struct thread *t = measured_call();
-	struct scratch *s = scratch();
-	if (!s || !t)
-		return 2;
-	t->write_number = 1;
-	t->write_from = commands_from;
+	BEGIN(measured_call());
 	t->write_bytes = returns_bytes;
-	t->copied = 0;
 	u32 failed = copy_small_write(s, t, 0);
 	attachments = t->attachments;
 	bytes_looked_at = t->looked_at;
@@ -102,10 +91,7 @@ SEC("raw_tp/played") int play_small_write(void *unused)
 
 SEC("raw_tp/played") int play_small_read(void *unused)
 {
-	struct thread *t = measured_call();
-	struct scratch *s = scratch();
-	if (!s || !t)
-		return 2;
+	BEGIN(measured_call());
 	u32 failed = copy_small_read(s, t, returns_from, returns_bytes, 1);
 	attachments = t->attachments;
 	return failed;
@@ -186,11 +172,7 @@ SEC("raw_tp/played") int play_numbers(void *unused)
 /* The stack of the call that runs this is taken. */
 SEC("raw_tp/measured") int measure_stack(void *context)
 {
-	struct thread *t = measured_call();
-	if (!t)
-		return 1;
-	t->write_number = 1;
-	t->write_told = t->stack_of = 0;
+	BEGIN(measured_call());
 	u64 begun = bpf_ktime_get_ns();
 	if (wants_stack(t, BC_REPLY) && !wants_stack(t, BC_RELEASE))
 		take_stack(context, t);
@@ -201,10 +183,7 @@ SEC("raw_tp/measured") int measure_stack(void *context)
 /* A read comes back, with as many bytes and attachments as are taken. */
 SEC("raw_tp/measured") int measure_return(void *unused)
 {
-	struct thread *t = measured_call();
-	struct scratch *s = scratch();
-	if (!s || !t)
-		return 1;
+	BEGIN(measured_call());
 	t->spent = 2 * FIRST_BYTES;		/* by the write of the call */
 	begin_run(s);
 	u64 begun = bpf_ktime_get_ns();

@@ -28,6 +28,12 @@ static void count(const void *message, u64 bytes)
 	seen += bytes;
 }
 
+static void drain(void (*hear)(const void *, u64))
+{
+	while (hear && ring_drain(&ring, hear) > 0)
+		continue;
+}
+
 /* Runs a program, and hears what it puts into the ring. Returns what it returns. */
 static u32 run_program(const struct bpf_program *played, void (*hear)(const void *, u64), const char *what)
 {
@@ -35,8 +41,7 @@ static u32 run_program(const struct bpf_program *played, void (*hear)(const void
 	int error = bpf_prog_test_run_opts(bpf_program__fd(played), &run);
 	if (error)
 		fail("%s: the program does not run: error %d", what, error);
-	while (hear && ring_drain(&ring, hear) > 0)
-		continue;
+	drain(hear);
 	return run.retval;
 }
 
@@ -195,8 +200,7 @@ static void play_full_ring(const u8 *data, u8 *returns)
 		if (program->bss->reason_of_loss)
 			fail("read %d: its frame is lost", i);
 	}
-	while (ring_drain(&ring, count_chunks) > 0)
-		continue;
+	drain(count_chunks);
 	if (chunks != READS || !others)
 		fail("of %d reads %u came, and %u attachments were left out", READS, chunks, others);
 }
@@ -424,8 +428,7 @@ static void measure_stack(u32 rounds)
 		union bpf_attr run = { .test = { .prog_fd = (u32)bpf_program__fd(program->progs.measure_stack) } };
 		stack = NULL;
 		long error = run_deep(2 * MOST_OF_STACK, &run);
-		while (ring_drain(&ring, hear_stack) > 0)
-			continue;
+		drain(hear_stack);
 		if (error || run.test.retval || !stack || stack->count != MOST_OF_STACK ||
 		    stack->process != (u32)getpid() || !stack->start)
 			fail("stack: error %ld, %u functions", error, stack ? stack->count : 0);
