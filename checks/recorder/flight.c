@@ -40,21 +40,18 @@ static void hear_codes(hearer *hear, u32 direction, u32 code, u32 count)
 /* A process that had no opening of a device ends. */
 static void hear_end(hearer *hear, u32 process)
 {
-	struct event event = { .head = head_of(MESSAGE_ENDED, 0, made_last, 1, 0),
-			       .ended = { .process = process, .is_last = 1 } };
-	hear(&event, sizeof event);
+	made_event(hear, head_of(MESSAGE_ENDED, 0, made_last, 1, 0), 0, process, 1);
 }
 
 /* The driver is through with the write. All else is after the end: a process ends; a program that had begun takes a
  * number for a read, one for a read that is lost, and one for a write that does not end; and one more process ends. */
 static void hear_last(hearer *hear)
 {
-	struct event lost = { .lost = { REASON_UNREADABLE } };
 	made_written(hear, head_of(MESSAGE_WRITTEN, DIRECTION_WRITE, 3, 1, DIRECTION_WRITE), 4);
 	hear_end(hear, 2002);
 	hear_codes(hear, DIRECTION_READ, BR_NOOP, RETURNS);
-	lost.head = head_of(MESSAGE_LOST, DIRECTION_READ, ++made_last, 1, DIRECTION_READ);
-	hear(&lost, sizeof lost);
+	struct message lost = head_of(MESSAGE_LOST, DIRECTION_READ, ++made_last, 1, DIRECTION_READ);
+	made_event(hear, lost, REASON_UNREADABLE, 0, 0);
 	hear_codes(hear, DIRECTION_WRITE, BC_ENTER_LOOPER, 1);
 	hear_end(hear, 2003);
 }

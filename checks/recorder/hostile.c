@@ -175,14 +175,11 @@ static void come_and_go(u32 opening)
 {
 	struct command command = { .head = head_of(MESSAGE_COMMAND, 0, last, opening, opening), .user = 10123,
 				   .bytes = COMMAND_BYTES };
-	struct event closed = { .head = head_of(MESSAGE_CLOSED, 0, 0, opening, 0) };
-	struct event ended = { .head = head_of(MESSAGE_ENDED, 0, 0, 1, opening), .ended = { opening, opening, 1 } };
 	open_process(opening, MET_FROM_START);
 	window_hear(&command, sizeof command);
 	hear_handles(opening, 1, 1);
-	closed.head.number = ended.head.number = last;
-	window_hear(&closed, sizeof closed);
-	window_hear(&ended, sizeof ended);
+	made_event(window_hear, head_of(MESSAGE_CLOSED, 0, last, opening, 0), 0, 0, 0);
+	made_event(window_hear, head_of(MESSAGE_ENDED, 0, last, 1, opening), opening, opening, 1);
 	settle();
 }
 

@@ -94,13 +94,6 @@ static void refuse_send(hearer *to)
 	hear(to, DIRECTION_READ, WAITING, 0);
 }
 
-static void end_victim(hearer *to)
-{
-	struct event event = { .head = head(MESSAGE_ENDED, 0, VICTIM),
-			       .ended = { .id = process_of[VICTIM], .process = process_of[VICTIM], .is_last = 1 } };
-	to(&event, sizeof event);
-}
-
 /* ---- the plan */
 
 static u32 open_until, pool_at, refused_until, is_quiet;	/* looks; 0: nothing of it is going on */
@@ -132,7 +125,7 @@ static void do_planned(hearer *to, const char *what)
 	} else if (!strcmp(what, "refused")) {
 		refused_until = looks + LOOKS_OF_SECOND;
 	} else if (!strcmp(what, "death")) {
-		end_victim(to);
+		made_event(to, head(MESSAGE_ENDED, 0, VICTIM), process_of[VICTIM], process_of[VICTIM], 1);
 	} else if (!strcmp(what, "touch")) {
 		touch();
 	} else if (!strcmp(what, "signal")) {

@@ -96,11 +96,8 @@ static void many_lines(void)
 {
 	double began = processor_seconds();
 	hear_commands(++last, 1, 1, 0);
-	for (u32 i = 0; i < LINES; i++) {
-		struct event event = { .head = head(MESSAGE_ENDED, last, 0),
-				       .ended = { .process = i + 1, .is_last = 1 } };
-		window_hear(&event, sizeof event);
-	}
+	for (u32 i = 0; i < LINES; i++)
+		made_event(window_hear, head(MESSAGE_ENDED, last, 0), 0, i + 1, 1);
 	hear_written(last, 1, RECORD);
 	window_settle();
 	double took = processor_seconds() - began;

@@ -113,11 +113,16 @@ u32 made_begun(hearer *hear, struct message head, const void *data, u32 bytes)
 	return made;
 }
 
+void made_event(hearer *hear, struct message head, u64 first, u64 second, u64 third)
+{
+	struct event event = { .head = head, .words = { first, second, third } };
+	hear(&event, sizeof event);
+}
+
 void made_written(hearer *hear, struct message head, u64 bytes)
 {
-	struct event event = { .head = head, .written = { bytes } };
-	event.head.type = MESSAGE_WRITTEN;
-	hear(&event, sizeof event);
+	head.type = MESSAGE_WRITTEN;
+	made_event(hear, head, bytes, 0, 0);
 }
 
 void made_frame(hearer *hear, struct message head, const void *data, u32 bytes)

@@ -26,6 +26,8 @@ void made_send(u32 word, struct binder_transaction_data data);
 /* The next frame, with so many bytes of data of its last record: behind the commands if they are few, else in pieces,
  * of a read before the commands. Returns how many bytes of commands it has. */
 u32 made_begun(hearer *hear, struct message head, const void *data, u32 bytes);
+/* What else is told, in as many words. */
+void made_event(hearer *hear, struct message head, u64 first, u64 second, u64 third);
 /* The driver is through with a write, of which it took so many bytes. */
 void made_written(hearer *hear, struct message head, u64 bytes);
 /* Both. */

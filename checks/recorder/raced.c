@@ -106,10 +106,8 @@ static void hear_piece(const struct told *told, u32 opening, int record, u32 got
 
 static void hear_note(const struct told *told, u32 opening, int record, u32 reason)
 {
-	struct event event = { .head = head(reason ? MESSAGE_UNATTACHED : MESSAGE_LATE, told, opening),
-			       .note = { reason, (u32)record } };
 	if (record != NOTHING)
-		window_hear(&event, sizeof event);
+		made_event(window_hear, head(reason ? MESSAGE_UNATTACHED : MESSAGE_LATE, told, opening), reason, (u32)record, 0);
 }
 
 /* What comes of a read comes before its commands. */
