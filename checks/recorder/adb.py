@@ -48,18 +48,12 @@ from checks.kit.checking import Fail, check
 from checks.kit.frames import frames_of
 from checks.kit.programs import CHECKS, ROOT
 from checks.recorder.keeping import WRAPPED
-from checks.recorder.phone.play import server_of_version_39
+from checks.recorder.phone.play import said_of, server_of_version_39
 
 LIMIT = 300  # seconds, for a machine with much other work
 
-PUTTING = r"record: putting the recorder \(\d\.\d MB\) on one"
-PREPARED = PUTTING, "record: loading it into the kernel of one"
-READY = r"record: one: ready: kernel \S+, driver in C, devices.*"
-BEGUN = r"record: one: recording; Ctrl-C ends it, and fetches the files"
+PUTTING, PREPARED, READY, BEGUN, ENDING, FETCHING, FETCHED = said_of("one")
 COUNTS = r"record: \d+ frames, \d lost.*; \d files?, \d+ bytes"
-ENDING = "record: ending the recording on one"
-FETCHING = r"record: fetching \d+ files, \d+\.\d MB, from one"
-FETCHED = r"record: \d+ files, \d+ bytes fetched from one; next: \S+view {0}-1\.cap --side {0}\S*\.side.*"
 KEPT = r"; what was recorded stays in \S+/binder-record of one; to fetch it: \S+record --adb one --fetch -o {0}"
 OFFLINE = (r"record: the connection to one is lost \(error: device offline\); when one is back, this fetches what was"
            r" recorded there: \S+record --adb one --fetch -o {0}")

@@ -150,14 +150,20 @@ class Stage:
 
 # ---- scenes
 
-PUTTING = r"record: putting the recorder \(\d\.\d MB\) on 127\.\S+"
-PREPARED = PUTTING, r"record: loading it into the kernel of 127\.\S+"
-READY = r"record: 127\.0\.0\.1:\d+: ready: kernel \S+, driver in C, devices binder hwbinder vndbinder"
-BEGUN = r"record: 127\.\S+: recording; Ctrl-C ends it, and fetches the files"
-ENDING = r"record: ending the recording on 127\.\S+"
+def said_of(serial: str, *devices: str) -> tuple[str, tuple[str, str], str, str, str, str, str]:
+    """What `record` says of one with such a serial, which has these devices: from the first line of a recording to the
+    last one, in which is the start of the files' names. The side list of a flight recorder has a number."""
+    putting = rf"record: putting the recorder \(\d\.\d MB\) on {serial}"
+    return (putting, (putting, f"record: loading it into the kernel of {serial}"),
+            rf"record: {serial}: ready: kernel \S+, driver in C, {' '.join(('devices', *devices))}",
+            f"record: {serial}: recording; Ctrl-C ends it, and fetches the files",
+            f"record: ending the recording on {serial}", rf"record: fetching \d+ files, \d+\.\d MB, from {serial}",
+            rf"record: \d+ files, \d+ bytes fetched from {serial}; next: \S+view {{0}}-1\.cap --side {{0}}(-1)?\.side")
+
+
+PUTTING, PREPARED, READY, BEGUN, ENDING, FETCHING, FETCHED = said_of(
+    r"127\.0\.0\.1:\d+", "binder", "hwbinder", "vndbinder")
 COUNTS = r"record: \d+ frames, 0 lost; 1 file, \d+ bytes"
-FETCHING = r"record: fetching \d+ files, \d+\.\d MB, from 127\.\S+"
-FETCHED = r"record: \d+ files, \d+ bytes fetched from 127\.0\.0\.1:\d+; next: \S+view {0}-1\.cap --side {0}\.side"
 NOTHING = r"record: nothing was recorded on 127\.0\.0\.1:\d+"
 LOST = (r"record: the connection to 127\.\S+ (is lost \(.*\)|has ended); (when 127\.\S+ is back, this fetches what was"
         r" recorded there|127\.\S+ still records; to end that, and fetch it|what was recorded stays in /data/local/tmp/"
