@@ -4,7 +4,7 @@ import pathlib
 import statistics
 import sys
 from collections import defaultdict
-from typing import Iterator, NamedTuple
+from typing import Iterator, NamedTuple, Sequence
 
 HOW = ("bare", "recorded", "stacks", "no-data", "elsewhere")
 BUSY = 10_000  # calls a second of a busy device
@@ -57,23 +57,24 @@ def by_size(runs: list[Run], kind: str) -> dict[int, dict[str, list[Run]]]:
     return found
 
 
+def print_counted(all_runs: dict[str, list[Run]], kind: str, ways: Sequence[str]) -> None:
+    """The instructions for one of such a kind, made in each of the ways."""
+    for guest, runs in all_runs.items():
+        for size, found in by_size(runs, kind).items():
+            if all(run.instructions is not None for run in found["bare"]):
+                cells = [statistics.median((run.instructions or 0) / run.count for run in found[how]) for how in ways]
+                print(f"    {told(guest):22} {size or '':>11}" + "".join(f"{cell:12,.0f}" for cell in cells))
+
+
 def print_calls(all_runs: dict[str, list[Run]]) -> None:
     print("instructions of the kernel for a call, loader stopped; the median of three")
     print(f"    {'guest':22} {'data, bytes':>11}" + "".join(f"{how:>12}" for how in HOW))
-    for guest, runs in all_runs.items():
-        for size, found in by_size(runs, "calls").items():
-            if all(run.instructions is not None for run in found["bare"]):
-                cells = [statistics.median((run.instructions or 0) / run.count for run in found[how]) for how in HOW]
-                print(f"    {told(guest):22} {size:11}" + "".join(f"{cell:12,.0f}" for cell in cells))
+    print_counted(all_runs, "calls", HOW)
 
 
 def print_opens(all_runs: dict[str, list[Run]]) -> None:
     print("instructions of the kernel to open and close a file, bare and looked at; the median of three")
-    for guest, runs in all_runs.items():
-        found = by_size(runs, "opens").get(0, {})
-        if found and all(run.instructions is not None for run in found["bare"]):
-            cells = [statistics.median((run.instructions or 0) / run.count for run in found[how]) for how in HOW[:2]]
-            print(f"    {told(guest):34}" + "".join(f"{cell:12,.0f}" for cell in cells))
+    print_counted(all_runs, "opens", HOW[:2])
 
 
 def print_loader(all_runs: dict[str, list[Run]]) -> None:
