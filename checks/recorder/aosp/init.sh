@@ -43,7 +43,6 @@ play_scene() { # HOW SECONDS ROLE..
 	end_recording
 	status=$?
 	kill -KILL $players
-	cat $here/record.txt
 	return $status
 }
 
@@ -65,9 +64,6 @@ play_session() { # HOW SECONDS STEP..
 	done
 	sleep $seconds
 	end_recording
-	status=$?
-	cat $here/record.txt
-	return $status
 }
 
 # Ends what a line has left, so that the next one begins anew.

@@ -21,12 +21,9 @@ from typing import Iterator
 from checks.kit.programs import ROOT
 from checks.kit.runs import answer
 from checks.recorder.aosp import play
-from checks.recorder.guest.boot import Guest, boot
-from checks.recorder.guest.image import Files
 from checks.recorder.guest.kernels import check_tools, kernel_of
-from checks.recorder.guest.machines import OWN_TIME, X86_64
-from checks.recorder.guest.plans import (
-    ACCEL, NAMES, accelerated, command, dynamic_files, first_files, plan_text, recorder_for)
+from checks.recorder.guest.machines import X86_64
+from checks.recorder.guest.plans import ACCEL, NAMES, command, plan_text
 
 SPEECH = play.AOSP / "speech"
 LEAST = 200
@@ -93,20 +90,15 @@ def recorded(given: argparse.Namespace) -> list[pathlib.Path]:
     """Builds the programs, and records them in a guest of each kernel. The folders of what came."""
     check_tools(X86_64)
     lines = [[f"speech-{android}", "test", android, "recorded", "speech"] for android in given.android or play.RELEASES]
-    files: Files = {**first_files(X86_64, play.AOSP / "init.sh", given.limit), **dynamic_files(X86_64),
-                    "with-manager": (play.AOSP / "with-manager.sh").read_text("utf-8"), "plan": plan_text(lines),
-                    "record": given.recorder or recorder_for(X86_64, given.room)}
+    files = {**play.files_for(given), "plan": plan_text(lines)}
     for _, _, android, *_ in lines:
         folder = play.built(android, ["speech"], given.room / f"build-{android}.log", room=SPEECH.name)
         files |= play.files_of(android, folder, given.room)
     found = []
     for series in given.kernel or ["6.1"]:
-        out = given.room / f"out-{series}"
-        guest = Guest(X86_64, kernel_of(series, X86_64), files, accelerated(given, OWN_TIME), "2G",
-                      "security=selinux selinux=1")
-        if why := boot(guest, out.name, len(lines), out):
-            raise SystemExit(f"checks/speech: {why}")
-        found += [out / line[0] for line in lines]
+        if wrong := play.play(given, series, kernel_of(series, X86_64), files, len(lines)):
+            raise SystemExit(f"checks/speech: {'; '.join(wrong)}")
+        found += [play.folder_of(given, series) / line[0] for line in lines]
     return found
 
 

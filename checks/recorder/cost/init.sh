@@ -26,7 +26,6 @@ begin() { # [OPTION]..
 end() {
 	sleep 1
 	end_recording
-	cat /out/record.txt
 	grep -q ' 0 lost' /out/record.txt || echo "guest: wrong: frames were lost"
 }
 

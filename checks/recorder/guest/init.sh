@@ -45,9 +45,12 @@ begin_recording() { # [OPTION..]
 	wait_for_begin
 }
 
-end_recording() { # the status is that of the recorder
+end_recording() { # and says what the recorder said, whose status it has
 	kill -TERM $recorder
 	wait $recorder
+	set -- $?
+	cat $here/record.txt
+	return $1
 }
 
 # ---- results

@@ -61,9 +61,6 @@ end_of_recording() { # when the session has rested; the status is that of its pr
 	end_recording
 	touch $here/stop
 	wait $program
-	status=$?
-	cat $here/record.txt
-	return $status
 }
 
 before() { # PROGRAM
