@@ -27,8 +27,7 @@ What must hold:
   machine, and a server of adb of another version: a line for each.
 
 adb and its device are made up (made_up_adb.py), and so is the driver (flight.c); checks/phone has real ones. It takes
-some 20 seconds. If all is well it prints nothing. Otherwise it prints what was expected and what came, and ends with
-status 1.
+some 20 seconds.
 """
 
 import argparse

@@ -16,8 +16,7 @@ What must hold:
   no frame.
 - Over adb it is the same: the device's recorder sends the lines, and they are drawn here.
 
-The terminal is tmux's, and the driver is made up (scene.c); so is adb. It takes some 40 seconds. If all is well it
-prints nothing. Otherwise it prints what was expected and what came, and ends with status 1.
+The terminal is tmux's, and the driver is made up (scene.c); so is adb. It takes some 40 seconds.
 """
 
 import argparse

@@ -16,8 +16,7 @@
 #     checks/run loader
 #
 # It builds the parts of the recorder that need no kernel, and gives them messages as from the ring; and the recorder
-# with a driver that is made up. If all is well it prints nothing. Otherwise it prints what took too long, or too much,
-# or what came, and ends with status 1.
+# with a driver that is made up.
 set -euo pipefail
 
 here=$(dirname -- "$(readlink -f -- "${BASH_SOURCE[0]}")")

@@ -10,8 +10,6 @@
 # - Of a process that began at another time, or is not there, nothing is read, and a line says so.
 # - Ever new stacks take bounded memory. A new side list has the stacks anew that its calls have.
 # - A damaged ELF file has a build-id or none, and nothing is read beyond its end.
-#
-# If all is well it prints nothing. Otherwise it prints what is wrong, and ends with status 1.
 set -euo pipefail
 
 here=$(dirname -- "$(readlink -f -- "${BASH_SOURCE[0]}")")

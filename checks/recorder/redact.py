@@ -12,8 +12,6 @@ were just being recorded. What must hold:
 - Of each payload only the objects and the interface token stay: no eight bytes of a secret are found. Tokens of all
   versions stay, and a text that is no name of an interface does not. Another recording gives other bytes.
 - Without --redact only payloads with TF_CLEAR_BUF are changed.
-
-If all is well it prints nothing. Otherwise it prints what is wrong, and ends with status 1.
 """
 
 import argparse

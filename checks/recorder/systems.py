@@ -13,8 +13,6 @@ where it is in systems/. On each of them nothing may be lacking.
 Then one tracepoint or field after the other is renamed, moved, of another size or away: each of these systems must be
 refused in a line that names the file. So must one whose kernel is too old. And where a compiler has renamed the
 driver's functions, those are found.
-
-If all is well it prints nothing. Otherwise it says what is wrong, and ends with status 1.
 """
 
 import argparse

@@ -5,7 +5,7 @@
 
 Each folder in samples/driver has a capture, its side list, the driver's books and the report. The auditor and the
 second reading must both write this report, and the listing must have as many records. The report and the books are
-compared as for a guest. If all is well it prints nothing. Otherwise each difference has a line, and the status is 1.
+compared as for a guest.
 """
 
 from checks.kit.checking import FLAG, check
