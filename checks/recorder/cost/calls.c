@@ -4,7 +4,6 @@
  * RATE it makes so many calls a second. It writes how long the calls took, in nanoseconds. */
 #include <stdio.h>
 #include <stdlib.h>
-#include <string.h>
 #include <sys/mman.h>
 #include <time.h>
 #include "mark.h"

@@ -6,7 +6,6 @@
  *
  * Debian 12 has no header of this interface; these are its declarations, as QEMU 7.2 has them. */
 #include <inttypes.h>
-#include <stdbool.h>
 #include <stdio.h>
 #include <string.h>
 #include "mark.h"

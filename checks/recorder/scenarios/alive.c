@@ -3,7 +3,6 @@
 #include <fcntl.h>
 #include <string.h>
 #include <unistd.h>
-#include "service.h"
 #include "scenarios.h"
 
 /* ---- copies: two clients get descriptors. Both close what came, and one of them keeps copies of two in three. */

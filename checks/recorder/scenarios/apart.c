@@ -1,13 +1,10 @@
 /* Scenarios in which the drivers in C and in Rust do different things: cut, unwritten, outsider. */
-#define _GNU_SOURCE
 #include <errno.h>
 #include <fcntl.h>
-#include <stdio.h>
 #include <string.h>
 #include <sys/ioctl.h>
 #include <sys/mman.h>
 #include <unistd.h>
-#include "service.h"
 #include "scenarios.h"
 
 #define COMMAND 8u		/* bytes of BC_INCREFS and of BC_DECREFS */

@@ -1,7 +1,6 @@
 /* A scenario about freeze notifications: a service is frozen and thawed, and others asked to be told of it. Before
  * Linux 6.12 the driver refuses their requests, and nothing more is done. */
 #include <string.h>
-#include "service.h"
 #include "scenarios.h"
 
 enum { ACKNOWLEDGES, ACKNOWLEDGES_TOO, KEEPS, LETS_GO, CLEARS, CLEARS_UNACKNOWLEDGED, WATCHERS };

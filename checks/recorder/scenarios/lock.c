@@ -1,6 +1,5 @@
 /* The scenario lock: a service holds a lock over a call to another process, and what else it serves waits for it. */
 #include <unistd.h>
-#include "service.h"
 #include "scenarios.h"
 
 enum { REFRESH = 80, STATUS, QUERY, ROUNDS = 3, USERS = 3 };

@@ -2,7 +2,6 @@
  * client is answered only after 12 seconds. */
 #include <time.h>
 #include <unistd.h>
-#include "service.h"
 #include "scenarios.h"
 
 enum { LATE = 100, LATE_SECONDS = 12, CALLS_OF_SECOND = 500 };
