@@ -1,7 +1,6 @@
 /* heard OUT BYTES CALLS [followed|live]: gives the recorder's loader the messages of so many calls, each with BYTES of
  * data, which begins with the token of an interface, and 4 bytes of answer, as cost/calls.c makes them. With `followed`
  * it follows which calls are open, as triggers have it do, and with `live` it counts what --live shows. See heard. */
-#include "frame.h"
 #include "kit.h"
 #include "live.h"
 #include "made_frame.h"

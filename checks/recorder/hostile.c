@@ -2,7 +2,6 @@
  * openings. Each file must have room for frames, whatever its side list begins with. And no memory is kept for what
  * processes have opened and closed, and for their threads, and little of the data of sends that the driver refused. See
  * loader. */
-#include "begin.h"
 #include "frame.h"
 #include "kit.h"
 #include "made_frame.h"

@@ -1,7 +1,6 @@
 /* What the programs that check the recorder's loader share: see kit.h. */
 #define _GNU_SOURCE
 #include "kit.h"
-#include "common.h"
 #include "parts.h"
 #include "side.h"
 #include "window.h"

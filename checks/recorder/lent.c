@@ -2,7 +2,6 @@
  * attachments, from a ring of so many bytes. There large attachments stay until they are written, if the ring has few
  * bytes for its size; `copied`: all are copied at once. The files are the same. See loader. */
 #define _GNU_SOURCE
-#include "frame.h"
 #include "kit.h"
 #include "made_frame.h"
 #include "met.h"

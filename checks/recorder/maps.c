@@ -2,7 +2,6 @@
  * whole and damaged files. See maps. */
 #define _GNU_SOURCE
 #include "code_file.h"
-#include "frame.h"
 #include "kit.h"
 #include "made_frame.h"
 #include "maps.h"
@@ -11,7 +10,6 @@
 #include "side.h"
 #include "stacks.h"
 #include "window.h"
-#include <fcntl.h>
 #include <stdio.h>
 #include <stdlib.h>
 #include <string.h>

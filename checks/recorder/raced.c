@@ -7,8 +7,6 @@
 #include "parts.h"
 #include "redact.h"
 #include "window.h"
-#include <stdlib.h>
-#include <string.h>
 
 enum {
 	HONEST = 1, CULPRIT,		/* openings, each of a process and a thread of its own */

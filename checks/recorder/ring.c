@@ -14,7 +14,6 @@
 #include "parts.h"
 #include "played.h"
 #include "redact.h"
-#include "side.h"
 #include "stacks.h"
 #include "window.h"
 #include <fcntl.h>
@@ -177,19 +176,15 @@ static void make_frame(u32 direction)
 		make_record();
 }
 
-static void put_piece(const struct caller *caller, const struct made_record *record, u32 at, u32 bytes)
-{
-	struct piece piece = { .head = head(MESSAGE_PIECE, made.direction, made.number, caller), .record = record->at,
-			       .data = record->data, .offsets = record->offsets, .at = at, .bytes = bytes };
-	put(&piece, sizeof piece, payload + at, bytes);
-}
-
 /* Its data and its offsets, in pieces of at most so many bytes; not all of them if there is a note why. */
 static void put_pieces(const struct caller *caller, const struct made_record *record, u32 end)
 {
 	for (u32 at = 0, bytes; at < end; at += bytes) {
 		bytes = end - at < CHUNK ? end - at : CHUNK;
-		put_piece(caller, record, at, bytes);
+		struct piece piece = { .head = head(MESSAGE_PIECE, made.direction, made.number, caller),
+				       .record = record->at, .data = record->data, .offsets = record->offsets, .at = at,
+				       .bytes = bytes };
+		put(&piece, sizeof piece, payload + at, bytes);
 	}
 }
 

@@ -8,32 +8,23 @@
 #include <stdlib.h>
 #include <string.h>
 #include <sys/utsname.h>
-#include <unistd.h>
 
 int __real_access(const char *path, int mode);
 FILE *__real_fopen(const char *path, const char *mode);
 
 static const char *folder;
 
-static void path_below(char *path, size_t room, const char *name)
+static const char *below(const char *name)
 {
-	if ((size_t)snprintf(path, room, "%s%s", folder, name) >= room)
+	static char path[4096];
+	if ((size_t)snprintf(path, sizeof path, "%s%s", folder, name) >= sizeof path)
 		exit(2);
+	return path;
 }
 
-int __wrap_access(const char *name, int mode)
-{
-	char path[4096];
-	path_below(path, sizeof path, name);
-	return __real_access(path, mode);
-}
+int __wrap_access(const char *name, int mode) { return __real_access(below(name), mode); }
 
-FILE *__wrap_fopen(const char *name, const char *mode)
-{
-	char path[4096];
-	path_below(path, sizeof path, name);
-	return __real_fopen(path, mode);
-}
+FILE *__wrap_fopen(const char *name, const char *mode) { return __real_fopen(below(name), mode); }
 
 int uname(struct utsname *name)
 {
