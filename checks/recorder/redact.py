@@ -229,13 +229,9 @@ NO_TOKENS = {
     "letters of no partition": numbers(1, 2, partition("SWRD")) + string16(MANAGER)}
 
 
-def pieces(secret: bytes) -> set[bytes]:
-    return {secret[at:at + 8] for at in range(len(secret) - 7)}
-
-
 def holds(data: bytes, secret: bytes) -> bool:
     """Whether any eight bytes of the secret are in the data."""
-    return any(piece in data for piece in pieces(secret))
+    return any(secret[at:at + 8] in data for at in range(len(secret) - 7))
 
 
 def check_tokens(programs: Programs, room: pathlib.Path, fail: Fail) -> None:

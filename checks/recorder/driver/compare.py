@@ -159,7 +159,7 @@ def unfound(scenarios):
 def compared(auditor, folder, all_sections):
     """Prints what differs, and a table. Returns whether nothing differs without a reason, and each change of the books
     was found; if all sections are wanted, some in each."""
-    reasons, table, failed, used = explained(), defaultdict(Counter), False, set()
+    reasons, table, failed = explained(), defaultdict(Counter), False
     scenarios = [Scenario(auditor, path) for path in sorted(folder.iterdir()) if (path / "status").exists()]
     if not scenarios:
         print(f"{folder} has no scenario")
@@ -170,7 +170,6 @@ def compared(auditor, folder, all_sections):
         for difference in found:
             row = row_of(scenario.name, difference)
             if row in reasons:
-                used.add(row)
                 verdicts[difference[0]] = max(verdicts.get(difference[0], "agree"), "explained")
                 continue
             verdicts[difference[0]] = "unexplained"
@@ -178,21 +177,17 @@ def compared(auditor, folder, all_sections):
             failed = True
         for section, verdict in verdicts.items():
             table[section][verdict] += 1
-    kernel = (folder / "kernel").read_text("utf-8").strip() if (folder / "kernel").exists() else "stored"
-    words = (folder / "words").read_text("utf-8").strip() if (folder / "words").exists() else ""
+    kernel, words = ((folder / name).read_text("utf-8").strip() for name in ("kernel", "words"))
     print(f"kernel {kernel}{words and ', ' + words}, {len(scenarios)} captures")
     print(f"{'section':20}{'agree':>8}{'explained':>11}{'not':>6}{'wrong books found':>20}")
     wrong_books = defaultdict(Counter)
     for _, section, tried, found in unfound(scenarios):
         wrong_books[section].update(tried=tried, found=found)
-    changes = {section: f"{counts['found']} of {counts['tried']}" for section, counts in wrong_books.items()}
-    for section in sorted(set(table) | set(changes)):
-        counts = table[section]
-        print(f"{section:20}{counts['agree']:8}{counts['explained']:11}{counts['unexplained']:6}"
-              f"{changes.get(section, '-'):>20}")
-        if section in changes:
-            found, tried = changes[section].split(" of ")
-            if found != tried or all_sections and tried == "0":
-                print("wrong books were not found:", section)
-                failed = True
+    for section in sorted(set(table) | set(wrong_books)):
+        counts, made = table[section], wrong_books.get(section)
+        told = f"{made['found']} of {made['tried']}" if made else "-"
+        print(f"{section:20}{counts['agree']:8}{counts['explained']:11}{counts['unexplained']:6}{told:>20}")
+        if made and (made["found"] != made["tried"] or all_sections and not made["tried"]):
+            print("wrong books were not found:", section)
+            failed = True
     return not failed
