@@ -46,16 +46,14 @@ public:
         line("gets", "INewer.choose", {{"choice", show(choice)}, {"perhaps", perhaps ? show(*perhaps) : "null"}});
         *other = Choice::make<Choice::text>(String16("another"));
         *answer = choice;
-        line("answers", "INewer.choose", {{"return", show(*answer)}, {"other", show(*other)}});
-        return Status::ok();
+        return answered("INewer.choose", {{"return", show(*answer)}, {"other", show(*other)}});
     }
     Status feel(Mood mood, Step step, const std::vector<Mood>& moods, const std::vector<Step>& steps,
                 Mood* answer) override {
         line("gets", "INewer.feel",
              {{"mood", show(mood)}, {"step", show(step)}, {"moods", show(moods)}, {"steps", show(steps)}});
         *answer = moods.empty() ? Mood::CALM : moods.back();
-        line("answers", "INewer.feel", {{"return", show(*answer)}});
-        return Status::ok();
+        return answered("INewer.feel", {{"return", show(*answer)}});
     }
     Status grids(const std::array<std::array<int32_t, 3>, 2>& grid, const std::array<String16, 2>& pair,
                  const std::array<uint8_t, 4>& four, std::array<int32_t, 3>* counts,
@@ -63,8 +61,7 @@ public:
         line("gets", "INewer.grids", {{"grid", show(grid)}, {"pair", show(pair)}, {"four", show(four)}});
         *counts = grid[1];
         *answer = {grid[1], grid[0]};
-        line("answers", "INewer.grids", {{"return", show(*answer)}, {"counts", show(*counts)}});
-        return Status::ok();
+        return answered("INewer.grids", {{"return", show(*answer)}, {"counts", show(*counts)}});
     }
     Status ears(const std::vector<sp<IEar>>& ears, const std::vector<sp<IBinder>>& objects,
                 const std::vector<ParcelFileDescriptor>& files, std::vector<sp<IEar>>* answer) override {
@@ -72,8 +69,7 @@ public:
              {{"ears", show(ears)}, {"objects", show(objects)}, {"files", show(files)}});
         *answer = ears;
         answer->push_back(new Ear);
-        line("answers", "INewer.ears", {{"return", show(*answer)}});
-        return Status::ok();
+        return answered("INewer.ears", {{"return", show(*answer)}});
     }
     Status pack(const Box& box, const Box::Inner& inner, const std::vector<Note>& notes, Box* answer) override {
         line("gets", "INewer.pack", {{"box", show(box)}, {"inner", show(inner)}, {"notes", show(notes)}});
@@ -82,8 +78,7 @@ public:
         if (held) answer->held.setParcelable(held);
         answer->inner = inner;
         answer->pair = box.pair;
-        line("answers", "INewer.pack", {{"return", show(*answer)}});
-        return Status::ok();
+        return answered("INewer.pack", {{"return", show(*answer)}});
     }
 };
 

@@ -166,12 +166,16 @@ static void came(const char* method, const Status& status, std::vector<std::pair
 
 // ---- the service
 
+static Status answered(const char* method, std::vector<std::pair<const char*, std::string>> values) {
+    line("answers", method, values);
+    return Status::ok();
+}
+
 class Ear : public BnEar {
 public:
     Status hear(const String16& text) override {
         line("gets", "IEar.hear", {{"text", show(text)}});
-        line("answers", "IEar.hear", {{"", "no exception"}});
-        return Status::ok();
+        return answered("IEar.hear", {{"", "no exception"}});
     }
 };
 
@@ -182,8 +186,7 @@ public:
         line("gets", "ISpeech.say", {{"text", show(text)}, {"plain", show(plain)}, {"perhaps", show(perhaps)}});
         *answer = text;
         answer->append(String16("!"));
-        line("answers", "ISpeech.say", {{"return", show(*answer)}});
-        return Status::ok();
+        return answered("ISpeech.say", {{"return", show(*answer)}});
     }
     Status count(bool flag, int8_t small, char16_t letter, int32_t number, int64_t large, float real, double exact,
                  int64_t* answer) override {
@@ -191,8 +194,7 @@ public:
              {{"flag", show(flag)}, {"small", show(small)}, {"letter", show(letter)}, {"number", show(number)},
               {"large", show(large)}, {"real", show(real)}, {"exact", show(exact)}});
         *answer = large - number;
-        line("answers", "ISpeech.count", {{"return", show(*answer)}});
-        return Status::ok();
+        return answered("ISpeech.count", {{"return", show(*answer)}});
     }
     Status arrays(const std::vector<bool>& flags, const std::vector<uint8_t>& bytes,
                   const std::vector<char16_t>& letters, const std::vector<int32_t>& numbers,
@@ -204,15 +206,13 @@ public:
               {"larges", show(larges)}, {"reals", show(reals)}, {"exacts", show(exacts)}, {"words", show(words)},
               {"perhaps", show(perhaps)}});
         answer->assign(numbers.rbegin(), numbers.rend());
-        line("answers", "ISpeech.arrays", {{"return", show(*answer)}});
-        return Status::ok();
+        return answered("ISpeech.arrays", {{"return", show(*answer)}});
     }
     Status lists(const std::vector<String16>& words, const std::vector<std::string>& plain,
                  std::vector<String16>* answer) override {
         line("gets", "ISpeech.lists", {{"words", show(words)}, {"plain", show(plain)}});
         answer->assign(words.begin(), words.end());
-        line("answers", "ISpeech.lists", {{"return", show(*answer)}});
-        return Status::ok();
+        return answered("ISpeech.lists", {{"return", show(*answer)}});
     }
     Status objects(const sp<IBinder>& object, const sp<IEar>& ear, const sp<IBinder>& perhaps,
                    sp<IBinder>* answer) override {
@@ -222,14 +222,12 @@ public:
         line("calls", "IEar.hear", {{"text", show(heard)}});
         came("IEar.hear", ear->hear(heard), {{"", "no exception"}});
         *answer = perhaps == nullptr ? object : new Ear;
-        line("answers", "ISpeech.objects", {{"return", show(*answer)}});
-        return Status::ok();
+        return answered("ISpeech.objects", {{"return", show(*answer)}});
     }
     Status files(const ParcelFileDescriptor& file, Raw raw, ParcelFileDescriptor* answer) override {
         line("gets", "ISpeech.files", {{"file", show(file)}, {"raw", show(raw)}});
         answer->reset(base::unique_fd(dup(file.get())));
-        line("answers", "ISpeech.files", {{"return", show(*answer)}});
-        return Status::ok();
+        return answered("ISpeech.files", {{"return", show(*answer)}});
     }
     Status notes(const Note& note, Note* copy, Note* changed, const std::vector<Note>& all,
                  const Maybe<Note>& perhaps, std::vector<int32_t>* counts, Note* answer) override {
@@ -241,9 +239,8 @@ public:
         changed->number++;
         assign(answer, *changed);
         answer->text = String16("an answer");
-        line("answers", "ISpeech.notes",
-             {{"return", show(*answer)}, {"copy", show(*copy)}, {"changed", show(*changed)}, {"counts", show(*counts)}});
-        return Status::ok();
+        return answered("ISpeech.notes", {{"return", show(*answer)}, {"copy", show(*copy)},
+                                          {"changed", show(*changed)}, {"counts", show(*counts)}});
     }
     Status tell(int32_t number, const Note& note) override {
         line("gets", "ISpeech.tell", {{"number", show(number)}, {"note", show(note)}});
@@ -262,8 +259,7 @@ public:
     }
     Status rest() override {
         line("gets", "ISpeech.rest", {{"", "no arguments"}});
-        line("answers", "ISpeech.rest", {{"", "no exception"}});
-        return Status::ok();
+        return answered("ISpeech.rest", {{"", "no exception"}});
     }
 
 private:
