@@ -38,6 +38,15 @@ class Version(argparse.Action):
         os.execv(FOLDER / "version.sh", ["version.sh"])
 
 
+def how_of(option: Option) -> dict[str, Any]:
+    """How argparse takes an option."""
+    if not option.value:
+        return {"action": "store_true", "default": False}
+    values = option.values
+    return {"metavar": tuple(values) if values[1:] else values[0], **({"nargs": len(values)} if values[1:] else {}),
+            **({"action": "append", "default": []} if option.many else {})}
+
+
 class Words(argparse.ArgumentParser):
     """The words of a command, by its table. A mistake ends with status 64, as in the other programs here; the line that
     names it begins with `name`."""
@@ -56,20 +65,22 @@ class Words(argparse.ArgumentParser):
         from commands.help import lines_of, width
         return "".join(f"{line}\n" for line in lines_of(self.command, width()))
 
-    def take(self, options: Iterable[Option], read: Reading) -> None:
-        """Takes these options. What `read` has of one comes beside what the table says."""
+    def take(self, options: Iterable[Option], read: Reading, words: list[str]) -> None:
+        """Takes those of these options with which one of the words begins: of each argparse takes long to learn. What
+        `read` has of one comes beside what the table says. The others have their defaults."""
         groups: dict[str, Any] = {}
         options = list(options)
         assert read.keys() <= {option.name for option in options}, read.keys()
         for option in options:
             if option in (HELP, VERSION):
                 continue
+            how = how_of(option) | dict(read.get(option.name, {}))
+            if not any(word.startswith(option.name) for word in words):
+                name = how.get("dest", option.name.lstrip("-").replace("-", "_"))
+                self.set_defaults(**{name: how.get("default")})
+                continue
             to = groups.setdefault(option.one_of, self.add_mutually_exclusive_group()) if option.one_of else self
-            how: dict[str, Any] = {"action": "store_true"} if not option.value else {
-                "metavar": tuple(option.values) if len(option.values) > 1 else option.values[0],
-                **({"nargs": len(option.values)} if len(option.values) > 1 else {}),
-                **({"action": "append", "default": []} if option.many else {})}
-            to.add_argument(option.name, **(how | dict(read.get(option.name, {}))))
+            to.add_argument(option.name, **how)
 
     def error(self, message: str) -> NoReturn:
         for word in sys.argv[1:]:

@@ -75,7 +75,7 @@ def why_not(asked: argparse.Namespace) -> Iterator[str]:
 def asked_by(words: list[str]) -> argparse.Namespace:
     line = Words("view", "view")
     line.add_argument("files", metavar="FILE", nargs="+")
-    line.take(line.command.options(), READ)
+    line.take(line.command.options(), READ, words)
     asked = line.parse_args(words)
     if asked.page is None and not asked.groups and {asked.trace, asked.against, asked.call, asked.absent} == {None}:
         asked.page = f"{asked.files[0]}.html"
