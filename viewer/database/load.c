@@ -85,17 +85,22 @@ static void forget(unsigned char *bytes, size_t length)
 		munmap(bytes, length);
 }
 
-/*
- * The rows of a file, as a virtual table: so one statement loads a whole table, in half the time that a statement for
- * each row takes.
- */
+/* The rows of a file. */
 struct rows {
-	sqlite3_vtab base;
 	const char *path;
 	unsigned char *bytes;
 	size_t length;
 	int columns;
 	uint64_t texts;		/* a bit for each column that is a text */
+};
+
+/*
+ * The rows of the file that is loaded now, as a virtual table: so one statement loads a whole table, in half the time
+ * that a statement for each row takes.
+ */
+struct rows_table {
+	sqlite3_vtab base;
+	struct rows **current;
 };
 
 /* A cursor is at a row, or at the end of the file. Of each column it has where it is, and 0 if it is NULL. */
@@ -107,7 +112,7 @@ struct cursor {
 
 static const struct rows *rows_of(const sqlite3_vtab_cursor *cursor)
 {
-	return (const struct rows *)cursor->pVtab;
+	return *((const struct rows_table *)cursor->pVtab)->current;
 }
 
 static uint64_t number_at(const struct rows *rows, size_t at)
@@ -199,23 +204,36 @@ static int close_cursor(sqlite3_vtab_cursor *cursor)
 	return SQLITE_OK;
 }
 
-/* Makes the virtual table of the rows that are loaded now, and declares their columns to SQLite. */
+/* The columns c0, c1 and so on, with commas between. */
+static char *columns_of(int count)
+{
+	char *text = sqlite3_mprintf("c0");
+	for (int column = 1; column < count; column++)
+		text = sqlite3_mprintf("%z, c%d", text, column);
+	return text;
+}
+
+/* Declares to SQLite as many columns as a file may have, once for all files. */
 static int connect(sqlite3 *database, void *current, int count, const char *const *words, sqlite3_vtab **table,
 		   char **why)
 {
 	(void)count, (void)words, (void)why;
-	struct rows *rows = *(struct rows **)current;
-	char declared[sizeof "CREATE TABLE rows(c00)" + MOST_COLUMNS * sizeof ",c00"] = "CREATE TABLE rows(c0";
-	for (int column = 1; column < rows->columns; column++)
-		sprintf(declared + strlen(declared), ",c%d", column);
-	strcat(declared, ")");
-	*table = &rows->base;
-	return sqlite3_declare_vtab(database, declared);
+	struct rows_table *made = calloc(1, sizeof *made);
+	char *declared = sqlite3_mprintf("CREATE TABLE rows(%z)", columns_of(MOST_COLUMNS));
+	int status = made && declared ? sqlite3_declare_vtab(database, declared) : SQLITE_NOMEM;
+	sqlite3_free(declared);
+	if (status != SQLITE_OK) {
+		free(made);
+		return status;
+	}
+	made->current = current;
+	*table = &made->base;
+	return SQLITE_OK;
 }
 
 static int leave(sqlite3_vtab *table)
 {
-	(void)table;
+	free(table);
 	return SQLITE_OK;
 }
 
@@ -226,7 +244,7 @@ static int plan(sqlite3_vtab *table, sqlite3_index_info *asked)
 }
 
 static const sqlite3_module rows_module = {
-	.xCreate = connect, .xConnect = connect, .xBestIndex = plan, .xDisconnect = leave, .xDestroy = leave,
+	.xConnect = connect, .xBestIndex = plan, .xDisconnect = leave,
 	.xOpen = open_cursor, .xClose = close_cursor, .xFilter = go_to_begin, .xNext = go_on, .xEof = is_at_end,
 	.xColumn = give_column, .xRowid = give_place,
 };
@@ -267,11 +285,10 @@ static void load_table(sqlite3 *database, const char *table, const char *folder,
 	learn_columns(database, table, &rows);
 	rows.bytes = bytes_of(path, &rows.length);
 	*current = &rows;
-	char *statements = sqlite3_mprintf(
-		"CREATE VIRTUAL TABLE temp.rows USING rows; INSERT INTO main.%w SELECT * FROM temp.rows;"
-		" DROP TABLE temp.rows", table);
-	run(database, statements);
-	sqlite3_free(statements);
+	char *statement = sqlite3_mprintf("INSERT INTO main.%w SELECT %z FROM rows", table, columns_of(rows.columns));
+	if (rows.length)
+		run(database, statement);
+	sqlite3_free(statement);
 	forget(rows.bytes, rows.length);
 	remove_rows(packing, path);
 	sqlite3_free(path);
