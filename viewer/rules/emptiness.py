@@ -3,7 +3,12 @@
 import sqlite3
 from typing import Iterable
 
-from viewer.rules.plan import Guards
+from viewer.rules.plan import Guards, Statement
+
+
+def column_of(guard: str) -> str:
+    """The column of which a guard says something."""
+    return guard.partition(" WHERE ")[2].partition(" ")[0]
 
 
 class Emptiness:
@@ -12,7 +17,7 @@ class Emptiness:
     def __init__(self, database: sqlite3.Connection, made: Iterable[str]) -> None:
         self.database = database
         self.known = dict.fromkeys(made, True)
-        self.asked: dict[str, list[str]] = {}
+        self.of = {table: {table} for table in self.known}
 
     def finds_nothing(self, guards: Guards) -> bool:
         """Whether each part has a guard without rows."""
@@ -32,19 +37,24 @@ class Emptiness:
         return bool(guards)
 
     def ask(self, guard: str) -> bool:
-        self.asked.setdefault(guard.partition(" ")[0], []).append(guard)
-        self.known[guard] = self.database.execute(f"SELECT 1 FROM {guard} LIMIT 1").fetchone() is None
-        return self.known[guard]
+        is_empty = self.database.execute(f"SELECT 1 FROM {guard} LIMIT 1").fetchone() is None
+        self.learn(guard, is_empty)
+        return is_empty
 
-    def changed(self, table: str, are_left: bool) -> None:
-        """Rows of a table were changed; some are left for sure, or may be."""
-        for guard in self.asked.pop(table, ()):
+    def learn(self, guard: str, is_empty: bool) -> None:
+        self.known[guard] = is_empty
+        self.of.setdefault(guard.partition(" ")[0], set()).add(guard)
+
+    def changed(self, by: Statement) -> None:
+        """A statement has changed rows of its table. What is known stays where it leaves what that is known by."""
+        for guard in list(self.of.get(by.name, ())):
+            if column_of(guard) in by.sets if by.sets else self.known[guard] or not by.adds:
+                self.of[by.name].remove(guard)
+                del self.known[guard]
+        if by.adds:
+            self.learn(by.name, False)
+
+    def forget(self, table: str) -> None:
+        """A table was changed in some way."""
+        for guard in self.of.pop(table, ()):
             del self.known[guard]
-        self.known.pop(table, None)
-        if are_left:
-            self.known[table] = False
-
-    def forget(self) -> None:
-        """Any table may have been changed."""
-        self.known.clear()
-        self.asked.clear()

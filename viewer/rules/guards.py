@@ -3,7 +3,7 @@ freeze notifications, and need not be compiled; nor does a form of it that check
 
 from typing import Callable, Iterator, Mapping, NamedTuple, Union
 
-from viewer.rules.sql import Clause, Group, Item, Token, clauses, items_of, split
+from viewer.rules.sql import Clause, Group, Item, Token, clauses, items_of, split, tokens_of
 
 AGGREGATES = ("COUNT", "SUM", "MIN", "MAX", "AVG", "TOTAL", "GROUP_CONCAT", "JSON_GROUP_ARRAY", "JSON_GROUP_OBJECT")
 # Of two values or more they are the least and the greatest one of a row.
@@ -43,6 +43,21 @@ def finds_nothing(parts: Parts, is_empty: Callable[[Guard], bool]) -> bool:
 def guards_of(statement: str, views: Views = {}) -> Parts:
     """The guards of a statement, or of the query of a view; `views` has those of views before it."""
     return Reading(statement).parts(items_of(statement), views)
+
+
+def adds_of(statement: str) -> bool:
+    """Whether a statement adds rows, and leaves those that are there."""
+    first, *tokens = tokens_of(statement)
+    return first.says("CREATE") or first.says("INSERT") and tokens[0].says("INTO")
+
+
+def columns_set(statement: str) -> tuple[str, ...]:
+    """The columns that an UPDATE sets; of another statement none."""
+    members = [member for clause in clauses(items_of(statement)) if clause.says("SET")
+               for member in split(clause.items, ",")]
+    return tuple(token.text for member in members
+                 for token in (member[0].items if isinstance(member[0], Group) else member[:1])
+                 if isinstance(token, Token) and token.kind == "word")
 
 
 class Reading(NamedTuple):

@@ -1,6 +1,5 @@
 """The rules, file after file, and the words by which their statements make texts."""
 
-import contextlib
 import functools
 import pathlib
 import re
@@ -118,9 +117,13 @@ class Judging:
                 self.after(file)
                 self.begin(file)
                 file = statement.file
-            if statement.makes != "INDEX" or statement.name not in self.packed:
-                with self.timing.statement(file, statement.text) if self.timing else contextlib.nullcontext():
+            if statement.makes == "INDEX" and statement.name in self.packed:
+                continue
+            if self.timing:
+                with self.timing.statement(file, statement.text):
                     self.run(number, statement)
+            else:
+                self.run(number, statement)
 
     def run(self, number: int, statement: Statement) -> None:
         """Runs a statement, or takes its rows from another process."""
@@ -155,7 +158,7 @@ class Judging:
                 text = f"INSERT INTO {statement.name} {text[statement.query:]}"
             rows = self.database.execute(text, self.numbers).rowcount
         if rows:
-            self.empty.changed(statement.name, "DELETE" not in statement.text)
+            self.empty.changed(statement)
 
     def begin(self, file: str) -> None:
         """Has other processes find the rows of statements for which all is there after a file."""
@@ -192,11 +195,11 @@ class Judging:
         elif file == "rule.sql":
             for table, rows in self.plan.rows.items():
                 insert(self.database, table, rows)
-            self.empty.forget()
+                self.empty.learn(table, not rows)
         elif file == "waits.sql" and self.database.execute("SELECT 1 FROM step LIMIT 1").fetchone():
             from viewer.rules import waiting
             waiting.count(self.database, int(THRESHOLDS["POOLS"]))
-            self.empty.forget()
+            self.empty.forget("waited")
 
 
 def packed_tables(database: sqlite3.Connection) -> set[str]:

@@ -38,7 +38,8 @@ class Statement(NamedTuple):
     after which another process may find its rows; nothing if this one does. If they stay in the file where they are
     found, who looks at them does so there, and none copies them: so it is with those of a view. `query` is where the
     query begins that does so, or of which it makes a table; 0 if there is none. It does nothing if each part of it has
-    a guard without a row."""
+    a guard without a row. `adds`: it leaves the rows that are there; `sets` has the columns of an UPDATE, which leaves
+    the others."""
     file: str
     text: str
     makes: str
@@ -47,6 +48,8 @@ class Statement(NamedTuple):
     stays: bool
     query: int
     guards: Guards = ()
+    adds: bool = False
+    sets: tuple[str, ...] = ()
 
 
 class Plan(NamedTuple):
@@ -85,7 +88,7 @@ def with_guards(statements: list[Statement]) -> Iterator[Statement]:
     """The statements with their guards. Of a view nobody knows when it gets a row, so those of its query are asked."""
     from viewer.database.raw_tables import schema
     from viewer.database.sqlite import statements_in
-    from viewer.rules.guards import Parts, guards_of
+    from viewer.rules.guards import Parts, adds_of, columns_set, guards_of
     tables: set[str] = set()
     views: dict[str, Parts] = {}
     for one in (*(statement_of("", text) for text in statements_in(schema())), *statements):
@@ -96,7 +99,7 @@ def with_guards(statements: list[Statement]) -> Iterator[Statement]:
             tables.add(one.name)
         if one.file:
             assert one.name, one.text  # else nobody knows which guards to ask again after it
-            yield one._replace(guards=kept_of(guards, tables))
+            yield one._replace(guards=kept_of(guards, tables), adds=adds_of(one.text), sets=columns_set(one.text))
 
 
 def kept_of(guards: "Parts", tables: set[str]) -> Guards:
