@@ -4,11 +4,12 @@
 
 A second reading in Python makes the stream of rows (checks/kit/tables/stream.py), and the printer, built with
 sanitizers for memory, prints it. What it prints must be the listings in `stored/` beside this one, to the byte. It
-takes all options about lines. With --names each line has the method that the viewer's database names, and the service.
-Of streams that are cut, of which bytes are changed, or rows left out or put elsewhere,
-it must print what it can, and end with a status of ./listing, without a word of a sanitizer: if it is cut, with 4. So
-it must of side lists and of files of names that are harmed, and print no time and no name that is none. A side list of
-another version is refused.
+takes all options about lines; those that narrow print the lines that fit. Each code word, each kind of fault and each
+interface has its name, in lines and in columns. With --names each line has the method that the viewer's database names,
+and the service. Of streams that are cut, of which bytes are changed, or rows left out or put elsewhere, it must print
+what it can, and end with a status of ./listing, without a word of a sanitizer: if it is cut, with 4. So it must of side
+lists and of files of names that are harmed, and print no time and no name that is none. A side list of another version
+is refused.
 """
 
 import argparse
@@ -18,25 +19,33 @@ import re
 import sqlite3
 import struct
 from contextlib import closing
-from typing import Iterator
+from itertools import chain, takewhile
+from typing import Callable, Iterator
 
 from checks.hostile.mutations import changed_lines
 from checks.kit import runs, tokens
-from checks.kit.captures import BC_REPLY, BC_TRANSACTION, HANDLE, HEADER, entry, frame, loopers, offsets, transaction
+from checks.kit.captures import (BC_REPLY, BC_TRANSACTION, HANDLE, HEADER, MAX_32, attached, entry, frame, loopers,
+                                 of_handle, offsets, record, transaction, u32)
 from checks.kit.cases import Part, parts_of, play
 from checks.kit.checking import Fail, check, compare
 from checks.kit.programs import CHECKS, DRIVER, ROOT, SMALL
+from checks.kit.frames import frames_of
+from checks.kit.rows import encoded_row
 from checks.kit.side_lists import packed, unpacked
+from checks.kit.second_reading import NAMES, NEWER
+from checks.kit.tables.cut import FAULTS, cut_of
 from checks.kit.tables.reading import Row, numbered, object_rows, names_of, record_row
-from checks.kit.tables.stream import Stream, split, stream_of
+from checks.kit.tables.stream import ENDING, SORT_BIT, Stream, split, stream_of
+from checks.kit.traffic import write_traffic
+from checks.listing.tables_again import freezes, naming
 from commands.listing import LISTING
 from commands.reading import Given, read
-from viewer.lines.asked import OF_VIEWER, printer_words
+from viewer.lines.asked import OF_VIEWER, printer_words, program_words
 from viewer.arguments.sources import Declarations
 from viewer.database import raw_tables
 from viewer.lines.build import build_printer
 from viewer.lines.named import is_before_15, lines_of
-from viewer.listing_words import PLACES, TABLES, TIMES, number_of
+from viewer.listing_words import PLACES, TABLES, TIMES
 from viewer.methods.known import BINDER, MANAGER, Methods, load_methods
 from viewer.units import signed
 
@@ -54,17 +63,18 @@ Options = list[tuple[str, list[str]]]
 # Captures with calls to managers of services, with services, and with calls that all objects answer.
 NAMED = [DRIVER / name / "capture-1.cap" for name in (
     "hello-9", "hello-11", "hello-answers", "hello-hidl", "hello-callbacks")]
-NAMES = """SELECT coalesce(m.method, ''), coalesce(s.name, '') FROM raw_record r JOIN kind k ON k.number = r.kind
+OF_RECORDS = """SELECT coalesce(m.method, ''), coalesce(s.name, '') FROM raw_record r JOIN kind k ON k.number = r.kind
   LEFT JOIN raw_interface i ON i.id = r.interface LEFT JOIN raw_service s ON s.id = r.service
   LEFT JOIN method m ON k.name NOT GLOB '*_REPLY*' AND (m.interface, m.code) = (coalesce(i.name, ?), r.code)
   ORDER BY r.place"""
 
 
 def stream_for(given: Given) -> bytes:
-    """The stream that the words ask for."""
-    places = [(name, number_of(value)) for name, values in given.options if name in PLACES for value in values]
+    """The stream that the words ask for, by those of the program that reads the capture."""
+    *asked, = takewhile("--".__ne__, program_words(given))
+    places = [(name, int(value)) for name, value in zip(asked, asked[1:]) if name in PLACES]
     parts = [(ROOT / name).read_bytes() for name in given.files]
-    return stream_of(parts, True, places[0][0] if places else None, [place for _, place in places])
+    return stream_of(parts, "--objects" in asked, places[0][0] if places else None, [place for _, place in places])
 
 
 def printed(printer: pathlib.Path, given: Given, stream: bytes) -> tuple[int, list[str]]:
@@ -133,7 +143,7 @@ def names_by_database(capture: bytes, methods: Methods) -> list[tuple[str, str]]
                 database.executemany(f"INSERT INTO raw_{table} VALUES ({', '.join('?' * len(made[0]))})",
                                      [[signed(it) if isinstance(it, int) else it for it in row] for row in made])
         load_methods(database, methods)
-        return database.execute(NAMES, (BINDER,)).fetchall()
+        return database.execute(OF_RECORDS, (BINDER,)).fetchall()
 
 
 def with_names(line: str, method: str, service: str) -> str:
@@ -213,6 +223,169 @@ def check_harmed_names(printer: pathlib.Path, room: pathlib.Path, fail: Fail) ->
         if status == 0 and not all(re.fullmatch(r"([^\t]*\t){26}[\w$]*\t[^\t]*", line, re.ASCII) for line in lines):
             fail(f"names of {table!r}: a name that is none is printed")
     methods.write_bytes(good)
+
+
+# ---- what is narrowed
+
+
+def with_word(field: str) -> Callable[[list[str]], bool]:
+    return lambda words: field in words
+
+
+def narrowings(whole: list[str]) -> Iterator[tuple[str, Callable[[list[str]], object]]]:
+    """Words that narrow usual traffic, and whether a line fits, by its words."""
+    cookie = next(word for line in whole for word in line.split() if word.startswith("cookie=0x9"))
+    sizes = sorted({int(word[10:]) for line in whole for word in line.split() if word.startswith("data_size=")})
+    middle = sizes[len(sizes) // 2]
+    node = next(word for line in whole for word in line.split() if word.startswith("ptr=0x"))
+    yield from (
+        ("--process 1000", lambda it: it[3] == "1000"),
+        ("--thread 1003", lambda it: it[4] == "1003"),
+        ("--device 1", lambda it: it[2] == "1"),
+        ("--device 3", lambda it: False),
+        ("--code BC_ACQUIRE", lambda it: it[5] == "BC_ACQUIRE"),
+        ("--code 0x720c", lambda it: it[5] == "BR_NOOP"),
+        ("--handle 7", with_word("handle=7")),
+        (f"--cookie {cookie[7:]}", with_word(cookie)),
+        ("--address 0x700000001000", lambda it: {"buffer=0x700000001000", "address=0x700000001000"} & set(it)),
+        ("--from 300 --to 400", lambda it: 300 <= int(it[1]) <= 400),
+        ("--process 1007 --code BC_RELEASE", lambda it: (it[3], it[5]) == ("1007", "BC_RELEASE")),
+        ("--device 2 --process 1000", lambda it: (it[2], it[3]) == ("2", "1000")),
+        ("--process 1000 --process 1007", lambda it: it[3] in ("1000", "1007")),
+        ("--code BC_REPLY --code 0x720c", lambda it: it[5] in ("BC_REPLY", "BR_NOOP")),
+        ("--from 300 --from 400 --to 350 --to 310", lambda it: 300 <= int(it[1]) <= 350),
+        ("--direction write", lambda it: it[5].startswith("BC_")),
+        ("--direction read --code BC_REPLY", lambda it: False),
+        (f"--node {node[4:]}", with_word(node)),
+        ("--flag TF_ONE_WAY", lambda it: any(word.startswith("flags=") and "TF_ONE_WAY" in word for word in it)),
+        (f"--larger {middle}", lambda it: any(
+            word.startswith("data_size=") and int(word[10:]) > middle for word in it)),
+    )
+
+
+def without_attachments(capture: bytes) -> bytes:
+    """The capture with the same records, and without attachment entries."""
+    return capture[:16] + b"".join(capture[one.place:one.place + 24] + u32(0) + capture[one.place + 28:one.place + 32]
+                                   + one.commands for one in frames_of(capture))
+
+
+def check_narrowed(printer: pathlib.Path, room: pathlib.Path, fail: Fail) -> None:
+    """Each option narrows usual traffic to the lines of the whole listing that fit. Attachments are left out, since
+    their objects have handles and cookies that are in no line; an object that has one makes its record fit."""
+    capture = room / "traffic.cap"
+    write_traffic(capture, 2**17, 3)
+    capture.write_bytes(without_attachments(capture.read_bytes()))
+    stream = stream_for(Given([], [str(capture)]))
+    _, whole = printed(printer, Given([], []), stream)
+    for words, fits in narrowings(whole):
+        due = [line for line in whole if fits(line.split())]
+        given = read(LISTING, [*words.split(), str(capture)])
+        compare(f"usual traffic, {words}", printed(printer, given, stream), (0, due), fail)
+        if not due and words not in ("--device 3", "--direction read --code BC_REPLY"):
+            fail(f"usual traffic, {words}: expected some lines, came none")
+    (room / "objects.cap").write_bytes(
+        HEADER + attached(1, 100, *((of_handle(2, handle), offsets(0)) for handle in (9, 5))))
+    lines = came_of(printer, [("--handle", ["5"])], room / "objects.cap")
+    compare("a handle in an object", [line.split()[0] for line in lines], ["116"], fail)
+
+
+# ---- names, and columns
+
+
+# The columns of `--form tab`, as the command names them. For two of them lines have no word.
+FORM = next(it.told for it in LISTING.options() if it.name == "--form")
+COLUMNS = FORM.partition(": ")[2].partition(";")[0].split(", ")
+OF_COLUMNS = "direction", "code word"
+REPLIES = "BC_REPLY", "BC_REPLY_SG", "BR_REPLY"
+
+
+def check_codes(printer: pathlib.Path, room: pathlib.Path, fail: Fail) -> None:
+    """Each code word has its name."""
+    capture, ways = room / "codes.cap", ((1, "write", ord("c")), (2, "read", ord("r")))
+    words = {way: [word for word in NAMES if word >> 8 & 0xFF == letter] for way, _, letter in ways}
+    capture.write_bytes(HEADER + b"".join(frame(way, way, 100, 101, [*map(record, words[way])]) for way in words))
+    columns = [line.split("\t") for line in came_of(printer, [("--form", ["tab"])], capture)]
+    compare("codes", [line[5:8] for line in columns],
+            [[name, NAMES[word], f"{word:#010x}"] for way, name, _ in ways for word in words[way]], fail)
+    for it in capture, SIDED:
+        check_columns(printer, it, fail)
+
+
+def check_columns(printer: pathlib.Path, capture: pathlib.Path, fail: Fail) -> None:
+    """Columns say the same as lines."""
+    lines = [line.split() for line in came_of(printer, [], capture)]
+    columns = [dict(zip(COLUMNS, line.split("\t"), strict=True))
+               for line in came_of(printer, [("--form", ["tab"])], capture)]
+    compare(f"{capture}, columns", [{name: value for name, value in line.items() if value and name not in OF_COLUMNS}
+                                    for line in columns],
+            [dict(zip(COLUMNS[:5], line)) | {"name": line[5]}
+             | dict(word.split("=", 1) for word in line[6:] if not word.startswith("word=")) for line in lines], fail)
+
+
+def check_interfaces(printer: pathlib.Path, room: pathlib.Path, fail: Fail) -> None:
+    """What a payload names is the interface of a transaction, and of no reply."""
+    capture = room / "interfaces.cap"
+    capture.write_bytes(naming())
+    records = chain.from_iterable(cut_of([naming()]).records)
+    lines = came_of(printer, [], capture)
+    named = [line.partition(" interface=")[2] for line in lines]
+    compare("interfaces", named, ["" if line.split()[5] in REPLIES else names_of(it)[0] or ""
+                                  for it, line in zip(records, lines, strict=True)], fail)
+    for name in sorted(set(filter(None, named)))[:4]:
+        compare(f"--interface {name}", came_of(printer, [("--interface", [name])], capture),
+                [line for line, it in zip(lines, named) if it == name], fail)
+    check_columns(printer, capture, fail)
+
+
+def check_faults(printer: pathlib.Path, room: pathlib.Path, fail: Fail) -> None:
+    """The line of each kind of fault, of one file and of several."""
+    for number, kind in enumerate(FAULTS, 1):
+        for part, parts, more in (1, 1, ""), (2, 3, " in part 2"):
+            ending = encoded_row([number, 48, part, parts, 2], ENDING << SORT_BIT)
+            compare(kind, printed(printer, Given([], []), ending), (2, [f"malformed {kind} at 48{more}"]), fail)
+
+
+# ---- freeze notifications
+
+
+# What each record of `freezes` says in the listing.
+FREEZE_LINES = """\
+BC_REQUEST_FREEZE_NOTIFICATION handle=7 cookie=0x70
+BC_REQUEST_FREEZE_NOTIFICATION handle=4294967295 cookie=0xffffffffffffffff
+BC_ACQUIRE handle=7
+BR_NOOP
+BR_FROZEN_BINDER cookie=0x70 is_frozen=1
+BR_FROZEN_BINDER cookie=0xffffffffffffffff is_frozen=4294967295
+BC_FREEZE_NOTIFICATION_DONE cookie=0x70
+BC_CLEAR_FREEZE_NOTIFICATION handle=7 cookie=0x70
+BR_CLEAR_FREEZE_NOTIFICATION_DONE cookie=0x70
+OPAQUE word=0x40046313
+OPAQUE word=0x40086313
+OPAQUE word=0x40106315
+OPAQUE word=0x400c6316
+OPAQUE word=0x80087215
+OPAQUE word=0x800c7216""".splitlines()
+
+
+def check_freezes(printer: pathlib.Path, room: pathlib.Path, fail: Fail) -> None:
+    """Freeze notifications, which the report counts as opaque, have their names and fields."""
+    capture = room / "freezes.cap"
+    capture.write_bytes(freezes())
+    lines = came_of(printer, [], capture)
+    compare("freezes", [line.split(" ", 5)[5] for line in lines], FREEZE_LINES, fail)
+    for codes, fits in (
+            *(((code,), with_word(name)) for word, name in NEWER.items() for code in (name, hex(word))),
+            (("OPAQUE",), with_word("OPAQUE")),
+            (("OPAQUE", "BR_FROZEN_BINDER"), lambda it: it[5] in ("OPAQUE", "BR_FROZEN_BINDER"))):
+        compare(f"freezes, --code {codes}", came_of(printer, [("--code", [it]) for it in codes], capture),
+                [line for line in lines if fits(line.split())], fail)
+    for option, value in ("--handle", "7"), ("--handle", str(MAX_32)), ("--cookie", "0x70"):
+        compare(f"freezes, {option} {value}", came_of(printer, [(option, [value])], capture),
+                [line for line in lines if f"{option[2:]}={value}" in line.split()], fail)
+    place = next(line.split()[0] for line in lines if "is_frozen=4294967295" in line)
+    compare("freezes, --at", [line.split()[1:] for line in came_of(printer, [("--at", [place])], capture)[3:6]],
+            [["cookie", "0xffffffffffffffff"], ["is_frozen", "4294967295"], ["reserved", "9"]], fail)
+    check_columns(printer, capture, fail)
 
 
 # ---- side lists
@@ -327,8 +500,8 @@ def check_harmed(printer: pathlib.Path, room: pathlib.Path, number: int, fail: F
 
 def parts() -> Iterator[Part]:
     yield from (Part(f"stored/{stored.name}", check_stored, (stored,)) for stored in STORED)
-    yield from parts_of(check_options, check_named, check_harmed_names, check_side_begins, check_times,
-                        check_harmed_sides)
+    yield from parts_of(check_options, check_narrowed, check_codes, check_interfaces, check_faults, check_freezes,
+                        check_named, check_harmed_names, check_side_begins, check_times, check_harmed_sides)
     yield from (Part(f"harm/{number}", check_harmed, (number,)) for number in range(HARMED))
 
 

@@ -1,4 +1,5 @@
-"""Compares the raw tables that `./listing --tables` writes with a second reading in Python.
+"""Compares the raw tables that `./listing --tables` writes, and the stream of rows of its lines, with a second reading
+in Python.
 
     checks/run tables_again                  all stored captures, and a share of those that are made
     checks/run tables_again -- --all         all that are made too: 2,000 changed ones, 200 of made-up traffic, and 800
@@ -8,10 +9,12 @@
 
 kit/tables/ has the reading. All its rules are in docs/DATABASE.md, viewer/database/schema.sql and docs/COMMANDS.md.
 Each row of each of the fourteen tables must be the same, column by column, and the status must be 2 exactly if the
-capture is malformed. A changed capture is a stored one of which bytes or frames are changed, cut, lost or joined with
-those of another one, in one file or in several. A made one is of kit/simulated.py, of kit/traffic.py, or of many
-transactions that are alike, a small one of kit/small_traffic.py, and one of a pair of kit/pair_cases.py. A case is
-always the same capture.
+capture is malformed. A table that is written alone must be the same as among all. The stream of a case is that of all
+records, or of those at some places, with or without objects; it must be the same to the byte. The payloads of
+kit/tokens.py must name what they are made to name, also for the second reading. A changed capture is a stored one of
+which bytes or frames are changed, cut, lost or joined with those of another one, in one file or in several. A made one
+is of kit/simulated.py, of kit/traffic.py, or of many transactions that are alike, a small one of kit/small_traffic.py,
+and one of a pair of kit/pair_cases.py. A case is always the same capture.
 """
 
 import argparse
@@ -23,18 +26,25 @@ import shutil
 import subprocess
 from concurrent.futures import ProcessPoolExecutor
 from functools import cache
-from typing import Iterator
+from typing import Iterable, Iterator
 
 from checks.hostile.mutations import changed_capture
-from checks.kit.captures import (BC_REPLY, BC_TRANSACTION, BR_FAILED_REPLY, BR_REPLY, BR_TRANSACTION,
-                                 BR_TRANSACTION_COMPLETE, ENTER, HEADER_2, frame, record, transaction)
-from checks.kit.checking import FLAG, Fail, check
+from checks.kit import tokens
+from checks.kit.captures import (BC_ACQUIRE, BC_CLEAR_FREEZE_NOTIFICATION, BC_FREEZE_NOTIFICATION_DONE, BC_REPLY,
+                                 BC_REPLY_SG, BC_REQUEST_FREEZE_NOTIFICATION, BC_TRANSACTION, BC_TRANSACTION_SG,
+                                 BR_CLEAR_FREEZE_NOTIFICATION_DONE, BR_FAILED_REPLY, BR_FROZEN_BINDER, BR_NOOP,
+                                 BR_REPLY, BR_TRANSACTION, BR_TRANSACTION_COMPLETE, BR_TRANSACTION_SEC_CTX, COMMANDS,
+                                 ENTER, HEADER, HEADER_2, MAX_32, MAX_64, each, each_long, entry, frame, frozen, read,
+                                 record, transaction, u32, u64, watch, write)
+from checks.kit.checking import FLAG, Fail, check, compare
 from checks.kit.frames import frames_of
 from checks.kit.pair_cases import PAIR_CASES
 from checks.kit.programs import ROOT, TABLES
 from checks.kit.rows import columns_of_tables, encoded, rows_of
 from checks.kit.small_traffic import small_capture
+from checks.kit.tables.names import name_of_reply, names_in
 from checks.kit.tables.reading import Row, tables_of
+from checks.kit.tables.stream import stream_of
 from checks.kit.traffic import frames
 from checks.viewer.pairs import SCENES, WAYS, Kind, played
 from viewer.database.programs import build_programs
@@ -42,6 +52,10 @@ from viewer.database.programs import build_programs
 CHANGED, MADE, SMALL = 2000, 200, 800
 # Of those that are made `.ci/run` takes each so many-th.
 SHARE = 4
+# Codes of transactions: the last one of a method, one of IBase, and those of no method of an interface.
+IBASE = 0x0f504e47
+CODES = (0xffffff, IBASE, 0, 2**24, 2**32 - 1,
+         *(int.from_bytes(word, "big") for word in (b"_NTF", b"_DMP", b"_CMD", b"_SPR", b"_EXT", b"_PID", b"_PNG")))
 # A made capture of kit/traffic.py has so many frames, and one of a crowd so many calls.
 FRAMES, CROWD = 400, 100
 
@@ -53,7 +67,7 @@ def names(all_of_them: bool) -> list[str]:
     step = 1 if all_of_them else SHARE
     return [*STORED, *(f"changed/{number}" for number in range(0, CHANGED, step)),
             *(f"made/{number}" for number in range(0, MADE, step)),
-            *(f"small/{number}" for number in range(0, SMALL, step)), *(f"pair/{name}" for name in PAIR_CASES)]
+            *(f"small/{number}" for number in range(0, SMALL, step)), *(f"pair/{name}" for name in PAIR_CASES), *OTHERS]
 
 
 # ---- captures
@@ -145,8 +159,56 @@ def made(number: int) -> list[bytes]:
     return [chance.choices((session, traffic, crowd), (7, 2, 1))[0](chance)]
 
 
+# ---- captures of what hardly ever comes
+
+
+def freezes() -> bytes:
+    """Freeze notifications, and records with the same numbers and other sizes, or with other numbers."""
+    return HEADER + write(
+        1, 100, 101, watch(BC_REQUEST_FREEZE_NOTIFICATION, 7, 0x70),
+        watch(BC_REQUEST_FREEZE_NOTIFICATION, MAX_32, MAX_64), *each(BC_ACQUIRE, 7),
+    ) + read(
+        2, 100, 101, record(BR_NOOP), frozen(0x70, 1), record(BR_FROZEN_BINDER, u64(MAX_64), u32(MAX_32), u32(9)),
+    ) + write(
+        3, 100, 102, *each_long(BC_FREEZE_NOTIFICATION_DONE, 0x70), watch(BC_CLEAR_FREEZE_NOTIFICATION, 7, 0x70),
+    ) + read(
+        4, 100, 102, *each_long(BR_CLEAR_FREEZE_NOTIFICATION_DONE, 0x70),
+    ) + write(
+        5, 100, 101, *map(record, (0x40046313, 0x40086313, 0x40106315, 0x400C6316)),
+    ) + read(6, 100, 101, *map(record, (0x80087215, 0x800C7216)))
+
+
+def carrying(payloads: Iterable[tuple[int, int, bytes]]) -> bytes:
+    """A capture with a frame for each of these: the code word of a transaction or a reply, its code, and its data."""
+    return HEADER + b"".join(
+        frame(1 if word in COMMANDS else 2, number, 100, 101, [transaction(word, 1, code, sizes=(len(data), 0))],
+              [entry(0, data, b"")]) for number, (word, code, data) in enumerate(payloads, 1))
+
+
+def naming() -> bytes:
+    """Payloads with names of interfaces, in all kinds of records and with all sorts of codes."""
+    sent = BC_TRANSACTION, BC_TRANSACTION_SG, BR_TRANSACTION, BR_TRANSACTION_SEC_CTX
+    texts = [tokens.string16(text) for text in (tokens.MANAGER, "sword.fish", "swordfish", "")]
+    replies = [*texts, texts[0] + bytes(4), bytes(4) + texts[0], texts[0][:-4], tokens.marked(tokens.MANAGER)]
+    return carrying([
+        *((BC_TRANSACTION, 1, data) for data in tokens.payloads()),
+        *((word, code, data) for data in (*tokens.MADE, *tokens.RECORDED) for code in (1, *CODES) for word in sent),
+        *((word, 0, data) for word in (BC_REPLY, BC_REPLY_SG, BR_REPLY) for data in replies)])
+
+
+def asking() -> bytes:
+    """Payloads to the manager of names, with names of services."""
+    return carrying((word, code, data) for data in tokens.services() for word, code in (
+        (BC_TRANSACTION, 2), (BR_TRANSACTION_SEC_CTX, 5), (BC_TRANSACTION, CODES[-1]), (BC_REPLY, 1)))
+
+
+OTHERS = {"other/freezes": freezes, "other/interfaces": naming, "other/services": asking}
+
+
 def files_of(name: str) -> list[bytes]:
     kind, _, number = name.partition("/")
+    if kind == "other":
+        return [OTHERS[name]()]
     if kind == "stored":
         return [STORED[name].read_bytes()]
     if kind == "small":
@@ -168,6 +230,20 @@ def written(room: pathlib.Path, parts: list[bytes]) -> tuple[int, pathlib.Path]:
         files[-1].write_bytes(part)
     return subprocess.run([TABLES, "--tables", folder, *files], stdout=subprocess.DEVNULL, stderr=subprocess.DEVNULL,
                           timeout=120).returncode, folder
+
+
+def told(*words: object) -> bytes:
+    """What the program writes to standard output."""
+    return subprocess.run([TABLES, *map(str, words)], stdout=subprocess.PIPE, stderr=subprocess.DEVNULL,
+                          timeout=120).stdout
+
+
+def streamed(chance: random.Random, parts: list[bytes], files: list[pathlib.Path]) -> str | None:
+    """Compares the stream of what is at some places, or of all. Returns what was asked for if it differs."""
+    what = chance.choice((None, "--at", "--frame", "--call"))
+    places = [chance.randrange(sum(map(len, parts)) + 20) for _ in range(chance.randint(1, 3))] if what else []
+    words = ["--lines", *["--objects"] * chance.randrange(2), *(word for place in places for word in (what, place))]
+    return None if told(*words, "--", *files) == stream_of(parts, "--objects" in words, what, places) else f"{words}"
 
 
 def differing(path: pathlib.Path, due: list[Row]) -> Iterator[str]:
@@ -199,12 +275,34 @@ def compared(room: pathlib.Path, name: str, most: int) -> list[str]:
         path = folder / f"{table}.rows"
         if path.read_bytes() != encoded(tables[table]):
             wrong += [f"{name}, {table}: {what}" for what in itertools.islice(differing(path, tables[table]), most)]
+    chance, files = random.Random(f"asked of {name}"), sorted((room / name).glob("*.cap"))
+    table = chance.choice(sorted(tables))
+    if told("--table", table, *files) != encoded(tables[table]):
+        wrong.append(f"{name}, {table}: written alone, it is another one")
+    if words := streamed(chance, parts, files):
+        wrong.append(f"{name}: the stream of {words} differs")
     shutil.rmtree(room / name)
     return wrong
 
 
+def check_names(fail: Fail) -> None:
+    """The second reading finds in payloads what these were made to name, by the codes of methods and by no other."""
+    for data, due in tokens.payloads().items():
+        of_hidl = due if due and "::" in due else None
+        for code, wanted in ((1, due), (0xffffff, due), (IBASE, of_hidl), *((code, None) for code in CODES[2:])):
+            compare(f"code {code:#x} {data.hex()}", names_in(code, data)[0], wanted, fail)
+    for data, due in tokens.services().items():
+        compare(f"the service of {data.hex()}", names_in(2, data)[1], due, fail)
+    replies = {tokens.string16(text): due for text, due in (
+        (tokens.MANAGER, tokens.MANAGER), ("sword.fish", None), ("swordfish", None), ("", None))}
+    replies |= {made: None for made in (tokens.string16(tokens.MANAGER) + bytes(4), tokens.marked(tokens.MANAGER))}
+    for data, due in replies.items():
+        compare(f"a reply of {data.hex()}", name_of_reply(data), due, fail)
+
+
 def judge(given: argparse.Namespace, room: pathlib.Path, fail: Fail) -> None:
     build_programs(ROOT)
+    check_names(fail)
     cases = given.cases if given.named else names(given.all)
     with ProcessPoolExecutor(os.cpu_count()) as pool:
         for wrong in pool.map(compared, itertools.repeat(room), cases, itertools.repeat(1000 if given.show else 1),

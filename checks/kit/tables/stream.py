@@ -5,7 +5,7 @@ viewer/lines prints it. A row is one of the files of tables, but that the highes
 
 import struct
 from itertools import chain
-from typing import Iterator, Sequence
+from typing import Iterable, Iterator, Sequence
 
 from checks.kit.rows import Value, encoded_row
 from checks.kit.second_reading import Frame
@@ -90,7 +90,8 @@ class Sought:
 
 
 class Stream:
-    """The rows of a capture in these files. Threads and names have the numbers that they have in the tables."""
+    """The rows of a capture in these files. Threads and names have the numbers that they have in the tables; of what is
+    sought by places, they are numbered as they come."""
 
     def __init__(self, parts: list[bytes]) -> None:
         self.parts, self.cut = len(parts), cut_of(parts)
@@ -119,13 +120,16 @@ class Stream:
             self.told.add((sort, number))
             self.write(sort, row)
 
-    def write_record(self, it: Record) -> None:
-        frame, (interface, service) = it.frame, names_of(it)
-        utid = self.threads[frame.process, frame.thread]
+    def tell_thread(self, frame: Frame) -> int:
+        utid = self.threads.setdefault((frame.process, frame.thread), len(self.threads) + 1)
         self.tell(THREAD, [utid, *frame.process, frame.thread])
+        return utid
+
+    def write_record(self, it: Record) -> None:
+        utid, (interface, service) = self.tell_thread(it.frame), names_of(it)
         for sort, name, numbers in ((INTERFACE, interface, self.interfaces), (SERVICE, service, self.services)):
             if name is not None:
-                self.tell(sort, [numbers[name], name])
+                self.tell(sort, [numbered(numbers, name), name])
         self.write(RECORD, record_row(it, utid, numbered(self.interfaces, interface), numbered(self.services, service)))
 
     def write_whole(self, it: Record) -> None:
@@ -141,15 +145,21 @@ class Stream:
 
     def of(self, has_objects: bool, what: str | None, places: list[int]) -> bytes:
         sought = Sought(self.cut, what, places)
-        for it in sought.records:
-            self.write_record(it)
-            if what == "--at":
-                self.write_whole(it)
-            for row in object_rows(it) if has_objects or what == "--at" else ():
-                self.write(OBJECT, row)
-        for place in sought.missing:
-            self.write(MISSING, [place])
+        frames: Iterable[tuple[Frame, list[Record]]] = zip(self.cut.frames, self.cut.records)
+        if what:
+            frames = [(it.frame, [it]) for it in sought.records]
+            self.threads, self.interfaces, self.services = {}, {}, {}
+        for frame, records in frames:
+            self.tell_thread(frame)
+            for it in records:
+                self.write_record(it)
+                if what == "--at":
+                    self.write_whole(it)
+                for row in object_rows(it) if has_objects or what == "--at" else ():
+                    self.write(OBJECT, row)
         kind, *where = self.cut.fault or (None, None, None)
+        for place in () if kind else sought.missing:
+            self.write(MISSING, [place])
         status = 2 if kind else int(bool(sought.missing))
         self.write(ENDING, [kind and FAULTS.index(kind) + 1, *where, self.parts, status])
         return bytes(self.made)
