@@ -2,6 +2,7 @@
  * Loads the raw tables of a capture into a new SQLite database.
  *
  *     load [--pack TABLE [--tell COLUMN] [--by COLUMN | --index COLUMN]..].. DATABASE FOLDER SCHEMA [SIDE [OTHERS]]
+ *     load --many DATABASE SCHEMA
  *
  * DATABASE is created, and must not exist. SCHEMA is a file of SQL statements that create the tables; or a database that
  * has these tables, empty, to be copied, which takes a tenth of the time. Each table whose name begins with raw_ takes the rows of FOLDER/NAME.rows, where NAME is what follows raw_. docs/DATABASE.md says what
@@ -13,6 +14,10 @@
  * packed rows, in which rows are found by the first column, and by each COLUMN: by an index that is made here, or by who
  * asks. Of one that is told, blocks of rows that have other values in it are passed over. If FOLDER/NAME.rows of such a table is a
  * named pipe, its rows are packed as they come, and all files of FOLDER are there at the end of standard input.
+ *
+ * With --many it loads one capture after another, each in the place of the one before, as standard input asks for:
+ * FOLDER and SIDE, with a zero byte after each, and nothing for SIDE if there is none. SCHEMA is a database. A byte on
+ * standard output says that everything is loaded, and that nothing is locked.
  *
  * Status 0: everything is loaded. Status 1: a line on standard error says why not, and DATABASE is not whole.
  * Nothing of this is proved: it copies numbers and texts, and checks that rows are whole.
@@ -492,50 +497,111 @@ static void write_copy(int file, const struct schema *schema, const char *path)
 	}
 }
 
-static sqlite3 *made(const char *path, const struct schema *schema)
+/* Makes the file of the database: empty, or with the tables. Others see that who have it open, if it was there. */
+static void make_file(const char *path, const struct schema *schema, int how)
 {
-	int file = open(path, O_WRONLY | O_CREAT | O_EXCL, 0644);
+	int file = open(path, O_WRONLY | O_CREAT | how, 0644);
 	if (file < 0)
 		stop("%s: %s", path, strerror(errno));
-	if (schema->is_database)
+	if (schema->is_database) {
 		write_copy(file, schema, path);
+		if (ftruncate(file, (off_t)schema->length))
+			stop("%s: %s", path, strerror(errno));
+	}
 	close(file);
+}
+
+/* The file has no other user, and is made again if it is not whole: no journal, no waiting for the disk. */
+static sqlite3 *opened(const char *path, struct rows **current)
+{
 	sqlite3 *database = NULL;
 	sqlite3_config(SQLITE_CONFIG_SINGLETHREAD);
 	sqlite3_config(SQLITE_CONFIG_MEMSTATUS, 0);
 	if (sqlite3_open_v2(path, &database, SQLITE_OPEN_READWRITE, NULL) != SQLITE_OK)
 		stop("%s: %s", path, sqlite3_errmsg(database));
+	sqlite3_create_module(database, "rows", &rows_module, current);
+	packed_module_add(database);
+	run(database, "PRAGMA page_size=8192; PRAGMA journal_mode=OFF; PRAGMA synchronous=OFF");
 	return database;
 }
 
-static void load(sqlite3 *database, char **words, const struct schema *schema, struct packing *packing)
+/* What is loaded: the rows of a folder, and a side list, whose other lines go into a file; NULL if there is none. */
+struct capture {
+	const char *folder, *side, *others;
+};
+
+static void load(sqlite3 *database, const char *path, const struct capture *capture, const struct schema *schema,
+		 struct packing *packing, struct rows **current)
 {
-	const char *folder = words[1], *side = words[3], *others = side ? words[4] : NULL;
-	struct rows *current = NULL;
-	sqlite3_create_module(database, "rows", &rows_module, &current);
-	packed_module_add(database);
-	/* The file has no other user, and is made again if it is not whole: no journal, no waiting for the disk. */
-	run(database, "PRAGMA page_size=8192; PRAGMA journal_mode=OFF; PRAGMA synchronous=OFF;"
-		      " PRAGMA locking_mode=EXCLUSIVE; BEGIN");
+	run(database, "BEGIN");
 	if (!schema->is_database)
 		run_schema(database, schema);
-	begin_packing(database, words[0], folder, packing);
+	begin_packing(database, path, capture->folder, packing);
 	struct packed_table *times = packed_of(packing, "side_time");
-	if (side)
-		load_side_list(database, side, times, others);
+	if (capture->side)
+		load_side_list(database, capture->side, times, capture->others);
 	pack_others(packing);
-	load_tables(database, folder, packing, &current);
+	load_tables(database, capture->folder, packing, current);
 	end_packing(packing);
 	for (int number = 0; number < packing->tables; number++)
-		if (side || &packing->table[number] != times)
+		if (capture->side || &packing->table[number] != times)
 			give_packed(database, &packing->table[number]);
 	run(database, "COMMIT");
+}
+
+static void load_one(const char *path, const struct capture *capture, const struct schema *schema,
+		     struct packing *packing)
+{
+	struct rows *current = NULL;
+	make_file(path, schema, O_EXCL);
+	sqlite3 *database = opened(path, &current);
+	run(database, "PRAGMA locking_mode=EXCLUSIVE");
+	load(database, path, capture, schema, packing, &current);
+	if (sqlite3_close(database) != SQLITE_OK)
+		stop_for(database);
+}
+
+/* What standard input has up to a zero byte; NULL at its end. */
+static char *asked(void)
+{
+	char *word = NULL;
+	size_t room = 0;
+	if (getdelim(&word, &room, '\0', stdin) >= 0)
+		return word;
+	free(word);
+	return NULL;
+}
+
+/*
+ * SQLite reads the schema once. By the count of changes in the file it sees each time that this is another one: the one
+ * before was changed at least once more.
+ */
+static void load_many(const char *path, const struct schema *schema)
+{
+	struct rows *current = NULL;
+	sqlite3 *database = NULL;
+	if (!schema->is_database)
+		stop("the schema for many captures is no database");
+	for (char *folder; (folder = asked()); free(folder)) {
+		char *side = asked();
+		struct packing packing = { 0 };
+		const struct capture capture = { .folder = folder, .side = side && *side ? side : NULL };
+		make_file(path, schema, 0);
+		database = database ? database : opened(path, &current);
+		load(database, path, &capture, schema, &packing, &current);
+		if (putchar('\n') == EOF || fflush(stdout))
+			stop("standard output: %s", strerror(errno));
+		free(side);
+	}
+	if (sqlite3_close(database) != SQLITE_OK)
+		stop_for(database);
 }
 
 static int usage(void)
 {
 	fputs("usage: load [--pack TABLE [--tell COLUMN] [--by COLUMN | --index COLUMN]..].. DATABASE FOLDER SCHEMA"
-	      " [SIDE [OTHERS]]\n", stderr);
+	      " [SIDE [OTHERS]]\n"
+	      "       load --many DATABASE SCHEMA\n", stderr);
 	return 64;
 }
 
@@ -568,11 +634,14 @@ int main(int count, char **words)
 	int at = take_packed(&packing, count, words);
 	if (!at || count - at < 3 || count - at > 5)
 		return usage();
-	struct schema schema = schema_of(words[at + 2]);
-	sqlite3 *database = made(words[at], &schema);
-	load(database, words + at, &schema, &packing);
+	int is_many = count == 4 && !strcmp(words[1], "--many");
+	struct schema schema = schema_of(words[is_many ? 3 : at + 2]);
+	if (is_many) {
+		load_many(words[2], &schema);
+	} else {
+		const struct capture capture = { words[at + 1], words[at + 3], words[at + 3] ? words[at + 4] : NULL };
+		load_one(words[at], &capture, &schema, &packing);
+	}
 	forget(schema.bytes, schema.length);
-	if (sqlite3_close(database) != SQLITE_OK)
-		stop_for(database);
 	return 0;
 }
