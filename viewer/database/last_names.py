@@ -15,7 +15,10 @@ class LastNames:
     def __init__(self, database: sqlite3.Connection, table: str, number: str):
         self.database, self.table, self.number, self.count = database, table, number, 0
         self.noted = f"last_name_of_{table}"
-        database.execute(f"CREATE TEMP TABLE {self.noted}(number INTEGER PRIMARY KEY, until INTEGER, name TEXT)")
+        # A database that is reused has the table, with the names of another capture.
+        database.execute(f"CREATE TEMP TABLE IF NOT EXISTS {self.noted}(number INTEGER PRIMARY KEY, until INTEGER,"
+                         " name TEXT)")
+        database.execute(f"DELETE FROM {self.noted}")
         self.name = (f"coalesce((SELECT l.name FROM {self.noted} l WHERE l.number = {table}.{number}"
                      f" AND l.until >= {table}.rowid), name)")
 

@@ -5,7 +5,7 @@ import os
 import pathlib
 import select
 import sqlite3
-from typing import TYPE_CHECKING, Callable
+from typing import TYPE_CHECKING, Callable, NamedTuple
 
 from viewer.database import data_hash, packages
 from viewer.database.programs import Asked, answer, build_programs, fault_in
@@ -30,6 +30,9 @@ if TYPE_CHECKING:
 # The least bytes of a capture of which tables are packed: of fewer, the files of these take longer than they save. A
 # database of fewer has the tables of the rules from the first, unless it is kept.
 LEAST_PACKED = 2**20
+
+# Takes the raw tables that are in a folder, and the times of frames in a side list.
+Load = Callable[[pathlib.Path, str | None], None]
 
 # The programs read a capture side by side if there is so much memory: so many times the capture, and so much besides.
 TIMES, BESIDE = 4, 2**28
@@ -127,16 +130,19 @@ def load_while_read(loading: Loading, listing: Asked) -> int:
 
 
 def tables_of(root: pathlib.Path, parts: list[pathlib.Path], side: str | None, made: pathlib.Path, packs: bool,
-              empty: str = MADE_FILE, meanwhile: Callable[[], None] = lambda: None
+              empty: str = MADE_FILE, meanwhile: Callable[[], None] = lambda: None, load: Load | None = None
               ) -> tuple[str | None, pathlib.Path | None]:
     """Makes the database, with the raw tables. Returns the line of the capture's first fault, or None, and the file of
     the lines of the side list that are left to load, if it is not the list itself. If tables are packed, `meanwhile` is
-    done while the listing is at work."""
+    done while the listing is at work; if not, `load` may take the raw tables."""
     rows, told = made.with_suffix(".rows"), made.with_suffix(".told")
     words = "--tables", rows, *parts
     if not packs:
         status = answer(root, told, "listing", *words)
-        load_rows(made, rows, side, empty)
+        if load:
+            load(rows, side)
+        else:
+            load_rows(made, rows, side, empty)
         return fault_in(status, told), None
     others = made.with_suffix(".others") if side is not None else None
     with load_as_it_comes(made, rows, side, others) as loading, Asked(root, told, "listing", *words) as listing:
@@ -167,25 +173,42 @@ def tell_zeros(database: sqlite3.Connection, files: list[str], malformed: str | 
     database.execute("UPDATE capture SET value = ? WHERE key = 'zeros_doubt'", (doubt or None,))
 
 
-def database_of(root: pathlib.Path, files: list[str], side: str | None, made: pathlib.Path,
-                tell: Callable[[str], None], methods: Methods | None = None,
-                beside: list[str] | None = None, kept: bool = True, timing: "Timing | None" = None,
-                sources: "Declarations | None" = None) -> tuple[sqlite3.Connection, str | None]:
-    """Makes the database of a capture, with the report and the verdicts of the rules, and the names of methods. Returns
-    it, and the line of the capture's first fault, or None. If it is not kept, a part of it stays in files beside it."""
+class Read(NamedTuple):
+    """What the programs have read of a capture: the line of its first fault, and the file of the report, which is up to
+    that; how its files end that end in zeros; the file from which the database was begun, whether its tables are
+    packed, and the file of the lines of the side list that are left to load."""
+    malformed: str | None
+    report: pathlib.Path
+    ends: dict[str, Ended]
+    empty: str
+    is_packed: bool
+    others: pathlib.Path | None
+
+    @property
+    def is_ruled(self) -> bool:
+        return self.empty == RULED_FILE
+
+
+def empty_for(files: list[str], kept: bool) -> str:
+    """The file from which the database of a capture is begun."""
+    return SCHEMA_FILE if kept else RULED_FILE if bytes_of(files) < LEAST_PACKED else MADE_FILE
+
+
+def read(root: pathlib.Path, files: list[str], side: str | None, made: pathlib.Path, empty: str,
+         load: Load | None = None) -> Read:
+    """Has the programs, which are built, read a capture into a new database with the raw tables; or has `load` take
+    these, of a capture whose tables are not packed."""
     with unchanged(files):
-        build_programs(root)
         rows, report = made.with_suffix(".rows"), made.with_suffix(".report")
         rows.mkdir()
         parts = linked(files, rows)
         ends = without_zeros(files, parts)
-        tell("reading the capture")
         with Asked(root, report, "audit", "report", *parts) as audit:
             if not memory_for(files):
                 audit.status()
-            empty = SCHEMA_FILE if kept else RULED_FILE if bytes_of(files) < LEAST_PACKED else MADE_FILE
             packs = empty == MADE_FILE and can_pack()
-            listed, others = tables_of(root, parts, side, made, packs, empty, lambda: read_when_there(audit, report))
+            listed, others = tables_of(root, parts, side, made, packs, empty, lambda: read_when_there(audit, report),
+                                       load)
             malformed = fault_in(audit.status(), report)
         if listed != malformed:
             raise Stopped(1, f"{called('listing')} and {called('audit')} do not agree: {listed!r} and {malformed!r}")
@@ -194,26 +217,47 @@ def database_of(root: pathlib.Path, files: list[str], side: str | None, made: pa
     if ends:
         malformed = fault_with_zeros(root, files, rows / "whole")
     remove(rows)
-    database = open_database(made)
+    return Read(malformed, report, ends, empty, packs, others)
+
+
+def judged(database: sqlite3.Connection, files: list[str], side: str | None, has: Read, tell: Callable[[str], None],
+           methods: Methods | None = None, beside: list[str] | None = None, timing: "Timing | None" = None,
+           sources: "Declarations | None" = None, is_reused: bool = False) -> None:
+    """Adds all else to the raw tables of a capture that was read: the side list, the report, and the verdicts."""
     tell("taking the side list and the report")
     finders = None
-    if empty != RULED_FILE:
+    if not has.is_ruled:
         from viewer.database.finders import finders_of
         finders = finders_of(database)
     with finders or contextlib.nullcontext():
         if finders:
             begin(database, finders)
-        taken = fill(database, files, side, report, malformed, methods, beside, others, finders, packs, sources)
-        tell_zeros(database, files, malformed, ends)
-        report.unlink()
+        taken = fill(database, files, side, has.report, has.malformed, methods, beside, has.others, finders,
+                     has.is_packed, sources)
+        tell_zeros(database, files, has.malformed, has.ends)
+        has.report.unlink()
         tell("applying the rules")
         with data_hash.Data(files) as data:
             judge(database, timing=timing, finders=finders, of_data=OfData(data.hash_of, data.exception_of),
-                  is_ruled=empty == RULED_FILE)
+                  is_ruled=has.is_ruled, is_reused=is_reused)
         if finders and taken:
             doubt_side_list(database, taken, finders)
     compare_with_books(database)
-    if empty != RULED_FILE:  # which has no temporary tables, and SQLite has read its schema
+
+
+def database_of(root: pathlib.Path, files: list[str], side: str | None, made: pathlib.Path,
+                tell: Callable[[str], None], methods: Methods | None = None,
+                beside: list[str] | None = None, kept: bool = True, timing: "Timing | None" = None,
+                sources: "Declarations | None" = None) -> tuple[sqlite3.Connection, str | None]:
+    """Makes the database of a capture, with the report and the verdicts of the rules, and the names of methods. Returns
+    it, and the line of the capture's first fault, or None. If it is not kept, a part of it stays in files beside it."""
+    with unchanged(files):  # which says first that one is missing
+        build_programs(root)
+    tell("reading the capture")
+    has = read(root, files, side, made, empty_for(files, kept))
+    database = open_database(made)
+    judged(database, files, side, has, tell, methods, beside, timing, sources)
+    if not has.is_ruled:  # which has no temporary tables, and SQLite has read its schema
         database.close()
         database = open_database(made)
-    return database, malformed
+    return database, has.malformed

@@ -35,6 +35,12 @@ def build_programs(root: pathlib.Path) -> None:
         raise Stopped(1, f"{called('audit')} and {called('listing')} could not be built")
 
 
+def path_of(root: pathlib.Path, name: str) -> pathlib.Path:
+    """Where the program of a command is, once it is built."""
+    built = BEHIND[name]
+    return LIBRARY / built if PACKED else root / "crates" / built / "out" / built
+
+
 class Asked:
     """A program at work that is built, by the name of its command. Its standard output goes into a file, since a report
     may be as long as the capture. Its standard error is not redirected. The scripts by which users call it would take
@@ -42,12 +48,11 @@ class Asked:
 
     def __init__(self, root: pathlib.Path, to: pathlib.Path, name: str, *words: object) -> None:
         self.name = name
-        built = BEHIND[name]
-        path = LIBRARY / built if PACKED else root / "crates" / built / "out" / built
         try:
             out = other(os.open(to, os.O_WRONLY | os.O_CREAT | os.O_TRUNC | os.O_CLOEXEC, 0o666))
             try:
-                self.program = Started([path, *map(str, words)], {0: None, 1: out}, {**LARGE_PAGES, **os.environ})
+                self.program = Started([path_of(root, name), *map(str, words)], {0: None, 1: out},
+                                       {**LARGE_PAGES, **os.environ})
             finally:
                 os.close(out)
         except OSError as error:

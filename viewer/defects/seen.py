@@ -46,7 +46,7 @@ class Defect(NamedTuple):
 
 def defects_of(database: sqlite3.Connection) -> dict[str, Defect]:
     """The defects by their keys."""
-    database.create_function("rank_of", 1, verdicts.RANKS.get, deterministic=True)
+    database.create_function("rank_of", -1, verdicts.RANKS.get, deterministic=True)  # as the rules do
     return {row[0]: Defect(*row) for row in database.execute(QUERY.read_text("utf-8"))}
 
 
@@ -66,8 +66,13 @@ def seconds_of(facts: dict) -> float | None:
     return None if first is None or until is None else (until - first) / 1e9
 
 
+def text_of(text: bytes) -> str:
+    """A text of a database, also if it is no UTF-8."""
+    return text.decode("utf-8", "replace")
+
+
 def kept_database(path: str) -> sqlite3.Connection:
-    """A database that `./view --database` kept, to read. A text in it that is no UTF-8 fails nothing."""
+    """A database that `./view --database` kept, to read."""
     state_of(path)
     try:
         database = sqlite3.connect(f"{pathlib.Path(path).absolute().as_uri()}?mode=ro", uri=True)
@@ -76,7 +81,7 @@ def kept_database(path: str) -> sqlite3.Connection:
         raise Stopped(4, f"{path}: {error}") from error
     if layout != LAYOUT:
         raise Stopped(4, f"{path}: its layout is {layout} and not {LAYOUT}: rebuild it with --database")
-    database.text_factory = lambda text: text.decode("utf-8", "replace")
+    database.text_factory = text_of
     return database
 
 

@@ -9,8 +9,13 @@ import sqlite3
 from viewer.database.sqlite import named_numbers
 from viewer.units import counted
 
+# A database that is reused has the tables, with what was compared of another capture.
+TABLES = ("CREATE TEMP TABLE IF NOT EXISTS compared(upid INTEGER, deaths INTEGER)", "DELETE FROM compared",
+          "CREATE TEMP VIEW IF NOT EXISTS strength AS"
+          " SELECT 'strong' AS name, '' AS what UNION ALL SELECT 'weak', ', weakly'")
+
 # The openings that are compared.
-COMPARED = """CREATE TEMP TABLE compared AS
+COMPARED = """INSERT INTO compared
 SELECT e.upid, e.deaths FROM book_opening e JOIN process p USING (upid)
   LEFT JOIN book_opening b ON b.moment = 'begin' AND b.upid = e.upid
 WHERE e.moment = 'end' AND e.quiet AND e.upid NOT IN (SELECT upid FROM lossy)
@@ -36,19 +41,19 @@ SELECT upid, 'handle ' || handle || what, sum(counted + had + held) - min(0, sum
   SELECT p.upid, r.handle, w.what, iif(w.name = 'strong', r.strong, r.weak) AS counted,
     iif(w.name = 'strong', r.strong_low, r.weak_low) AS low,
     iif(w.name = 'strong', r.held_strong, r.held_weak) AS held, 0 AS had, 0 AS books
-  FROM report r JOIN process p USING (device, process), way w WHERE r.section = 'handles'
+  FROM report r JOIN process p USING (device, process), strength w WHERE r.section = 'handles'
   UNION ALL SELECT upid, handle, what, 0, 0, 0, iif(moment = 'begin', iif(name = 'strong', strong, weak), 0),
-    iif(moment = 'end', iif(name = 'strong', strong, weak), 0) FROM book_handle, way)
+    iif(moment = 'end', iif(name = 'strong', strong, weak), 0) FROM book_handle, strength)
 WHERE upid NOT IN ({CARRIERS}) GROUP BY upid, handle, what""",
     # The driver itself has references to the node of a context manager.
     "nodes": """
 SELECT upid, 'node ' || printf('0x%x', ptr) || what, sum(report), sum(books) FROM (
   SELECT f.upid, f.ptr, f.cookie, w.what, iif(w.name = 'strong', r.strong, r.weak) AS report, 0 AS books
-  FROM finding f JOIN report r ON r.id = f.report, way w WHERE f.section = 'nodes'
+  FROM finding f JOIN report r ON r.id = f.report, strength w WHERE f.section = 'nodes'
   UNION ALL SELECT upid, ptr, cookie, what,
     iif(moment = 'begin', iif(name = 'strong', strong, weak), 0) + (moment = 'end' AND ptr = 0 AND cookie = 0)
       - (moment = 'begin' AND ptr = 0 AND cookie = 0),
-    iif(moment = 'end', iif(name = 'strong', strong, weak), 0) FROM book_node, way)
+    iif(moment = 'end', iif(name = 'strong', strong, weak), 0) FROM book_node, strength)
 GROUP BY upid, ptr, cookie, what""",
     "buffers": f"""
 SELECT upid, what, sum(iif(of = 'buffers', report_n, report_bytes)), sum(iif(of = 'buffers', books_n, books_bytes))
@@ -102,9 +107,10 @@ def compare(database: sqlite3.Connection) -> None:
     """Puts what differs into the table `disagreement`, and how many openings were compared into `capture`."""
     if not database.execute("SELECT 1 FROM book_opening WHERE moment = 'end'").fetchone():
         return
+    for statement in TABLES:
+        database.execute(statement)
     database.execute(COMPARED)
     numbers: dict[str, object] = {**named_numbers(database)}
-    database.execute("CREATE TEMP TABLE way AS SELECT 'strong' AS name, '' AS what UNION ALL SELECT 'weak', ', weakly'")
     for section, query in QUERIES.items():
         database.execute(INSERT.format(query=query), numbers | {"section": section})
     database.execute("INSERT INTO capture SELECT 'books_compared', count(*) FROM compared")

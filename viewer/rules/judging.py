@@ -257,18 +257,19 @@ def take_words(database: sqlite3.Connection, of_data: OfData) -> None:
 
 
 def judge(database: sqlite3.Connection, folder: pathlib.Path = FOLDER, timing: "Timing | None" = None,
-          finders: "Finders | None" = None, of_data: OfData = NO_DATA, is_ruled: bool = False) -> None:
+          finders: "Finders | None" = None, of_data: OfData = NO_DATA, is_ruled: bool = False,
+          is_reused: bool = False) -> None:
     """Gives each finding its verdict. In the statements `:BR_REPLY` is the number of that name, and `:LONG` a
     threshold. They make texts by the functions of WORDS, and after names.sql by `call_name(code, upid, ptr)`, the name
     of a call, and `moment(ts)`, the time of day. `short_name(interface)` is what an interface is called, and
     `bare_name(interface)` without its package, even if there is another one of that name. `hash_of(attachment, size)`
     is the number of the data of an attachment, and `exception_of` the exception with which they begin, for what is not
-    in data_hash or exception yet."""
+    in data_hash or exception yet. The schema of a database that is reused stays."""
     take_words(database, of_data)
     for statement in () if is_ruled else BY_SECTION:
         database.execute(statement)
     database.execute("BEGIN")
     Judging(database, plan_of(folder), timing, finders, is_ruled).judge()
     database.execute("COMMIT")
-    for statement in NO_LONGER:
+    for statement in () if is_reused else NO_LONGER:
         database.execute(statement)
