@@ -13,7 +13,7 @@ from viewer.program_names import BEHIND, LIBRARY, PACKED
 FOLDERS = "viewer/database", "viewer/rules", "viewer/methods"
 FILES = ("viewer/clocks.py", "viewer/malformed.py", "viewer/units.py", "viewer/defects/seen.py",
          "viewer/defects/times.py", "viewer/page/queries/defects.sql", "lab/form.py", "lab/one.py",
-         "lab/result.py", "lab/wrong_list.py")
+         "lab/result.py", "lab/worker.py", "lab/wrong_list.py")
 SOURCES = (".c", ".h", ".py", ".sql")
 
 # How a result says it: near its beginning.

@@ -3,8 +3,9 @@
 
     many.py LAB [--at-once N] < SESSIONS
 
-SESSIONS are lines of sessions.py. One process reads programs, modules and rules once, and makes each result in a
-process that it forks: of a small capture these take longer than all else. N results are made at once, by default 1.
+SESSIONS are lines of sessions.py. Modules, rules and statements are read once by each of N processes, by default 1: of
+a small capture these take longer than all else. Each makes one result after another; of large captures, and of those
+that are not as usual, each result is made by a process that is forked for it.
 
 Tables of methods in LAB/BUILD, SOMETHING.methods, are for all captures of the build. A line on standard error says how
 far the lab is, if LAB/results/.progress says how many sessions there are to do.
@@ -15,27 +16,32 @@ Status 0: all are done. 1: some have no result; a line says why. 4: LAB can't be
 import argparse
 import contextlib
 import fcntl
-import os
 import pathlib
 import re
+import resource
 import signal
 import sys
 import time
-import traceback
-from typing import Iterable, Iterator, NamedTuple
+from typing import Callable, Iterable, Iterator, NamedTuple
 
 HERE = pathlib.Path(__file__).resolve().parent
 sys.path.insert(0, str(HERE.parent))
 sys.dont_write_bytecode |= not (HERE.parent / "crates/build").exists()
 from viewer.whole_python import need_whole_python  # noqa: E402
 need_whole_python("fleet")
-from lab.one import Inputs, Starting, one, version  # noqa: E402
+from lab import crew  # noqa: E402
 from lab.basis import basis_of  # noqa: E402
+from lab.one import Inputs, Starting, one, result_of, version  # noqa: E402
+from lab.worker import Maker  # noqa: E402
 from viewer.files import Stopped  # noqa: E402
+from viewer.scratch import folder_in  # noqa: E402
 from viewer.terminal import tell  # noqa: E402
 
 # How long a capture may take, in seconds.
 LONGEST = 3600
+
+# The most memory that a process may have taken that goes on to the next capture, in KiB.
+MOST_MEMORY = 2**18
 
 
 # ---- the files of a session
@@ -101,19 +107,24 @@ class Progress:
 # ---- results
 
 
-class Maker(NamedTuple):
+class By(NamedTuple):
     """What makes results: the programs in a folder, with what is known of them."""
     root: pathlib.Path
     basis: str
 
 
-def make(by: Maker, lab: pathlib.Path, session: str) -> int:
-    """Makes the result of a session. Its status."""
+def write_one(by: By, lab: pathlib.Path, session: str, inputs: Inputs, make: Callable[[Inputs], dict]) -> None:
+    """Writes the result of a session, and a line if it does not have all defects."""
     build, device, _ = session.split("/", 2)
+    if why := one(by.root, inputs, build, device, lab / "results" / f"{session}.json", make, by.basis):
+        tell("fleet", why)
+
+
+def made_alone(by: By, lab: pathlib.Path, session: str) -> int:
+    """Makes the result of a session. Its status."""
     try:
-        if why := one(by.root, inputs_of(lab, session), build, device, lab / "results" / f"{session}.json", LONGEST,
-                      Starting.FORKED, by.basis):
-            tell("fleet", why)
+        write_one(by, lab, session, inputs_of(lab, session),
+                  lambda inputs: result_of(by.root, inputs, LONGEST, Starting.FORKED))
         return 0
     except Stopped as stopped:
         tell("fleet", str(stopped))
@@ -123,53 +134,38 @@ def make(by: Maker, lab: pathlib.Path, session: str) -> int:
         return 4
 
 
-def made_in_fork(by: Maker, lab: pathlib.Path, session: str) -> int:
-    """The process that makes a result, and notes how far the lab is then."""
-    sys.stdout.flush()
-    sys.stderr.flush()
-    pid = os.fork()
-    if pid:
-        return pid
-    status = 1
-    try:
-        os.dup2(os.open(os.devnull, os.O_RDONLY), 0)  # which has the other sessions
-        signal.signal(signal.SIGTERM, lambda *_: sys.exit(128 + signal.SIGTERM))
-        status = make(by, lab, session)
-        Progress(lab).note(status == 0)
-    except SystemExit as ended:
-        status = ended.code if isinstance(ended.code, int) else 1
-    except BaseException:
-        traceback.print_exc()
-    finally:
-        sys.stderr.flush()
-        os._exit(status)
+@contextlib.contextmanager
+def worker(by: By, lab: pathlib.Path) -> Iterator[crew.Take]:
+    """Makes the results of small captures. It says nothing of one that it can't make."""
+    with folder_in(None, "fleet") as room, contextlib.closing(Maker(by.root, room)) as maker:
+
+        def take(session: str) -> crew.Said:
+            try:
+                inputs = inputs_of(lab, session)
+                if not maker.takes(inputs):
+                    return crew.Said(None, True)
+                write_one(by, lab, session, inputs, maker.result_of)
+            except Exception:
+                return crew.Said(None, False)
+            return crew.Said(0, resource.getrusage(resource.RUSAGE_SELF).ru_maxrss < MOST_MEMORY)
+        yield take
 
 
-def make_all(by: Maker, lab: pathlib.Path, sessions: Iterable[str], at_once: int) -> bool:
+def make_all(by: By, lab: pathlib.Path, sessions: Iterable[str], at_once: int) -> bool:
     """Makes the results, so many at once. Whether all are done."""
-    at_work: set[int] = set()
-    are_done = True
-
-    def wait() -> bool:
-        pid, status = os.wait()
-        at_work.discard(pid)
-        return status == 0
-
-    try:
-        for session in sessions:
-            if len(at_work) >= at_once:
-                are_done = wait() and are_done
-            at_work.add(made_in_fork(by, lab, session))
-        while at_work:
-            are_done = wait() and are_done
-    except BaseException:
-        for pid in at_work:
-            os.kill(pid, signal.SIGTERM)
-        raise
+    progress, are_done = Progress(lab), True
+    work = crew.Work(lambda: worker(by, lab), lambda session: made_alone(by, lab, session))
+    with contextlib.closing(crew.statuses(work, sessions, at_once)) as statuses:
+        for status in statuses:
+            try:
+                progress.note(status == 0)
+            except OSError as error:  # what is done is done
+                tell("fleet", f"{error.filename or progress.folder}: {error.strerror}")
+            are_done = are_done and status == 0
     return are_done
 
 
-def read_once(root: pathlib.Path) -> Maker:
+def read_once(root: pathlib.Path) -> By:
     """Reads here what each result takes, so that the forks have it."""
     from viewer import showing  # noqa: F401
     from viewer.database import raw_tables
@@ -181,7 +177,7 @@ def read_once(root: pathlib.Path) -> Maker:
     raw_tables.schema()
     judging.plan_of(judging.FOLDER)
     version(root)
-    return Maker(root, basis_of(root))
+    return By(root, basis_of(root))
 
 
 def sessions_in(lines: Iterable[str]) -> Iterator[str]:
@@ -195,8 +191,8 @@ def main() -> int:
     asked = line.parse_args()
     signal.signal(signal.SIGTERM, lambda *_: sys.exit(128 + signal.SIGTERM))
     try:
-        maker = read_once(HERE.parent)
-        return 0 if make_all(maker, asked.lab, sessions_in(sys.stdin), max(asked.at_once, 1)) else 1
+        by = read_once(HERE.parent)
+        return 0 if make_all(by, asked.lab, sessions_in(sys.stdin), max(asked.at_once, 1)) else 1
     except Stopped as stopped:
         tell("fleet", str(stopped))
         return stopped.status

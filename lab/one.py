@@ -13,7 +13,7 @@ import subprocess
 import sys
 import time
 import traceback
-from typing import NamedTuple, NoReturn
+from typing import Callable, NamedTuple, NoReturn
 
 from lab import result
 from lab.basis import basis_of, tables_of
@@ -176,13 +176,13 @@ def result_of(root: pathlib.Path, inputs: Inputs, seconds: float, starting: Star
             database.close()
 
 
-def one(root: pathlib.Path, inputs: Inputs, build: str, device: str, to: pathlib.Path, seconds: float,
-        starting: Starting = Starting.EXECUTED, basis: str | None = None) -> str | None:
-    """Writes the result of a capture, by the programs in this folder. Returns why it does not have all defects, if it
-    is malformed or can't be viewed."""
+def one(root: pathlib.Path, inputs: Inputs, build: str, device: str, to: pathlib.Path,
+        make: Callable[[Inputs], dict], basis: str | None = None) -> str | None:
+    """Writes the result of a capture, which `make` makes by the programs in this folder. Returns why it does not have
+    all defects, if it is malformed or can't be viewed."""
     with unchanged([*inputs.files, *inputs.sides, *inputs.methods]):
         digest = digest_of(inputs.files)
-        made = result_of(root, inputs, seconds, starting)
+        made = make(inputs)
         # Not by time.time(), which can't say the time of a clock that is wrong by centuries.
         made["capture"] = {"digest": digest, "basis": basis or basis_of(root), "tables": tables_of(inputs.methods),
                            "build": build, "device": device,

@@ -12,6 +12,7 @@
     checks/run fleet -- --nightly N            makes N captures of each of four builds, with planted changes; prints
                                                what is told of each pair
     checks/run fleet -- --browser              looks at the page of a lab in chromium
+    checks/run fleet -- --alike                makes the results of all stored captures in one process, and in several
     checks/run fleet -- --cut                  cuts all stored captures in front; prints how many keys are the same
     checks/run fleet -- --two FOLDER FOLDER    prints which keys only one of two recordings of the same sessions has, as
                                                `checks/run driver` leaves them for two kernels
@@ -35,6 +36,8 @@ What must hold:
 - In a capture that is cut in front, defects have the keys of the whole one, but where a name is not known.
 - The page of a lab says of planted changes what became of them, loads nothing, and its commands show what they name.
 - Known defects do not fail, and a line names one that does not occur.
+- Results that one process makes one after another are those that each capture has alone, in whatever order. What ends
+  the process takes no result with it.
 - lab/Makefile makes a result of each session, also of several parts; again only of what changed; and what is killed is
   done by the next call. Nothing is left in TMPDIR.
 - Names that make or a shell would obey are refused by a line each, and the other sessions are done; by Slurm too.
@@ -66,6 +69,7 @@ from checks.lab.mutated import by_rows, check_mutated, check_wrong
 from checks.lab.names import check_names, made_up
 from checks.lab.nightly import check_nightly
 from checks.lab.nodes import check_by_make, check_by_slurm
+from checks.lab.one_after_another import check_one_after_another
 from checks.lab.tried_again import check_tried_again
 from checks.lab.words import check_words
 from lab import result
@@ -483,6 +487,8 @@ def judge(given: argparse.Namespace, room: pathlib.Path, fail: Fail) -> None:
         print(check_full_disk(folder, room / "full", True, fail))
     elif given.browser:
         check_browser(room / "browser", fail)
+    elif given.alike:
+        check_one_after_another(folder, room / "alike", True, fail)
     elif given.nightly:
         check_nightly(folder, room, given.nightly, fail)
     elif given.cut:
@@ -494,6 +500,7 @@ def judge(given: argparse.Namespace, room: pathlib.Path, fail: Fail) -> None:
             check_results(folder, room, fail)
             check_each(folder, room, fail)
             check_made(folder, room, fail)
+            check_one_after_another(folder, room / "alike", False, fail)
             check_names(room / "names", fail)
             check_tried_again(folder, room / "tried-again", fail)
             check_full_disk(folder, room / "full", False, fail)
@@ -504,6 +511,6 @@ def judge(given: argparse.Namespace, room: pathlib.Path, fail: Fail) -> None:
 
 if __name__ == "__main__":
     check(judge, results={"type": int, "default": 0}, mutated={"type": int, "default": 0}, make=FLAG, cut=FLAG,
-          full=FLAG, browser=FLAG, nightly={"type": int, "default": 0, "metavar": "N"},
+          full=FLAG, browser=FLAG, alike=FLAG, nightly={"type": int, "default": 0, "metavar": "N"},
           two={"type": pathlib.Path, "nargs": 2, "metavar": "FOLDER"},
           slurm={"type": int, "nargs": "?", "const": 0, "metavar": "N"})
