@@ -35,6 +35,7 @@ from checks.viewer.sessions.every import CASES, Case
 from checks.viewer.sessions.played import base_of, judged
 from checks.viewer.waits import faults_of_waits
 from checks.viewer.wrong_rules.example import faults_of_maker
+from checks.viewer.wrong_rules.guarded import faults_of_guards
 from checks.viewer.wrong_rules.judge import Judged, rows_of
 from checks.viewer.wrong_rules.play import Wrong, all_forms
 from checks.viewer.wrong_rules.tried import Cases, forms_of_change, play_all, said_of, tried, unexplained
@@ -168,7 +169,7 @@ def show(one: Case, database: sqlite3.Connection) -> None:
 # What is checked beside the sessions, by name.
 BESIDE: dict[str, Callable[[], Iterable[str]]] = {
     "heads": faults_of_heads, "page": lambda: faults_of_page(CASES), "waits": faults_of_waits,
-    "wrong-forms": faults_of_maker}
+    "wrong-forms": faults_of_maker, "guards": faults_of_guards}
 
 
 def bases_of(sessions: list[Case], room: pathlib.Path) -> Iterator[bytes]:
