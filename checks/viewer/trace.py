@@ -35,7 +35,8 @@ list, of one device and of two, in parts and malformed:
 - In Perfetto's format findings are on tracks of their own, with flows; calls have their stacks; names are told once.
 - With the names of Android each transaction and its delivery have them, and say what is called.
 - A narrowed timeline has the slices of its thread, process and frames, and the counters of the whole one.
-- A long timeline, which several processes write, has the same events in the same order as that of one process.
+- The walker in C, built with AddressSanitizer and UndefinedBehaviorSanitizer, writes the same bytes; and of databases
+  with harmed rows it writes a timeline, or says that these can't be read.
 - Names from a stranger are data. An existing file is not overwritten; only the owner can read a timeline; SIGTERM and
   a full disk leave nothing; a malformed capture has what comes before its fault, and status 2. The process that reads
   the database ends with the timeline, also if it was killed.
@@ -44,7 +45,7 @@ TRACE_PROCESSOR is trace_processor_shell of Perfetto 56, or a script that calls 
 TRACE_VIEWER is the file trace_viewer_full.html of Catapult, with webcomponents.min.js beside it. Debian's package
 golang-1.19-src has both; its chromium has no chrome://tracing.
 
-It takes some 12 seconds of the processor.
+It takes some 40 seconds of the processor.
 """
 
 import argparse
@@ -70,11 +71,12 @@ from checks.viewer.page.common import loaded, on_one_clock, stored, texts_stored
 from checks.viewer.timeline.browser import Pictured, make_picture, read_in_chromium
 from checks.viewer.timeline.compared import CERTAIN, SLICES, check_json, check_packets, places
 from checks.viewer.timeline.cost import print_cost
-from checks.viewer.timeline.in_parts import check_part_that_fails, check_parts, check_parts_killed, has_child
 from checks.viewer.timeline.perfetto import ask_perfetto
 from checks.viewer.timeline.read import Read
 from checks.viewer.timeline.read_json import ReadJson, nanoseconds
 from checks.viewer.timeline.read_packets import ReadPackets, packets_of
+from checks.viewer.timeline.walked import (check_harmed, check_walker_ends, check_walker_killed, has_child,
+                                           sanitized)
 from viewer.database.sqlite import open_database
 from viewer.timeline import trace, walk
 from viewer.timeline.tracks import Window
@@ -137,7 +139,6 @@ def check_sample(folder: pathlib.Path, room: pathlib.Path, files: list[pathlib.P
             check_narrow(f"{what}, {name}", database, room / name, fail)
     if files[0].parent.name in ("threads", "oneway", "hello-sessions"):
         check_android(what, database, room, fail)
-    check_parts(what, database, room, fail)
     database.close()
 
 
@@ -553,15 +554,31 @@ def check_killed(_: pathlib.Path, __: pathlib.Path, fail: Fail) -> None:
             (-signal.SIGKILL, False), fail)
 
 
-def check_in_parts(folder: pathlib.Path, room: pathlib.Path, fail: Fail) -> None:
-    """Times that go back, frames without one, deliveries before their sends: in parts, too. And what can fail."""
-    database = loaded(folder, room / "parts.db", *WITH_FILES["oneway"])
-    database.execute("UPDATE side_time SET ts = ts - 3000000 WHERE seq % 7 = 3")
-    database.execute("DELETE FROM side_time WHERE seq % 11 = 5")
-    check_parts("times that go back", database, room, fail)
-    check_part_that_fails(database, room, fail)
+def all_written(database: sqlite3.Connection, room: pathlib.Path, windows: list[dict[str, int]]) -> list[bytes]:
+    """Timelines in all formats."""
+    return [written(database, room / name, is_android, **window).read_bytes() for window in windows
+            for name, is_android in (("out.json.gz", False), ("out.pftrace", False), ("out.pftrace", True))]
+
+
+def check_walker(folder: pathlib.Path, room: pathlib.Path, fail: Fail) -> None:
+    """The walker with sanitizers, also of times that go back, of frames without one, and of deliveries before their
+    sends; and what can fail."""
+    for name in ("oneway", "hello-sessions", "two", "errors", "embrace"):
+        database = loaded(folder, room / f"{name}.db", *WITH_FILES[name])
+        database.execute("UPDATE side_time SET ts = ts - 3000000 WHERE seq % 7 = 3")
+        database.execute("DELETE FROM side_time WHERE seq % 11 = 5")
+        whole = ReadPackets(written(database, room / "whole.pftrace"), database, fail)
+        windows = [{}, *(windows_of(database, whole) if name == "oneway" else [])]
+        due = all_written(database, room, windows)
+        with sanitized(room, fail):
+            compare(f"{name}, with sanitizers", all_written(database, room, windows) == due, True, fail)
+        database.close()
+    database = open_database(room / "oneway.db")
+    check_walker_ends(database, room, written, fail)
     database.close()
-    check_parts_killed(room / "parts.db", room, fail)
+    with sanitized(room, fail):
+        check_harmed(room / "oneway.db", room, written, fail)
+    check_walker_killed(room / "oneway.db", room, fail)
 
 
 def check_remembered(folder: pathlib.Path, room: pathlib.Path, fail: Fail) -> None:
@@ -586,7 +603,7 @@ def parts() -> Iterator[Part]:
     yield Part("sample/ends", check_sample, ([DRIVER / "ends/capture-1.cap"], None))
     yield from parts_of(check_small, check_words, check_malformed, check_hostile, check_clock, check_early,
                         check_instants_last, check_reused, check_order, check_stopped, check_reader, check_killed,
-                        check_in_parts, check_remembered)
+                        check_walker, check_remembered)
 
 
 def picture_of_sample(room: pathlib.Path, viewer: str, picture: pathlib.Path) -> None:

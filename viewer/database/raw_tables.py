@@ -98,15 +98,20 @@ def said_by(program: Word, status: int, told: bytes) -> str:
     return said or f"{os.path.basename(program)} ended with status {status}"
 
 
+# What walks through a capture for a timeline.
+WALKER = "walker"
+
 # What reads packed tables, and what is built, each of the sources that follow, in C.
 PACKED_C = ("packed.c", "packed_index.c", "packed_rows.c", "packed_keys.c", "sums.c")
 BUILT = {
     "load": ("load.c", "side_lines.c", "side_reader.c", "pack_rows.c", "packer.c", *PACKED_C),
-    "packed.so": PACKED_C}
+    "packed.so": PACKED_C,
+    WALKER: (*(f"../timeline/{name}.c" for name in ("orders", "walk", "rows", "packets", "json_events", "growing")),
+             *PACKED_C)}
 
 # How all are built, as Debian's programs are, and how each.
 HARDENED = ("-D_FORTIFY_SOURCE=2", "-Wl,-z,relro,-z,now")
-HOW = {"load": ("-pthread",), "packed.so": ("-shared", "-fPIC")}
+HOW = {"load": ("-pthread",), "packed.so": ("-shared", "-fPIC"), WALKER: ()}
 
 
 def need_compiler() -> None:
@@ -128,7 +133,7 @@ def compile_c(made: pathlib.Path, folder: pathlib.Path, sources: Iterable[str], 
 
 
 def build_loader(folder: pathlib.Path) -> None:
-    """Builds the loader, and the library for packed tables."""
+    """Builds the loader, the library for packed tables, and the walker."""
     need_compiler()
     for name, sources in BUILT.items():
         compile_c(folder / name, FOLDER, sources, *HOW[name], "-lsqlite3")
@@ -137,14 +142,14 @@ def build_loader(folder: pathlib.Path) -> None:
 def is_built(folder: pathlib.Path) -> bool:
     """Whether all is there, and none older than a source."""
     made = [folder / name for name in BUILT]
-    sources = [*FOLDER.glob("*.c"), *FOLDER.glob("*.h")]
+    sources = [path for folder in (FOLDER, FOLDER.with_name("timeline")) for path in folder.glob("*.[ch]")]
     return all(map(pathlib.Path.exists, made)) and (
         min(it.stat().st_mtime for it in made) >= max(it.stat().st_mtime for it in sources))
 
 
 @functools.cache
 def loader() -> pathlib.Path:
-    """The loader, beside the library. They are built if one is missing or older than a source."""
+    """The loader, beside the library and the walker. They are built if one is missing or older than a source."""
     if PACKED:
         return LIBRARY / "load"
     out = FOLDER / "out"

@@ -3,7 +3,6 @@
 import sqlite3
 from typing import Iterator, NamedTuple
 
-from viewer.timeline.rows import MARK
 from viewer.timeline.tracks import Tracks
 
 # A place after all others.
@@ -23,13 +22,12 @@ class Mark(NamedTuple):
     fields: dict[str, object]
     utid: int | None = None
     upid: int | None = None
-    why: str = ""
     threads: tuple[int, ...] = ()
     processes: tuple[int, ...] = ()
 
 
-# A place before which a mark comes, what the row is about, and the mark.
-Row = tuple[int, int, Mark]
+# A place before which a mark comes, and the mark.
+Row = tuple[int, Mark]
 
 
 def ends_of(database: sqlite3.Connection, tracks: Tracks) -> list[Row]:
@@ -38,16 +36,16 @@ def ends_of(database: sqlite3.Connection, tracks: Tracks) -> list[Row]:
     after = f"max(t.ended_after, t.last_seq) AS after, {NEXT_FRAME.format('max(t.ended_after, t.last_seq)')}"
     for utid, why, seq, place, ts in database.execute(
             f"SELECT t.utid, t.why, {after}, t.ended FROM thread t, raw_capture c WHERE t.ended_after <= c.last_seq"):
-        found.append((place, MARK, Mark(seq, ts, "thread ended", "end", {"after": seq, "why": why}, utid=utid,
-                                        why="its thread ended", threads=(utid,))))
+        found.append((place, Mark(seq, ts, "thread ended", "end", {"after": seq, "why": why}, utid=utid,
+                                  threads=(utid,))))
     of: dict[int, list[int]] = {}
     for utid, upid in tracks.upid_of.items():
         of.setdefault(upid, []).append(utid)
     for upid, seq, place, ts in database.execute(
             f"SELECT t.upid, {after}, t.ended FROM process t, raw_capture c WHERE t.ended_after <= c.last_seq"):
-        found.append((place, MARK, Mark(seq, ts, "process ended", "end", {"after": seq}, upid=upid,
-                                        why="its process ended", threads=tuple(of.get(upid, ())), processes=(upid,))))
-    return sorted(found, key=lambda row: (row[0], row[2].seq, len(row[2].processes)))
+        found.append((place, Mark(seq, ts, "process ended", "end", {"after": seq}, upid=upid,
+                                  threads=tuple(of.get(upid, ())), processes=(upid,))))
+    return sorted(found, key=lambda row: (row[0], row[1].seq, len(row[1].processes)))
 
 
 def lost_of(database: sqlite3.Connection, tracks: Tracks) -> Iterator[Row]:
@@ -58,7 +56,7 @@ def lost_of(database: sqlite3.Connection, tracks: Tracks) -> Iterator[Row]:
             f"SELECT l.seq, l.device, l.process, l.thread, l.why, {NEXT_FRAME.format('l.seq')} FROM side_lost l,"
             " raw_capture c WHERE l.seq BETWEEN c.first_seq AND c.last_seq ORDER BY l.seq"):
         utid, upid = threads.get((device, process, thread)), processes.get((device, process))
-        yield place, MARK, Mark(seq, None, "lost frame", "lost", {"seq": seq, "why": why}, utid=utid, upid=upid)
+        yield place, Mark(seq, None, "lost frame", "lost", {"seq": seq, "why": why}, utid=utid, upid=upid)
 
 
 def missed_of(database: sqlite3.Connection) -> Iterator[Row]:
@@ -66,8 +64,8 @@ def missed_of(database: sqlite3.Connection) -> Iterator[Row]:
     for what, count, first, after, ts, place in database.execute(
             f"SELECT m.what, m.count, m.from_seq, m.after, m.ts, {NEXT_FRAME.format('m.after')} FROM side_missed m,"
             " raw_capture c WHERE m.after >= c.first_seq - 1 AND m.from_seq <= c.last_seq ORDER BY m.after, m.id"):
-        yield place, MARK, Mark(after, ts, "missed", "lost", {"what": what, "count": count, "from": first,
-                                                              "after": after})
+        yield place, Mark(after, ts, "missed", "lost", {"what": what, "count": count, "from": first,
+                                                        "after": after})
 
 
 # The frames after a number that no frame has, each with the number of the frame before. A number of 2**63 or more is
@@ -89,4 +87,4 @@ def gaps_of(database: sqlite3.Connection) -> Iterator[Row]:
     for place, before, seq, told in database.execute(AFTER_GAPS):
         count = (seq - before - 1) % 2**64 - told
         if count:
-            yield place, MARK, Mark(before, None, "missing frames", "lost", {"after": before % 2**64, "count": count})
+            yield place, Mark(before, None, "missing frames", "lost", {"after": before % 2**64, "count": count})

@@ -6,33 +6,25 @@ Messages and fields have the names that they have in `protos/perfetto/trace` of 
 import hashlib
 import sqlite3
 import zlib
-from operator import call
 from typing import Mapping
 
-from viewer.timeline.call_stacks import CallStacks
 from viewer.clocks import Moment
-from viewer.timeline.events import ARGUMENTS, CATEGORIES, SORTS, VERBS, Called, Finding, Process, Thread
-from viewer.timeline.interned import CATEGORY, CATEGORY_NAMES, EVENT_NAME, EVENT_NAMES, Interned, Known
-from viewer.timeline.packed import File
+from viewer.timeline.call_stacks import CallStacks
+from viewer.timeline.events import ARGUMENTS, BEGIN_OF_SLICE, CATEGORIES, SORTS, VERBS, Called, Finding, Out, Where
+from viewer.timeline.interned import CATEGORY, CATEGORY_NAMES, EVENT_NAME, EVENT_NAMES, Interned
 from viewer.timeline.system import System
 from viewer.timeline.tracks import Axis, ProcessRow, Tracks
-from viewer.timeline.wire import (FIXED, LAST, LENGTH, LENGTHS, PAIRS, VARINT, fixed, key, message, number, text,
-                                  varint, varint_of_time)
+from viewer.timeline.wire import VARINT, fixed, key, message, number, text, varint
 
 # The only field of Trace, and those of TracePacket.
 PACKET = 1
-CLOCK_SNAPSHOT, TIMESTAMP, SEQUENCE, TRACK_EVENT, INTERNED_DATA, FLAGS = 6, 8, 10, 11, 12, 13
+CLOCK_SNAPSHOT, TIMESTAMP, SEQUENCE, INTERNED_DATA, FLAGS = 6, 8, 10, 12, 13
 COMPRESSED, CLOCK_ID, DEFAULTS, TRACK_DESCRIPTOR, FIRST_ON_SEQUENCE, ATTRIBUTES = 50, 58, 59, 60, 87, 126
 STATE_CLEARED, NEEDS_STATE = 1, 2
-PACKET_KEY = key(PACKET, LENGTH)
-PACKET_HEADS = [PACKET_KEY + length for length in LENGTHS]
-LENGTH_BYTES = len(LENGTHS[0])
 
-# TrackEvent.
-TYPE, TRACK, COUNTER_VALUE, EXTRA_TRACKS, EXTRA_VALUES, FLOWS, CORRELATION = 9, 11, 30, 31, 12, 47, 52
-BEGIN, END, INSTANT, COUNTER = (number(TYPE, which) for which in range(1, 5))
-FLOW, CORRELATED = key(FLOWS, FIXED), key(CORRELATION, VARINT)
-LARGEST = 2**64 - 1
+# TrackEvent; packets.c writes also FLOWS and a correlation, the field 52.
+TYPE, TRACK, COUNTER_VALUE, EXTRA_TRACKS, EXTRA_VALUES, FLOWS = 9, 11, 30, 31, 12, 47
+INSTANT, COUNTER = number(TYPE, 3), number(TYPE, 4)
 
 # TrackDescriptor, ProcessDescriptor, ThreadDescriptor and CounterDescriptor.
 UUID, NAME, OF_PROCESS, OF_THREAD, PARENT, OF_COUNTER, OWN_TRACK = 1, 2, 3, 4, 5, 8, 9
@@ -62,17 +54,14 @@ OTHER_TRACKS = FINDINGS.format("real"), FINDINGS.format("maybe"), OTHERS
 SEQUENCE_NUMBER = 0x42494E44
 DESCRIBING = SEQUENCE_NUMBER + 1
 
-# What comes before the time of an event, and before the event.
+# What comes before the time of an event.
 EVENT_BEGIN = number(SEQUENCE, SEQUENCE_NUMBER) + number(FLAGS, NEEDS_STATE) + key(TIMESTAMP, VARINT)
-EVENT_KEY = key(TRACK_EVENT, LENGTH)
 
 # Numbers of tracks, and of flows of findings, of one recording.
 BITS_OF_NUMBERS = 21
 FLOWS_OF_FINDINGS = 2**62
 
-
-# Of so many parts of packets one packet is made. What that has should be less than 512 KB.
-AT_ONCE, LEVEL = 2**14, 4
+LEVEL = 4
 
 
 def compressed(packets: bytes) -> bytes:
@@ -80,21 +69,8 @@ def compressed(packets: bytes) -> bytes:
     return message(PACKET, message(COMPRESSED, zlib.compress(packets, LEVEL)))
 
 
-def extras(tracks: list[tuple[bytes, bytes, bytes]], changed: list[tuple[int, int]]) -> bytes:
-    """Extra counters of an event. Those of 0 come last: after one of them Perfetto 56 takes all others for 0."""
-    more = zeros = b""
-    for at, value in changed:
-        if 0 < value < PAIRS:
-            more += tracks[at][1] + LAST[value]
-        elif value:
-            more += tracks[at][1] + varint(value)
-        else:
-            zeros += tracks[at][2]
-    return more + zeros
-
-
 class Numbers:
-    """The numbers of the tracks of a recording: the same in each part of its trace, whatever parts tell of before."""
+    """The numbers of the tracks of a recording."""
 
     def __init__(self, first: int, tracks: Tracks):
         self.processes = 1 + max((row.upid for row in tracks.processes), default=0)
@@ -121,42 +97,35 @@ class Numbers:
         return self.of_queues + lane * self.processes + upid
 
 
-class PacketCalled:
-    """What is called: the begin of a slice of each sort, with its other arguments, and its name."""
-    __slots__ = "begins", "label", "called"
-
-    def __init__(self, called: Called, begins: list[bytes]):
-        self.label, self.called, self.begins = called.label, called, begins
-
-
 class Packets:
     """Writes a timeline as packets. Threads of the capture that are one thread of the system have one track."""
 
+    form, is_android = "packets", False
     clock = "CLOCK_MONOTONIC of the recorded system, in nanoseconds"
+    event_begin = EVENT_BEGIN
 
-    def __init__(self, file: File, axis: Axis, tracks: Tracks, database: sqlite3.Connection):
-        self.file, self.axis, self.tracks = file, axis, tracks
+    def __init__(self, out: Out, axis: Axis, tracks: Tracks, database: sqlite3.Connection):
+        self.out, self.axis, self.tracks = out, axis, tracks
         self.system = System(tracks)
         self.interned = Interned()
+        self.new = self.interned.new
         self.stacks = CallStacks(database, self.interned)
         # What tells the tracks and flows of this recording from those of others in one trace.
         facts = database.execute("SELECT key, value FROM capture WHERE key IN ('begin_ts', 'realtime', 'bytes',"
                                  " 'records') ORDER BY key").fetchall()
         self.recording = int.from_bytes(hashlib.blake2b(repr(facts).encode(), digest_size=8).digest(), "little")
         self.numbers = Numbers(self.recording % 2**BITS_OF_NUMBERS << BITS_OF_NUMBERS, tracks)
-        self.parts: list[bytes] = []
-        self.new = self.interned.new
-        self.names = Known(self.name_of_event)
-        self.ns, self.at, self.around, self.takes_more = -1, b"", 0, False
-        self.arguments = [[self.interned.writer(name) for name in names] for names in ARGUMENTS]
         self.processes: dict[int, int] = {}
         self.lanes: dict[tuple[int, int], bytes] = {}
-        self.counters: dict[int, list[tuple[bytes, bytes, bytes]]] = {}
-        self.queues: dict[tuple[int, int], bytes] = {}
         self.others: dict[str, bytes] = {}
         self.seen = self.first_seen(database) if axis.timed else {}
-        self.tell_clocks(axis.moments)
-        self.clear_state(number(FIRST_ON_SEQUENCE, 1))
+
+    def begin(self) -> None:
+        for name in dict.fromkeys(name for names in ARGUMENTS for name in names):
+            self.argument_head(name)
+        self.tell_clocks(self.axis.moments)
+        defaults = message(DEFAULTS, number(CLOCK_ID, MONOTONIC)) if self.axis.moments else b""
+        self.packet(number(FLAGS, STATE_CLEARED), number(FIRST_ON_SEQUENCE, 1), defaults)
 
     def first_seen(self, database: sqlite3.Connection) -> dict[tuple[int, int] | int, int]:
         """When each thread and each process is first seen."""
@@ -171,34 +140,20 @@ class Packets:
     # -- packets
 
     def packet(self, *parts: bytes, sequence: int = SEQUENCE_NUMBER) -> None:
-        self.parts.append(message(PACKET, *parts, number(SEQUENCE, sequence)))
-        self.takes_more = False
+        self.out.packet(message(PACKET, *parts, number(SEQUENCE, sequence)))
 
-    def event(self, ns: int, body: bytes) -> None:
-        """A packet with a TrackEvent."""
-        if ns != self.ns:
-            self.ns, self.at = ns, EVENT_BEGIN + varint_of_time(ns) + EVENT_KEY
-            self.around = len(self.at) + LENGTH_BYTES
+    def event(self, body: bytes) -> None:
+        """A packet with a TrackEvent, at the time of instants."""
+        self.tell_new()
+        self.out.event(body)
+
+    def has_new(self) -> bool:
+        return bool(self.new)
+
+    def tell_new(self) -> None:
         if self.new:
             self.packet(message(INTERNED_DATA, *self.new), number(FLAGS, NEEDS_STATE))
             self.new.clear()
-        length = len(body)
-        size = length + self.around
-        self.takes_more = size < PAIRS
-        if size < PAIRS:
-            self.parts += PACKET_HEADS[size], self.at, LENGTHS[length], body
-        else:
-            self.parts.append(message(PACKET, self.at + varint(length) + body))
-
-    def add_to_event(self, more: bytes) -> bool:
-        """Adds fields to the last event, which is the last packet."""
-        parts = self.parts
-        body = parts[-1] + more
-        length = len(body)
-        if length + self.around >= PAIRS:
-            return False
-        parts[-4], parts[-2], parts[-1] = PACKET_HEADS[length + self.around], LENGTHS[length], body
-        return True
 
     def tell_clocks(self, moments: list[Moment]) -> None:
         """What the clocks showed, and that times are of CLOCK_MONOTONIC if they are times. The wall clock goes on as it
@@ -211,16 +166,6 @@ class Packets:
                       for clock, time in shown.items() if time is not None]
             first = number(PRIMARY_CLOCK, MONOTONIC if moment.boottime is None else BOOTTIME)
             self.packet(message(CLOCK_SNAPSHOT, *clocks, first))
-
-    def clear_state(self, *more: bytes) -> None:
-        """From here on, names are told anew."""
-        defaults = message(DEFAULTS, number(CLOCK_ID, MONOTONIC)) if self.axis.moments else b""
-        self.packet(number(FLAGS, STATE_CLEARED), *more, defaults)
-
-    def go_on(self) -> None:
-        """Clocks, processes and threads are told in the first part."""
-        self.parts.clear()
-        self.clear_state()
 
     # -- tracks
 
@@ -254,32 +199,29 @@ class Packets:
     def lane_of(self, utid: int) -> tuple[int, int]:
         return self.system.lane_of[utid]
 
-    def head_of_thread(self, thread: Thread) -> bytes:
-        lane = self.lane_of(thread.utid)
+    def head_of_thread(self, utid: int) -> bytes:
+        lane = self.lane_of(utid)
+        self.process_track(self.tracks.upid_of[utid])
         if lane not in self.lanes:
             upid, tid = lane
             parent = self.process_track(upid)
             name = self.system.names.get(lane)
             described = message(OF_THREAD, number(THREAD_PID, self.system.pid_of(upid)), number(THREAD_TID, tid),
                                 text(THREAD_NAME, name) if name else b"")
-            self.lanes[lane] = self.track(self.numbers.of_thread(thread.utid), number(PARENT, parent), described,
+            self.lanes[lane] = self.track(self.numbers.of_thread(utid), number(PARENT, parent), described,
                                           number(OWN_TRACK, 1), of=lane)
         return self.lanes[lane]
 
-    def head_of_process(self, process: Process) -> bytes:
-        return number(TRACK, self.process_track(process.upid))
-
-    def counter_tracks(self, process: Process) -> list[tuple[bytes, bytes, bytes]]:
-        """What comes before the value of each counter of a process: as the counter of an event, and as an extra one;
+    def counters(self, upid: int) -> list[bytes]:
+        """Of each counter of a process what comes before its value: as the counter of an event, and as an extra one;
         and an extra one of 0."""
-        parent, of, made = self.process_track(process.upid), self.system.opening_of(process.upid), []
+        parent, of, made = self.process_track(upid), self.system.opening_of(upid), list[bytes]()
         for at, (name, unit) in enumerate(COUNTER_TRACKS):
-            uuid = self.numbers.of_counter(process.upid, at)
+            uuid = self.numbers.of_counter(upid, at)
             head = self.track(uuid, number(PARENT, parent), text(NAME, name + of),
                               message(OF_COUNTER, number(UNIT, unit)))
             extra = number(EXTRA_TRACKS, uuid) + key(EXTRA_VALUES, VARINT)
-            made.append((COUNTER + head + key(COUNTER_VALUE, VARINT), extra, extra + LAST[0]))
-        self.counters[process.upid] = made
+            made += COUNTER + head + key(COUNTER_VALUE, VARINT), extra, extra + varint(0)
         return made
 
     def other_track(self, name: str) -> bytes:
@@ -290,109 +232,77 @@ class Packets:
 
     def queue_track(self, upid: int, lane: int) -> bytes:
         """A track for a lane of the queue of a process. All of them have one name, so Perfetto shows them as one."""
-        if (upid, lane) not in self.queues:
-            self.queues[upid, lane] = self.track(self.numbers.of_queue(upid, lane),
-                                                 number(PARENT, self.process_track(upid)), text(NAME, "binder queue"))
-        return self.queues[upid, lane]
+        return self.track(self.numbers.of_queue(upid, lane), number(PARENT, self.process_track(upid)),
+                          text(NAME, "binder queue"))
 
-    # -- what the walk hands over
+    # -- what the walk asks for
 
-    def name(self, category: str, name: str) -> bytes:
-        return self.names[category, name]
-
-    def name_of_event(self, named: tuple[str, str]) -> bytes:
-        category, name = named
+    def named(self, category: str, name: str) -> bytes:
         return self.interned.text(EVENT_NAMES, EVENT_NAME, name) + \
             self.interned.text(CATEGORY_NAMES, CATEGORY, category)
 
     def fields(self, fields: Mapping[str, object]) -> bytes:
-        writer = self.interned.writer
-        return b"".join([writer(name)(value) for name, value in fields.items() if value is not None])
+        return b"".join([self.argument(name, value) for name, value in fields.items() if value is not None])
 
-    def called(self, called: Called) -> PacketCalled:
+    def argument_head(self, name: str) -> bytes:
+        return self.interned.argument_head(name)
+
+    def argument(self, name: str, value: object) -> bytes:
+        return self.interned.argument(name, value)
+
+    def called(self, called: Called) -> list[bytes]:
         fields = self.fields(called.fields())
-        return PacketCalled(called, [self.name(CATEGORIES[sort], self.name_of(sort, called)) + fields
-                                     for sort in SORTS])
+        return [self.named(CATEGORIES[sort], self.name_of(sort, called)) + fields for sort in SORTS]
 
     def name_of(self, sort: int, called: Called) -> str:
         """The name of a slice."""
         return f"{VERBS[sort]} {called.label}"
 
-    def begin(self, thread: Thread, ns: int, sort: int, called: PacketCalled, values: tuple, flow: int | None,
-              stack: int | None, why: str) -> None:
-        body = BEGIN + thread.head + called.begins[sort] + b"".join(map(call, self.arguments[sort], values))
-        if flow is not None:
-            body += FLOW + (self.recording + flow & LARGEST).to_bytes(8, "little") + CORRELATED + varint(flow)
-        if stack is not None:
-            body += self.stacks.of(stack)
-        if why:
-            body += self.interned.argument("begin", why)
-        self.event(ns, body)
+    def aidl(self, sort: int, called: Called) -> bytes:
+        """Only the names of Android have such slices."""
+        raise NotImplementedError
 
-    def end(self, thread: Thread, ns: int, sort: int, called: PacketCalled, why: str, stack: int | None) -> None:
-        body = END + thread.head
-        if why:
-            body += self.interned.argument("end", why)
-        if stack is not None:
-            body += self.stacks.of(stack)
-        self.event(ns, body)
+    def name_of_queue(self, called: Called) -> bytes:
+        return self.named("queue", f"queue {called.label}")
 
-    def instant(self, where: Thread | Process | None, ns: int, category: str, name: str,
-                fields: Mapping[str, object]) -> None:
-        head = self.other_track(OTHERS) if where is None else where.head
-        self.event(ns, INSTANT + head + self.name(category, name) + self.fields(fields))
+    def stack(self, stack: int) -> bytes:
+        return self.stacks.of(stack)
 
-    def finding(self, thread: Thread, ns: int, finding: Finding) -> None:
+    def why(self, use: int, why: str) -> bytes:
+        return self.argument("begin" if use == BEGIN_OF_SLICE else "end", why)
+
+    # -- what the walk hands over
+
+    def head_of(self, where: Where) -> bytes:
+        if where.utid is not None:
+            return self.lanes[self.lane_of(where.utid)]
+        return self.other_track(OTHERS) if where.upid is None else number(TRACK, self.process_track(where.upid))
+
+    def instant(self, where: Where, _: str, category: str, name: str, fields: Mapping[str, object]) -> None:
+        head = self.head_of(where)
+        self.event(INSTANT + head + self.named(category, name) + self.fields(fields))
+
+    def finding(self, utid: int, upid: int, _: str, finding: Finding) -> None:
         """A finding is on a track above the processes, and at its record. A flow goes through both, and through the
         findings that are one with it, in the order of their times."""
         category = f"finding,{finding.verdict}"
         flow = fixed(FLOWS, self.recording + FLOWS_OF_FINDINGS + finding.one)
-        names = [(thread.head, f"{finding.verdict}: {finding.title}")]
+        names = [(self.head_of(Where(utid)), f"{finding.verdict}: {finding.title}")]
         if finding.verdict in ("real", "maybe"):
             names.insert(0, (self.other_track(FINDINGS.format(finding.verdict)),
-                             f"{finding.title}: {self.tracks.certain[thread.upid]}"))
+                             f"{finding.title}: {self.tracks.certain[upid]}"))
         fields = b""
         for head, name in names:
-            named = self.name(category, name)
+            named = self.named(category, name)
             fields = fields or self.fields(finding.fields)
-            self.event(ns, INSTANT + head + named + fields + flow)
-
-    def count(self, process: Process, ns: int) -> int:
-        """The last event, if it is of this time, has all counters that were changed, or else one of their own. An event
-        has those of one process, since zeros come last in it."""
-        changed = process.changed()
-        if changed:
-            tracks = self.counters.get(process.upid) or self.counter_tracks(process)
-            if not (self.takes_more and ns == self.ns and self.add_to_event(extras(tracks, changed))):
-                (first, value), *others = changed
-                self.event(ns, tracks[first][0] + varint(value) + extras(tracks, others))
-            self.takes_more = False
-        return len(changed)
-
-    def queue(self, thread: Thread, called: PacketCalled, lane: int, place: int, begin: int, end: int,
-              fields: Mapping[str, object]) -> None:
-        head = self.queue_track(thread.upid, lane)
-        self.event(begin, BEGIN + head + self.name("queue", f"queue {called.label}") +
-                   self.fields({"place": place, **fields}))
-        self.event(end, END + head)
+            self.event(INSTANT + head + named + fields + flow)
 
     def end_frame(self) -> None:
         """A flow is a field of its event here, so nothing has to wait for the end of a frame."""
-
-    def flush(self) -> None:
-        begin = 0
-        while begin < len(self.parts):
-            end = begin + AT_ONCE
-            while end < len(self.parts) and not self.parts[end].startswith(PACKET_KEY):
-                end += 1
-            self.file.add(b"".join(self.parts[begin:end]))
-            begin = end
-        self.parts.clear()
-        self.takes_more = False
 
     def finish(self, told: dict[str, object]) -> None:
         made = [message(ATTRIBUTE, text(ATTRIBUTE_KEY, name), number(ATTRIBUTE_NUMBER, value)
                         if isinstance(value, int) else text(ATTRIBUTE_TEXT, str(value)))
                 for name, value in told.items()]
         self.packet(message(ATTRIBUTES, *made))
-        self.flush()
+        self.out.flush()

@@ -8,6 +8,9 @@ from viewer.clocks import boottime_of, moments_of
 # A double has whole numbers up to here.
 EXACT = 2**53
 
+# What is counted of frames, and told of an axis with times.
+OF_AXIS = "frames_without_time", "frames_with_earlier_time"
+
 
 class Window(NamedTuple):
     """What is asked for: processes, by a word and by their upids; a thread number; and the first and the last frame."""
@@ -35,18 +38,10 @@ class Window(NamedTuple):
         return {name: value for name, value in named if value is not None}
 
 
-class Track:
-    """Where events may be, and the last time there."""
-    __slots__ = "latest",
-
-    def __init__(self) -> None:
-        self.latest = 0
-
-
 class Axis:
     """Where in a timeline a frame is, in nanoseconds: at its time on CLOCK_MONOTONIC, or if no frame has a time, at a
     microsecond for each number. A frame without a time is where the one before it is. On a track times never go back;
-    those of two threads may, by what a recorder of several processors was late."""
+    those of two threads may, by what a recorder of several processors was late. `ns` is where the walk begins."""
 
     def __init__(self, database: sqlite3.Connection, window: Window):
         first, self.last = database.execute("SELECT first_seq, last_seq FROM raw_capture").fetchone()
@@ -57,7 +52,6 @@ class Axis:
         self.boottime = boottime_of(self.moments)
         end = 0 if self.last is None else self.last % 2**64
         self.base = 0 if end < EXACT // 1000 else first % 2**64
-        self.untimed = self.raised = 0
         self.ns = earliest[0] if earliest is not None else 0
         self.is_cut = window.last is not None and window.last < end
         self.end = self.end_of(database, end, window.last if window.last is not None and self.is_cut else None)
@@ -72,30 +66,10 @@ class Axis:
             row = database.execute("SELECT ts FROM side_time WHERE seq > ? ORDER BY seq LIMIT 1", (cut,)).fetchone()
         return row[0] or 0 if row is not None else 0
 
-    def go_to(self, seq: int, ts: int | None, track: Track) -> None:
-        """Goes to a frame of a thread."""
-        ns = 1000 * (seq % 2**64 - self.base) if not self.timed else ts
-        if ns is None:
-            ns = self.ns
-            self.untimed += 1
-        if ns < track.latest:
-            self.raised += 1
-            ns = track.latest
-        self.ns = track.latest = ns
-
-    def raise_to(self, ns: int, track: Track) -> None:
-        """Puts the rest of a frame at a later time."""
-        self.ns = track.latest = ns
-
-    def on(self, track: Track, ns: int) -> int:
-        """A time on a track, no earlier than the last one there."""
-        if ns > track.latest:
-            track.latest = ns
-        return track.latest
-
-    def facts(self, clock: str) -> dict[str, object]:
+    def facts(self, clock: str, counts: dict[str, int]) -> dict[str, object]:
+        """What the timeline says of the axis, by what was counted."""
         if self.timed:
-            return {"axis": clock, "frames_without_time": self.untimed, "frames_with_earlier_time": self.raised}
+            return {"axis": clock, **{name: counts[name] for name in OF_AXIS}}
         return {"axis": "the number of the frame: one microsecond is one frame, and times are not known",
                 "frame_at_zero": self.base}
 

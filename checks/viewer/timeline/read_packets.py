@@ -80,9 +80,6 @@ class ReadPackets(Read):
         super().__init__(database, fail, whole_)
         self.interned: dict[int, dict[int, Message]] = defaultdict(dict)
         self.tracks: dict[int, Message] = {}
-        # The tracks that were told since names are told anew.
-        self.told_now: set[int] = set()
-        self.described: set[int] = set()
         self.open_queues: dict[int, Queue] = {}
         self.clocks: list[dict[int, int]] = []
         self.pids: dict[int, list[int]] = defaultdict(list)
@@ -111,9 +108,6 @@ class ReadPackets(Read):
         describes = any(told[3] or told[4] for told in map(message, packet[60]))
         compare("the sequence of a packet, and the clock", (packet[10], packet[58]),
                 ([0x42494E45], [3] * len(packet[8])) if describes else ([0x42494E44], []), self.fail)
-        if packet[13] == [1]:
-            self.interned.clear()
-            self.told_now.clear()
         for data in packet[12]:
             for kind, value in fields(data):
                 one = message(value)
@@ -137,12 +131,9 @@ class ReadPackets(Read):
             seen = self.seen[self.track_of(told)]  # type: ignore[index]
             compare(f"the time of {self.track_of(told)}, one of {seen}", (len(times), set(times) <= seen),
                     (bool(seen), True), self.fail)
-        if uuid in self.told_now or any(parent not in self.tracks for parent in told[5]):
+        if uuid in self.tracks or any(parent not in self.tracks for parent in told[5]):
             self.fail(f"a track twice, or before the one around it: {told}")
-        if self.tracks.setdefault(uuid, told) != told or (told[3] or told[4]) and uuid in self.described:
-            self.fail(f"a track that was another one, or a process or a thread twice: {told}")
-        self.told_now.add(uuid)
-        self.described.add(uuid)
+        self.tracks[uuid] = told
         for process in map(message, told[3]):
             self.pids[process[1][0]].append(uuid)
         for thread in map(message, told[4]):
