@@ -331,7 +331,8 @@ def check_interfaces(printer: pathlib.Path, room: pathlib.Path, fail: Fail) -> N
     named = [line.partition(" interface=")[2] for line in lines]
     compare("interfaces", named, ["" if line.split()[5] in REPLIES else names_of(it)[0] or ""
                                   for it, line in zip(records, lines, strict=True)], fail)
-    for name in sorted(set(filter(None, named)))[:4]:
+    names = sorted(set(filter(None, named)))
+    for name in (*names[:4], names[0][:-1]):
         compare(f"--interface {name}", came_of(printer, [("--interface", [name])], capture),
                 [line for line, it in zip(lines, named) if it == name], fail)
     check_columns(printer, capture, fail)

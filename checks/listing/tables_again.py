@@ -10,8 +10,9 @@ in Python.
 kit/tables/ has the reading. All its rules are in docs/DATABASE.md, viewer/database/schema.sql and docs/COMMANDS.md.
 Each row of each of the fourteen tables must be the same, column by column, and the status must be 2 exactly if the
 capture is malformed. A table that is written alone must be the same as among all. The stream of a case is that of all
-records, or of those at some places, with or without objects; it must be the same to the byte. The payloads of
-kit/tokens.py must name what they are made to name, also for the second reading. A changed capture is a stored one of
+records, or of those at some places, with or without objects; it must be the same to the byte. Of what hardly ever comes
+each table is written alone, and all is streamed. The payloads of kit/tokens.py must name what they are made to name,
+also for the second reading. A changed capture is a stored one of
 which bytes or frames are changed, cut, lost or joined with those of another one, in one file or in several. A made one
 is of kit/simulated.py, of kit/traffic.py, or of many transactions that are alike, a small one of kit/small_traffic.py,
 and one of a pair of kit/pair_cases.py. A case is always the same capture.
@@ -238,9 +239,8 @@ def told(*words: object) -> bytes:
                           timeout=120).stdout
 
 
-def streamed(chance: random.Random, parts: list[bytes], files: list[pathlib.Path]) -> str | None:
+def streamed(chance: random.Random, what: str | None, parts: list[bytes], files: list[pathlib.Path]) -> str | None:
     """Compares the stream of what is at some places, or of all. Returns what was asked for if it differs."""
-    what = chance.choice((None, "--at", "--frame", "--call"))
     places = [chance.randrange(sum(map(len, parts)) + 20) for _ in range(chance.randint(1, 3))] if what else []
     words = ["--lines", *["--objects"] * chance.randrange(2), *(word for place in places for word in (what, place))]
     return None if told(*words, "--", *files) == stream_of(parts, "--objects" in words, what, places) else f"{words}"
@@ -276,10 +276,11 @@ def compared(room: pathlib.Path, name: str, most: int) -> list[str]:
         if path.read_bytes() != encoded(tables[table]):
             wrong += [f"{name}, {table}: {what}" for what in itertools.islice(differing(path, tables[table]), most)]
     chance, files = random.Random(f"asked of {name}"), sorted((room / name).glob("*.cap"))
-    table = chance.choice(sorted(tables))
-    if told("--table", table, *files) != encoded(tables[table]):
-        wrong.append(f"{name}, {table}: written alone, it is another one")
-    if words := streamed(chance, parts, files):
+    for table in tables if name in OTHERS else [chance.choice(sorted(tables))]:
+        if told("--table", table, *files) != encoded(tables[table]):
+            wrong.append(f"{name}, {table}: written alone, it is another one")
+    what = chance.choice((None, "--at", "--frame", "--call"))
+    if words := streamed(chance, None if name in OTHERS else what, parts, files):
         wrong.append(f"{name}: the stream of {words} differs")
     shutil.rmtree(room / name)
     return wrong
