@@ -9,13 +9,13 @@ in Python.
 
 kit/tables/ has the reading. All its rules are in docs/DATABASE.md, viewer/database/schema.sql and docs/COMMANDS.md.
 Each row of each of the fourteen tables must be the same, column by column, and the status must be 2 exactly if the
-capture is malformed. A table that is written alone must be the same as among all. The stream of a case is that of all
-records, or of those at some places, with or without objects; it must be the same to the byte. Of what hardly ever comes
-each table is written alone, and all is streamed. The payloads of kit/tokens.py must name what they are made to name,
-also for the second reading. A changed capture is a stored one of
-which bytes or frames are changed, cut, lost or joined with those of another one, in one file or in several. A made one
-is of kit/simulated.py, of kit/traffic.py, or of many transactions that are alike, a small one of kit/small_traffic.py,
-and one of a pair of kit/pair_cases.py. A case is always the same capture.
+capture is malformed. A table that is written alone, one of each stored capture, must be the same as among all. The
+stream of a case is that of all records, or of those at some places, with or without objects; it must be the same to the
+byte. Of what hardly ever comes each table is written alone, and all is streamed. The payloads of kit/tokens.py must
+name what they are made to name, also for the second reading. A changed capture is a stored one of which bytes or frames
+are changed, cut, lost or joined with those of another one, in one file or in several. A made one is of
+kit/simulated.py, of kit/traffic.py, or of many transactions that are alike, a small one of kit/small_traffic.py, and
+one of a pair of kit/pair_cases.py. A case is always the same capture.
 """
 
 import argparse
@@ -276,7 +276,8 @@ def compared(room: pathlib.Path, name: str, most: int) -> list[str]:
         if path.read_bytes() != encoded(tables[table]):
             wrong += [f"{name}, {table}: {what}" for what in itertools.islice(differing(path, tables[table]), most)]
     chance, files = random.Random(f"asked of {name}"), sorted((room / name).glob("*.cap"))
-    for table in tables if name in OTHERS else [chance.choice(sorted(tables))]:
+    one = chance.choice(sorted(tables))
+    for table in tables if name in OTHERS else [one] if name in STORED else []:
         if told("--table", table, *files) != encoded(tables[table]):
             wrong.append(f"{name}, {table}: written alone, it is another one")
     what = chance.choice((None, "--at", "--frame", "--call"))
