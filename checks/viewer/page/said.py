@@ -66,6 +66,6 @@ def check_listed(fail: Fail) -> None:
     status, lines, _ = listing(REDACTED[0], "--at", 84, "--arguments")
     compare("./listing of a redacted recording", (status, lines.split("\n")[-1]), (0, f"arguments: {NONE}"), fail)
     for words, why in ((("--arguments",), "--arguments goes with --at"),
-                       (("--at", CALL, "--aidl", SOURCES), "--aidl goes with --arguments")):
+                       (("--at", CALL, "--aidl", SOURCES), "--aidl goes with --arguments or --names")):
         status, _, err = listing(capture, *words)
         compare(f"./listing {words}", (status, err.endswith(f"\nlisting: {why}\n")), (64, True), fail)
