@@ -4,10 +4,10 @@ import os
 import pathlib
 import struct
 import subprocess
-import sys
 import tempfile
 from typing import Iterable, Iterator
 
+from viewer.files import Stopped
 from viewer.lines.run import kept_open
 from viewer.methods.every import ADDED
 from viewer.methods.known import BINDER, MANAGER, OF_MANAGER_BEFORE_15, Methods, built_in
@@ -51,8 +51,7 @@ def interfaces_in(root: pathlib.Path, files: list[str]) -> Iterator[str]:
     words = [os.fspath(root / "listing"), "--table", "interface", "--", *files]
     asked = subprocess.run(words, capture_output=True)
     if asked.returncode not in (0, 2):
-        sys.stderr.buffer.write(asked.stderr)
-        os._exit(asked.returncode)
+        raise Stopped(asked.returncode, asked.stderr.decode("utf-8", "replace").strip().removeprefix("listing: "))
     at, row = 0, struct.Struct("<3Q")  # which columns there are, the number, and the length of the name
     while at < len(asked.stdout):
         *_, length = row.unpack_from(asked.stdout, at)
