@@ -47,7 +47,8 @@ def sanitized(room: pathlib.Path, fail: Fail) -> Iterator[None]:
     told = {name: f"log_path={folder}/found" for name in ("ASAN_OPTIONS", "UBSAN_OPTIONS")}
     with mock.patch.dict(os.environ, told), by(folder):
         yield
-    compare("what sanitizers found", [path.read_text()[:2000] for path in folder.glob("found*")], [], fail)
+    found = [path.read_text("utf-8", "replace")[:2000] for path in folder.glob("found*")]
+    compare("what sanitizers found", found, [], fail)
 
 
 def has_child() -> bool:
